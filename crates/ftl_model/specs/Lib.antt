@@ -1,1 +1,12 @@
+pub mod AttributeGrammar
+pub mod Boxes
+pub mod Folds
 pub mod Outcome
+pub mod Path
+pub mod Solves
+pub mod Stack
+pub mod StackNames
+pub mod Table
+pub mod Tree
+pub mod TreeOf
+pub mod Values

@@ -1,0 +1,2 @@
+pub use Rattle.ftl_model.specs.Values
+pub mod Kept

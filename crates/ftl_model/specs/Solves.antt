@@ -1,0 +1,67 @@
+-- The equations of a tree (Knuth 1968), and what it is for a table of values to solve them. It knows no pass, visit,
+-- order or thread.
+use Rattle.std.specs.Prelude.{◌≡◌, ℕ, List, ◌++◌}
+use Rattle.std.specs.Prelude.{Contains}
+use Rattle.ftl_model.specs.Tree.{Forest}
+use Rattle.ftl_model.specs.Path.{Path, top, down, Has, class_at, inputs_at, kids_at}
+use Rattle.ftl_model.specs.AttributeGrammar.{AttributeGrammar, Rule, Occurrence, own, kid, Sort, input, inherited, synthesized, local}
+
+-- one attribute of one node
+pub record Instance : Type 0 where
+  pub node : Path
+  pub attribute : ℕ
+
+abbrev pub instance_of : Path → ℕ → Instance
+instance_of p a = record { node = p; attribute = a }
+
+-- the attributes of a class: its interface's, then its own
+abbrev pub attributes_of : {V : Type 0} → AttributeGrammar V → ℕ → List ℕ
+attributes_of g class = g.shared (g.interface class) ++ g.private class
+
+-- an attribute that a node of the tree has
+abbrev pub IsInstance : {V : Type 0} → AttributeGrammar V → Forest → Instance → Type 0
+IsInstance g t i = Has t i.node × Contains (attributes_of g (class_at t i.node)) i.attribute
+
+-- the instance that a node sees as this occurrence
+abbrev pub seen_from : Path → Occurrence → Instance
+seen_from p (own a) = instance_of p a
+seen_from p (kid c k a) = instance_of (down c k p) a
+
+-- The node whose class has the rule: for an inherited attribute the parent, else the node itself.
+abbrev pub rule_node : Sort → Path → Path
+rule_node inherited (down c k p) = p
+rule_node inherited top = top
+rule_node input p = p
+rule_node synthesized p = p
+rule_node local p = p
+
+-- the kid that the rule is for; 0 where it is for the node itself
+abbrev pub rule_kid : Sort → Path → ℕ
+rule_kid inherited (down c k p) = k
+rule_kid inherited top = 0
+rule_kid input p = 0
+rule_kid synthesized p = 0
+rule_kid local p = 0
+
+-- the rule that defines an attribute of this sort at a node
+abbrev pub rule_of : {V : Type 0} → AttributeGrammar V → Forest → Sort → Path → ℕ → Rule V
+rule_of g t inherited (down c k p) a = g.child_rule (class_at t p) c a
+rule_of g t inherited top a = g.self_rule (class_at t top) a
+rule_of g t input p a = g.self_rule (class_at t p) a
+rule_of g t synthesized p a = g.self_rule (class_at t p) a
+rule_of g t local p a = g.self_rule (class_at t p) a
+
+-- the value that a rule gives at a node, for the kid at `place`, by the values of the table
+abbrev pub rule_value : {V : Type 0} → Forest → (Instance → V) → Rule V → Path → ℕ → V
+rule_value t s rule p place = rule.value (kids_at t p) place (λ o. s (seen_from p o))
+
+-- the right side of an instance's equation: the document's number for an input, else the value of its rule
+abbrev pub equation_value : {V : Type 0} → AttributeGrammar V → Forest → (Instance → V) → Sort → Path → ℕ → V
+equation_value g t s input p a = g.given (class_at t p) a (inputs_at t p)
+equation_value g t s inherited p a = rule_value t s (rule_of g t inherited p a) (rule_node inherited p) (rule_kid inherited p)
+equation_value g t s synthesized p a = rule_value t s (rule_of g t synthesized p a) p 0
+equation_value g t s local p a = rule_value t s (rule_of g t local p a) p 0
+
+-- each instance has the value that its equation gives
+abbrev pub Solves : {V : Type 0} → AttributeGrammar V → Forest → (Instance → V) → Type 0
+Solves g t s = (i : Instance) → IsInstance g t i → s i ≡ equation_value g t s (g.sort i.attribute) i.node i.attribute
