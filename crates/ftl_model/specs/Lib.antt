@@ -10,3 +10,4 @@ pub mod Table
 pub mod Tree
 pub mod TreeOf
 pub mod Values
+pub mod Worked

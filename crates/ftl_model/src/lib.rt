@@ -2,3 +2,7 @@
 //! gone, the table that solves a tree, and its printed boxes. Each stands in a file of `specs/`.
 //! There is no code here but laws, which are empty functions whose contracts state them.
 #![tactic(auto)]
+
+mod worked;
+
+pub use worked::{a_column_of_two_words, an_empty_column, overflowing_heights};
