@@ -1,0 +1,4 @@
+pub mod Each
+pub mod Kids
+pub mod Numbering
+pub mod Standing
