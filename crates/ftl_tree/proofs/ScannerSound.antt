@@ -27,13 +27,13 @@ abbrev Goes : List ℕ → Symbol → List ℕ → Type 0
 Goes bytes s rest = (ss : List Symbol) → Scans rest ss → Scans bytes (s ∷ ss)
 
 -- a symbol and the bytes behind it
-abbrev Found : Symbol → List ℕ → Option (Symbol × List ℕ)
+abbrev pub Found : Symbol → List ℕ → Option (Symbol × List ℕ)
 Found s rest = Some (s, rest)
 
 same_symbol : (s t : Symbol) (a b : List ℕ) → Found s a ≡ Found t b → s ≡ t
 same_symbol s t a b h = ap (λ (o : Option (Symbol × List ℕ)). (unwrap_or o (s, a)).0) h
 
-same_rest : (s t : Symbol) (a b : List ℕ) → Found s a ≡ Found t b → a ≡ b
+pub same_rest : (s t : Symbol) (a b : List ℕ) → Found s a ≡ Found t b → a ≡ b
 same_rest s t a b h = ap (λ (o : Option (Symbol × List ℕ)). (unwrap_or o (s, a)).1) h
 
 -- what goes in front of some rest goes as it was found
@@ -107,7 +107,7 @@ pub next_goes : (bytes after : List ℕ) (s : Symbol) (ss : List Symbol) → nex
 next_goes bytes after s ss h scans =
     scans-unblanked bytes (s ∷ ss) (symbol_goes (unblanked bytes) after s h ss scans)
 
-nothing_left : (bytes : List ℕ) → is_nothing bytes ≡ true → bytes ≡ []
+pub nothing_left : (bytes : List ℕ) → is_nothing bytes ≡ true → bytes ≡ []
 nothing_left [] h = refl
 nothing_left (b ∷ bytes) h = absurd (cc)
 

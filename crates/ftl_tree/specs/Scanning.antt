@@ -73,6 +73,10 @@ pub record Scanned : Type 0 where
   pub symbols : List Symbol
   pub whole : Bool
 
+-- nothing is left but white space
+abbrev pub no_symbols : Scanned
+no_symbols = record { symbols = []; whole = true }
+
 abbrev pub is_nothing : List ℕ → Bool
 is_nothing [] = true
 is_nothing (b ∷ bytes) = false

@@ -35,6 +35,11 @@ is_mark RightBracket = true
 is_mark Equals = true
 is_mark terminal = false
 
+-- a number in a document is at most 2147483647
+abbrev pub IsSmall : Symbol → Type 0
+IsSmall (Fixed t) = Unit {0}
+IsSmall (Number n) = n ≤ 2147483647
+
 -- the first byte, if there is one, fails the test: a run of bytes that pass ends here
 abbrev pub EndsRun : (ℕ → Bool) → List ℕ → Type 0
 EndsRun test [] = Unit {0}

@@ -2,6 +2,11 @@
 //! `ftl_model`, and the reader of stack documents.
 #![tactic(auto)]
 
+mod fault;
+mod reader;
+mod rows;
 mod symbol;
+mod symbols;
 
+pub use fault::StackFault;
 pub use symbol::{Symbol, Terminal};

@@ -2,7 +2,7 @@ ghost use Rattle.std.specs.Prelude.{◌≡◌, ℕ, ◌≤◌, length, None, Som
 ghost use Rattle.std.specs.List.{prefix_len, AllByRecursion};
 ghost use Rattle.std.specs.Char.{is_ascii_alphabetic, is_ascii_digit};
 ghost use Rattle.std.specs.Str.Parse.{digits_value};
-ghost use Rattle.ftl_tree.specs.Symbols.{is_blank, is_mark, text_of};
+ghost use Rattle.ftl_tree.specs.Symbols.{is_blank, is_mark, text_of, IsSmall};
 ghost use Rattle.ftl_tree.specs.Scanning.{number_of_digits, word_at, number_at, mark_at, next_symbol};
 
 /// A word or a mark of a stack document.
@@ -41,7 +41,7 @@ fn is_blank(byte: u8) -> bool
     byte == b' ' || byte == b'\n'
 }
 
-fn blanks(bytes: &[u8]) -> usize
+pub(crate) fn blanks(bytes: &[u8]) -> usize
     ensures run { result ≡ prefix_len is_blank bytes.now }
     ensures within { result ≤ length bytes.now }
 {
@@ -97,7 +97,8 @@ fn mark(byte: u8) -> Option<Terminal>
 
 fn number(digits: &[u8]) -> Option<u32>
     requires { AllByRecursion (λ d. is_ascii_digit d ≡ true) digits.now }
-    ensures { result ≡ number_of_digits digits.now }
+    ensures value { result ≡ number_of_digits digits.now }
+    ensures small { IfSome result (λ n. n ≤ 2147483647) }
 {
     if digits.len() > MAX_DIGITS {
         return None;
@@ -114,7 +115,8 @@ fn number(digits: &[u8]) -> Option<u32>
 }
 
 fn word_at(bytes: &[u8]) -> Option<(Symbol, &[u8])>
-    ensures { MatchOption result (word_at bytes.now ≡ None) (λ found. word_at bytes.now ≡ Some (found.0, found.1.now)) }
+    ensures small { IfSome result (λ found. IsSmall found.0) }
+    ensures symbol { MatchOption result (word_at bytes.now ≡ None) (λ found. word_at bytes.now ≡ Some (found.0, found.1.now)) }
 {
     let (text, rest) = bytes.split_at(letters(bytes));
     match word(text) {
@@ -124,7 +126,8 @@ fn word_at(bytes: &[u8]) -> Option<(Symbol, &[u8])>
 }
 
 fn number_at(bytes: &[u8]) -> Option<(Symbol, &[u8])>
-    ensures { MatchOption result (number_at bytes.now ≡ None) (λ found. number_at bytes.now ≡ Some (found.0, found.1.now)) }
+    ensures small { IfSome result (λ found. IsSmall found.0) }
+    ensures symbol { MatchOption result (number_at bytes.now ≡ None) (λ found. number_at bytes.now ≡ Some (found.0, found.1.now)) }
 {
     let (text, rest) = bytes.split_at(digits(bytes));
     match number(text) {
@@ -134,7 +137,8 @@ fn number_at(bytes: &[u8]) -> Option<(Symbol, &[u8])>
 }
 
 fn mark_at(first: u8, rest: &[u8]) -> Option<(Symbol, &[u8])>
-    ensures { MatchOption result (mark_at first rest.now ≡ None) (λ found. mark_at first rest.now ≡ Some (found.0, found.1.now)) }
+    ensures small { IfSome result (λ found. IsSmall found.0) }
+    ensures symbol { MatchOption result (mark_at first rest.now ≡ None) (λ found. mark_at first rest.now ≡ Some (found.0, found.1.now)) }
 {
     match mark(first) {
         Some(terminal) => Some((Symbol::Fixed(terminal), rest)),
@@ -144,7 +148,8 @@ fn mark_at(first: u8, rest: &[u8]) -> Option<(Symbol, &[u8])>
 
 /// The next symbol and the bytes behind it, if the bytes begin with one.
 pub(crate) fn next_symbol(bytes: &[u8]) -> Option<(Symbol, &[u8])>
-    ensures { MatchOption result (next_symbol bytes.now ≡ None) (λ found. next_symbol bytes.now ≡ Some (found.0, found.1.now)) }
+    ensures small { IfSome result (λ found. IsSmall found.0) }
+    ensures symbol { MatchOption result (next_symbol bytes.now ≡ None) (λ found. next_symbol bytes.now ≡ Some (found.0, found.1.now)) }
 {
     let (_, bytes) = bytes.split_at(blanks(bytes));
     match bytes {

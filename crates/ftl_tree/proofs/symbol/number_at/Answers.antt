@@ -10,10 +10,10 @@ number-requires c =
     (sym (c.split_at.ensures.front ∙ ap (λ n. take n c.args.bytes.now) c.digits.ensures.run))
     (passes-take is_ascii_digit c.args.bytes.now)
 
-pub returns-in-Some : goal.returns-in-Some
-returns-in-Some c =
-    number_at_some c.args.bytes.now c.split_at.result.0.now c.split_at.result.1.now c.digits.result c.in-Some.number c.digits.ensures.run c.split_at.ensures.front c.split_at.ensures.back c.in-Some.ensures
+pub returns-in-Some-clause-symbol : goal.returns-in-Some-clause-symbol
+returns-in-Some-clause-symbol c =
+    number_at_some c.args.bytes.now c.split_at.result.0.now c.split_at.result.1.now c.digits.result c.in-Some.number c.digits.ensures.run c.split_at.ensures.front c.split_at.ensures.back c.in-Some.ensures.value
 
-pub returns-in-None : goal.returns-in-None
-returns-in-None c =
-    number_at_none c.args.bytes.now c.split_at.result.0.now c.digits.result c.digits.ensures.run c.split_at.ensures.front c.in-None.ensures
+pub returns-in-None-clause-symbol : goal.returns-in-None-clause-symbol
+returns-in-None-clause-symbol c =
+    number_at_none c.args.bytes.now c.split_at.result.0.now c.digits.result c.digits.ensures.run c.split_at.ensures.front c.in-None.ensures.value
