@@ -1,8 +1,11 @@
 pub mod AttributeGrammar
 pub mod Boxes
 pub mod Folds
+pub mod ForestCode
 pub mod Outcome
 pub mod Path
+pub mod Shape
+pub mod ShapeLaws
 pub mod Solves
 pub mod Stack
 pub mod StackNames

@@ -1,5 +1,7 @@
 pub mod Digits
+pub mod FlatRows
 pub mod KidsSteps
+pub mod RowShapes
 pub mod Runs
 pub mod Scanner
 pub mod ScannerSound

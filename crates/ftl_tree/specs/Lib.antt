@@ -1,5 +1,7 @@
 pub use Rattle.ftl_model.specs.Tree
 pub use Rattle.ftl_model.specs.Path
+pub mod Flat
+pub mod FlatTree
 pub mod Reading
 pub mod Rows
 pub mod Scanning

@@ -36,3 +36,7 @@ closed number rows =
       nodes = slice_set rows.nodes number (record node { size = length rows.nodes - number });
       inputs = rows.inputs;
     }
+
+-- the rows of a whole tree
+abbrev pub rows_of : Forest → RowLists
+rows_of t = record { nodes = node_rows 0 0 (λ c. 0) t; inputs = input_rows t }

@@ -7,6 +7,8 @@ mod reader;
 mod rows;
 mod symbol;
 mod symbols;
+mod tree;
 
 pub use fault::StackFault;
+pub use rows::Node;
 pub use symbol::{Symbol, Terminal};
