@@ -1,4 +1,5 @@
 pub mod Each
+pub mod Fits
 pub mod Kids
 pub mod Numbering
 pub mod Standing

@@ -11,17 +11,8 @@ use Rattle.ftl_model.specs.ShapeLaws.{forest_of-shapes}
 use Rattle.ftl_model.specs.Stack.{stack}
 use Rattle.ftl_model.proofs.Numbering.{Left, left_all, left_next, left_below, at-left, number-left, length-preorder}
 use Rattle.ftl_tree.specs.declared.rows.Node.{Node}
-use Rattle.ftl_tree.specs.Rows.{RowLists, node_rows, input_rows, rows_of}
+use Rattle.ftl_tree.specs.Rows.{RowLists, node_rows, input_rows, rows_of, row_at, parent_number}
 use Rattle.ftl_tree.specs.Flat.{shapes_of, tree_of, input_width, AreRows}
-
-abbrev pub parent_number : Forest → Path → ℕ
-parent_number t top = 0
-parent_number t (down c k p) = number_of t p
-
--- the row of a node
-abbrev pub row_at : Forest → Path → Node
-row_at t p =
-    record { class = class_at t p; child = child_at p; kid = kid_at p; parent = parent_number t p; size = size_at t p }
 
 pub node_rows-left : (t : Forest) (p : Path) (seen : ℕ → ℕ) (f : Forest) (passed : ℕ) → Left t p seen f passed → node_rows (number_of t p) (suc (number_of t p + passed)) seen f ≡ map (row_at t) (nodes_below p seen f)
 node_rows-left t p seen none passed h = refl

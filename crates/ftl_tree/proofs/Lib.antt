@@ -1,3 +1,4 @@
+pub mod Access
 pub mod Digits
 pub mod FlatRows
 pub mod KidsSteps

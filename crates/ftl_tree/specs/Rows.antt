@@ -1,7 +1,7 @@
 -- The rows of a tree: a row for each node, in preorder, and the inputs of all nodes.
 use Rattle.std.specs.Prelude.{ℕ, suc, ◌+◌, ◌-◌, List, [], ◌∷◌, ◌++◌, ℤ, length, slice_set, slice_index_or}
 use Rattle.ftl_model.specs.Tree.{Forest, none, tree, size}
-use Rattle.ftl_model.specs.Path.{one_more}
+use Rattle.ftl_model.specs.Path.{Path, top, down, one_more, class_at, child_at, kid_at, size_at, number_of}
 use Rattle.ftl_model.specs.Stack.{only_child}
 use Rattle.ftl_tree.specs.declared.rows.Node.{Node}
 
@@ -40,3 +40,13 @@ closed number rows =
 -- the rows of a whole tree
 abbrev pub rows_of : Forest → RowLists
 rows_of t = record { nodes = node_rows 0 0 (λ c. 0) t; inputs = input_rows t }
+
+-- the number of a node's parent; 0 for the root
+abbrev pub parent_number : Forest → Path → ℕ
+parent_number t top = 0
+parent_number t (down c k p) = number_of t p
+
+-- the row of a node
+abbrev pub row_at : Forest → Path → Node
+row_at t p =
+    record { class = class_at t p; child = child_at p; kid = kid_at p; parent = parent_number t p; size = size_at t p }

@@ -1,7 +1,10 @@
-ghost use Rattle.std.specs.Prelude.{◌≡◌, ℕ, ◌+◌, ◌<◌, ◌≤◌, [], length, sum_by, IfOk, MatchOption};
+ghost use Rattle.std.specs.Prelude.{◌≡◌, ◌<◌, ◌≤◌, length, sum_by, IfOk};
 ghost use Rattle.ftl_model.specs.Tree.{size};
 ghost use Rattle.ftl_model.specs.Path.{node_at, class_at, child_at, kid_at, kids_at, size_at, number_of, parent_of, down};
-ghost use Rattle.ftl_tree.specs.Rows.{RowLists};
+ghost use Rattle.std.specs.Option.{option_map};
+ghost use Rattle.ftl_model.specs.TreeOf.{IsTreeOf};
+ghost use Rattle.ftl_model.specs.Stack.{stack};
+ghost use Rattle.ftl_tree.specs.Rows.{RowLists, row_at};
 ghost use Rattle.ftl_tree.specs.Flat.{AreRows, tree_of, offsets_from, attribute_width, input_width};
 
 use crate::rows::{Node, Rows};
@@ -102,5 +105,73 @@ impl Tree {
             offsets,
             instance_count,
         })
+    }
+}
+
+/// Where a node stands: in which child of its parent, and as which of that child's kids.
+#[derive(Clone, Copy, Debug, PartialEq, Eq)]
+pub struct Place {
+    pub child: u32,
+    pub kid: u32,
+}
+
+impl Tree {
+    /// The row of a node.
+    fn row(&self, node: u32) -> Node
+        requires { node < size self.now }
+        ensures row { result ≡ row_at self.now (node_at self.now node) }
+        ensures is_tree { IsTreeOf stack self.now }
+    {
+        self.nodes[node as usize]
+    }
+
+    /// How many nodes there are.
+    pub fn node_count(&self) -> u32
+        ensures count { result ≡ size self.now }
+        ensures bound { result ≤ 1048576 }
+        ensures is_tree { IsTreeOf stack self.now }
+    {
+        self.nodes.len() as u32
+    }
+
+    /// The class of a node.
+    pub fn class(&self, node: u32) -> u32
+        requires { node < size self.now }
+        ensures { result ≡ class_at self.now (node_at self.now node) }
+    {
+        self.row(node).class
+    }
+
+    /// The number of a node's parent; none for the root.
+    pub fn parent(&self, node: u32) -> Option<u32>
+        requires { node < size self.now }
+        ensures { result ≡ option_map (number_of self.now) (parent_of (node_at self.now node)) }
+    {
+        if node == 0 {
+            return None;
+        }
+        Some(self.row(node).parent)
+    }
+
+    /// Where a node other than the root stands.
+    pub fn place(&self, node: u32) -> Place
+        requires not_root { 0 < node }
+        requires node { node < size self.now }
+        ensures child { result.child ≡ child_at (node_at self.now node) }
+        ensures kid { result.kid ≡ kid_at (node_at self.now node) }
+    {
+        let row = self.row(node);
+        Place {
+            child: row.child,
+            kid: row.kid,
+        }
+    }
+
+    /// How many nodes the tree at a node has, the node itself counted.
+    pub fn subtree_size(&self, node: u32) -> u32
+        requires { node < size self.now }
+        ensures { result ≡ size_at self.now (node_at self.now node) }
+    {
+        self.row(node).size
     }
 }

@@ -1,0 +1,18 @@
+use Rattle.std.proofs.Common.{arith, ◌∙◌}
+use Rattle.ftl_tree.specs.FlatTree.{rows_inside}
+use Rattle.ftl_tree.proofs.Access.{kept, length-nodes, node_row}
+use Rattle.ftl_tree.proofs.tree.Tree.row.Goals as goal
+
+pub index-requires : goal.index-requires
+index-requires c =
+    let h = kept (rows_inside c.self.inside) c.args.self.now c.self.invariant.rows c.self.view_is in
+    omega (arith, length-nodes (rows_inside c.self.inside) c.args.self.now h, c.requires)
+
+pub returns-clause-row : goal.returns-clause-row
+returns-clause-row c =
+    let h = kept (rows_inside c.self.inside) c.args.self.now c.self.invariant.rows c.self.view_is in
+    c.index.ensures ∙ node_row (rows_inside c.self.inside) c.args.self.now c.args.node c.index.result.now h c.requires
+
+pub returns-clause-is_tree : goal.returns-clause-is_tree
+returns-clause-is_tree c =
+    (kept (rows_inside c.self.inside) c.args.self.now c.self.invariant.rows c.self.view_is).is_tree
