@@ -101,8 +101,10 @@ has-nodes_below t p seen (tree k d i b s) passed h =
     (subst IsTree (sym (at-left t p seen passed k d i b s h)) tt, has-nodes_below t q (λ c. 0) b 0 (left_below t p seen passed k d i b s h))
     (has-nodes_below t p (one_more d seen) s (passed + suc (size b)) (left_next t p seen passed k d i b s h))
 
+-- all nodes in preorder are nodes of the tree
+pub has-preorder : (t : Forest) → IsTree t → AllByRecursion (Has t) (preorder t)
+has-preorder t is = (is, has-nodes_below t top (λ c. 0) (below_of t) 0 (left_all t top))
+
 -- the node of a number is a node of the tree
 pub has-node_at : (t : Forest) (n : ℕ) → IsTree t → n < suc (size (below_of t)) → Has t (node_at t n)
-has-node_at t n is h =
-    each_at (Has t) (preorder t) n top (is, has-nodes_below t top (λ c. 0) (below_of t) 0 (left_all t top))
-    (omega (arith, length-preorder t))
+has-node_at t n is h = each_at (Has t) (preorder t) n top (has-preorder t is) (omega (arith, length-preorder t))

@@ -2,7 +2,7 @@
 use Rattle.std.proofs.Common.{◌≡◌, ℕ, zero, suc, ◌+◌, ◌-◌, ◌<◌, ◌≤◌, List, [], ◌∷◌, ◌++◌, ℤ, length, get_or, take, map, Option, Some, None, refl, sym, ap, ◌∙◌, subst, arith}
 use Rattle.std.specs.Option.{option_map}
 use Rattle.std.proofs.lemmas.List.{get_or-map, length-map}
-use Rattle.ftl_model.specs.Tree.{Forest, none, tree, below_of, size}
+use Rattle.ftl_model.specs.Tree.{Forest, none, tree, IsTree, below_of, size}
 use Rattle.ftl_model.specs.TreeOf.{IsTreeOf}
 use Rattle.ftl_model.specs.Path.{Path, top, down, number_of, parent_of, preorder, node_at}
 use Rattle.ftl_model.specs.Stack.{stack}
@@ -21,6 +21,10 @@ pub record Kept (lists : RowLists) (t : Forest) : Type 0 where
 pub kept : (lists : RowLists) (t : Forest) → AreRows lists → tree_of lists ≡ t → Kept lists t
 kept lists t h is =
     subst (λ (f : Forest). Kept lists f) is (record { is_tree = h.is_tree; rows = h.rows; large = h.large })
+
+pub is_tree : (t : Forest) → IsTreeOf stack t → IsTree t
+is_tree none h = h
+is_tree (tree k d i b s) h = tt
 
 pub size-one : (t : Forest) → IsTreeOf stack t → size t ≡ suc (size (below_of t))
 size-one t h = let one = one_tree t h in ap (λ f. size f) one.is ∙ (omega arith) ∙ ap (λ f. suc (size (below_of f))) (sym one.is)

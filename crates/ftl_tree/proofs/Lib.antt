@@ -1,6 +1,7 @@
 pub mod Access
 pub mod Digits
 pub mod FlatRows
+pub mod Inputs
 pub mod KidsSteps
 pub mod RowShapes
 pub mod Runs

@@ -1,8 +1,9 @@
 -- A tree of the stack grammar in flat rows: which tree the rows are, and what is kept beside them.
-use Rattle.std.specs.Prelude.{◌≡◌, ℕ, ◌+◌, ◌-◌, ◌≤◌, List, [], ◌∷◌, length, take, drop, ℤ, sum_by}
+use Rattle.std.specs.Prelude.{◌≡◌, ℕ, ◌+◌, ◌-◌, ◌≤◌, List, [], ◌∷◌, length, take, drop, ℤ, sum_by, ◌⊎◌}
 use Rattle.ftl_model.specs.Tree.{Forest, size}
 use Rattle.ftl_model.specs.TreeOf.{IsTreeOf}
-use Rattle.ftl_model.specs.Stack.{stack}
+use Rattle.ftl_model.specs.Path.{Path, class_at}
+use Rattle.ftl_model.specs.Stack.{stack, word, word_iw, word_ih}
 use Rattle.ftl_model.specs.Solves.{attributes_of}
 use Rattle.ftl_model.specs.Shape.{Shape, shape, forest_of}
 use Rattle.ftl_tree.specs.declared.rows.Node.{Node}
@@ -39,3 +40,7 @@ offsets_from instance input [] = []
 offsets_from instance input (node ∷ nodes) =
     record { instance = instance; input = input }
     ∷ offsets_from (instance + attribute_width node.class) (input + input_width node.class) nodes
+
+-- an input of a node: in the stack grammar iw or ih of a word
+abbrev pub IsInputAt : Forest → Path → ℕ → Type 0
+IsInputAt t p a = (class_at t p ≡ word) × ((a ≡ word_iw) ⊎ (a ≡ word_ih))

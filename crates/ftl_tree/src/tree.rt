@@ -1,11 +1,12 @@
 ghost use Rattle.std.specs.Prelude.{◌≡◌, ◌<◌, ◌≤◌, length, sum_by, IfOk};
 ghost use Rattle.ftl_model.specs.Tree.{size};
-ghost use Rattle.ftl_model.specs.Path.{node_at, class_at, child_at, kid_at, kids_at, size_at, number_of, parent_of, down};
+ghost use Rattle.ftl_model.specs.Path.{node_at, class_at, child_at, kid_at, kids_at, size_at, number_of, parent_of, inputs_at};
 ghost use Rattle.std.specs.Option.{option_map};
 ghost use Rattle.ftl_model.specs.TreeOf.{IsTreeOf};
 ghost use Rattle.ftl_model.specs.Stack.{stack};
+ghost use Rattle.ftl_model.specs.Values.{number};
 ghost use Rattle.ftl_tree.specs.Rows.{RowLists, row_at};
-ghost use Rattle.ftl_tree.specs.Flat.{AreRows, tree_of, offsets_from, attribute_width, input_width};
+ghost use Rattle.ftl_tree.specs.Flat.{AreRows, IsInputAt, tree_of, offsets_from, attribute_width, input_width};
 
 use crate::rows::{Node, Rows};
 use std::alloc::{AllocError, Global};
@@ -41,6 +42,9 @@ impl Model for Tree {
 
     ghost invariant = { IsFlat };
 }
+
+/// The number of the first input attribute: iw of a word.
+const FIRST_INPUT: u32 = 5;
 
 /// How many attributes a node of this class has.
 fn attribute_width(class: u32) -> u32
@@ -173,5 +177,18 @@ impl Tree {
         ensures { result ≡ size_at self.now (node_at self.now node) }
     {
         self.row(node).size
+    }
+}
+
+impl Tree {
+    /// The number of an input attribute of a node, in pixels.
+    pub fn input(&self, node: u32, attr: u32) -> i64
+        requires node { node < size self.now }
+        requires attr { IsInputAt self.now (node_at self.now node) attr }
+        ensures { stack.given (class_at self.now (node_at self.now node)) attr (inputs_at self.now (node_at self.now node)) ≡ number result }
+    {
+        let offsets = self.offsets[node as usize];
+        let place = offsets.input as usize + (attr - FIRST_INPUT) as usize;
+        i64::from(self.inputs[place])
     }
 }
