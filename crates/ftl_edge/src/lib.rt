@@ -1,0 +1,14 @@
+//! The outside of the program: where bytes come from and where they go. A source or a sink may
+//! tell its bytes, as those in memory do, and then the clauses say which bytes were read and
+//! written. It counts its own faults, and no call here answers a fault unless that count rose.
+//! The words of the contracts stand in `specs/`: `Counts` for what rises, `MemSource` and
+//! `MemSink` for what those in memory do, call by call.
+#![tactic(auto)]
+
+mod fault;
+mod sink;
+mod source;
+
+pub use fault::{Failed, ReadAllFault, WriteFault};
+pub use sink::{Sink, write_whole};
+pub use source::{Source, read_all};
