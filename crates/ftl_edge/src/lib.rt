@@ -6,9 +6,13 @@
 #![tactic(auto)]
 
 mod fault;
+mod mem_sink;
+mod mem_source;
 mod sink;
 mod source;
 
 pub use fault::{Failed, ReadAllFault, WriteFault};
+pub use mem_sink::MemSink;
+pub use mem_source::MemSource;
 pub use sink::{Sink, write_whole};
 pub use source::{Source, read_all};
