@@ -17,6 +17,7 @@ pub ReadConsumes-copied : (left left' room room' : List ℕ) (chunk n : ℕ) →
 ReadConsumes-copied left left' room room' chunk n positive count rest filled =
     let long : length (take n left) ≡ n = length-take-le n left (omega arith) in
     let front : take n room' ≡ take n left = ap (take n) filled ∙ take_at (take n left) (drop n room) n long in
-    let same : length room' ≡ length room = omega (arith, ap length filled, length-append (take n left) (drop n room), length-drop n room, long) in
-    (sym (ap (λ l. l ++ left') front ∙ ap (λ l. take n left ++ l) rest ∙ take-append-drop n left),
-    λ none some. rest ∙ drop_of_length-le left (omega arith))
+    let same : length room' ≡ length room = omega (arith, ap length filled, length-append (take n left) (drop n room), length-drop n room, long) in (
+      sym (ap (λ l. l ++ left') front ∙ ap (λ l. take n left ++ l) rest ∙ take-append-drop n left),
+      λ none some. rest ∙ drop_of_length-le left (omega arith),
+    )

@@ -28,17 +28,19 @@ pub HasAppended-more : (bytes rest : List ℕ) (a b c : Option (List ℕ)) (n : 
 HasAppended-more bytes rest a b c n before more = record {
   front = before.front ++ take n rest;
   whole =
-    before.whole ∙ ap (λ l. before.front ++ l) (sym (take-append-drop n rest)) ∙ sym (append_assoc before.front (take n rest) (drop n rest))
-    ∙ ap (λ l. (before.front ++ take n rest) ++ l) (sym (between_to_end rest n (length rest) (le_refl _)));
+      before.whole ∙ ap (λ l. before.front ++ l) (sym (take-append-drop n rest)) ∙ sym (append_assoc before.front (take n rest) (drop n rest))
+      ∙ ap (λ l. (before.front ++ take n rest) ++ l) (sym (between_to_end rest n (length rest) (le_refl _)));
   appended = Appends-trans a b c before.front (take n rest) before.appended more;
 }
 
 -- then a call that failed
 pub HasAppended-failed : (bytes rest : List ℕ) (a b c : Option (List ℕ)) → HasAppended bytes rest a b → Keeps b c → AppendsFront a c bytes
 HasAppended-failed bytes rest a b c before kept =
-    let front = before.front in
-    (length front, omega (arith, ap length before.whole, length-append front rest),
-    subst (Appends a c) (sym (ap (take (length front)) before.whole ∙ take-append_seam front rest)) (Appends-kept a b c front before.appended kept))
+    let front = before.front in (
+      length front,
+      omega (arith, ap length before.whole, length-append front rest),
+      subst (Appends a c) (sym (ap (take (length front)) before.whole ∙ take-append_seam front rest)) (Appends-kept a b c front before.appended kept),
+    )
 
 -- then a call that took nothing
 pub HasAppended-nothing : (bytes rest : List ℕ) (a b c : Option (List ℕ)) (n : ℕ) → HasAppended bytes rest a b → Appends b c (take n rest) → n ≡ 0

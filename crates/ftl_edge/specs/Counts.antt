@@ -13,3 +13,9 @@ Rose before now = raised before 1 ≤ now
 abbrev pub RisesByOk : {E : Type 0} → ℕ → ℕ → Result ℕ E → Type 0
 RisesByOk before now (Ok n) = now ≡ raised before n
 RisesByOk before now (Err _) = now ≡ before
+
+-- the counts of a source that tells nothing else
+pub record SourceCounts : Type 0 where
+  pub calls : ℕ
+  pub taken : ℕ
+  pub fault_count : ℕ

@@ -10,9 +10,14 @@ mod mem_sink;
 mod mem_source;
 mod sink;
 mod source;
+mod standard;
 
 pub use fault::{Failed, ReadAllFault, WriteFault};
 pub use mem_sink::MemSink;
 pub use mem_source::MemSource;
 pub use sink::{Sink, write_whole};
 pub use source::{Source, read_all};
+pub use standard::{StdSink, StdSource};
+
+#[cfg(test)]
+mod tests;

@@ -30,11 +30,11 @@ impl Model for MemSink {
     ghost Value = { SinkState };
 
     ghost view = { λ s. record {
-        written = s.written.items;
-        chunk = s.chunk;
-        failing = s.failing.items;
-        calls = s.calls;
-        fault_count = s.faults
+      written = s.written.items;
+      chunk = s.chunk;
+      failing = s.failing.items;
+      calls = s.calls;
+      fault_count = s.faults;
     } };
 
     ghost invariant = { λ s. vec_len s.written ≤ 2 ^ 20 × 2 ^ 20 ≤ vec_capacity s.written
@@ -47,11 +47,11 @@ impl MemSink {
     pub fn new(alloc: Global, chunk: usize, failing: Vec<u64>) -> Result<MemSink, AllocError>
         requires { 0 < chunk }
         ensures { IfOk result (λ sink. sink ≡ record {
-            written = [];
-            chunk = chunk;
-            failing = failing.items;
-            calls = 0;
-            fault_count = 0
+          written = [];
+          chunk = chunk;
+          failing = failing.items;
+          calls = 0;
+          fault_count = 0;
         }) }
     {
         Ok(MemSink {

@@ -28,12 +28,12 @@ impl Model for MemSource {
     ghost Value = { SourceState };
 
     ghost view = { λ s. record {
-        left = drop s.start s.bytes.items;
-        chunk = s.chunk;
-        failing = s.failing.items;
-        calls = s.calls;
-        taken = s.taken;
-        fault_count = s.faults
+      left = drop s.start s.bytes.items;
+      chunk = s.chunk;
+      failing = s.failing.items;
+      calls = s.calls;
+      taken = s.taken;
+      fault_count = s.faults;
     } };
 
     ghost invariant = { λ s. s.start ≤ vec_len s.bytes × 0 < s.chunk };
@@ -45,12 +45,12 @@ impl MemSource {
     pub fn new(bytes: Vec<u8>, chunk: usize, failing: Vec<u64>) -> MemSource
         requires { 0 < chunk }
         ensures { result ≡ record {
-            left = bytes.items;
-            chunk = chunk;
-            failing = failing.items;
-            calls = 0;
-            taken = 0;
-            fault_count = 0
+          left = bytes.items;
+          chunk = chunk;
+          failing = failing.items;
+          calls = 0;
+          taken = 0;
+          fault_count = 0;
         } }
     {
         MemSource {

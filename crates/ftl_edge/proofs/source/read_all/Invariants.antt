@@ -12,7 +12,7 @@ invariant-loop-filled g l = record {
   no_more : g.S.Source.taken l.source ≤ g.S.Source.taken l.initial.source + l.filled;
   kept : g.S.Source.fault_count l.initial.source ≤ g.S.Source.fault_count l.source;
   endless : g.S.Source.never_ends l.initial.source → g.S.Source.never_ends l.source;
-  turns : g.S.Source.calls l.source ≤ g.S.Source.calls l.initial.source + l.filled
+  turns : g.S.Source.calls l.source ≤ g.S.Source.calls l.initial.source + l.filled;
 }
 
 abbrev pub decreases-loop-filled : goal.decreases-loop-filled
