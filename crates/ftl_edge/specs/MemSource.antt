@@ -1,5 +1,5 @@
 -- A source in memory, and what its next call does.
-use Rattle.std.specs.Prelude.{ℕ, ◌≡◌, List, length, drop, take, ◌++◌, min, Result, Ok, Err}
+use Rattle.std.specs.Prelude.{ℕ, List, length, drop, take, ◌++◌, min, Result, Ok, Err}
 use Rattle.ftl_edge.specs.Counts.{raised}
 
 -- the bytes that are left, how many a call gives at most, the numbers of the calls that fail, and the counts

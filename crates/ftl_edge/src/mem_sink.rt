@@ -9,7 +9,7 @@ use crate::{Failed, Sink};
 use std::alloc::{AllocError, Global};
 use std::marker::Model;
 
-/// How many bytes a sink in memory has room for.
+// How many bytes a sink in memory has room for.
 const ROOM: usize = 1 << 20;
 
 /// A sink that keeps its bytes in memory, with room for 1 MiB. Contracts see its state: what was

@@ -47,8 +47,8 @@ pub trait Source {
         ensures { result ≡ fault_count self.now };
 }
 
-/// How many bytes are asked for at once.
-const ROOM: usize = 1 << 16;
+// How many bytes a call is asked for at most.
+const READ_SIZE: usize = 1 << 16;
 
 /// Reads to the end, in as many calls as the source needs, and gives up as soon as more bytes than
 /// the limit were taken.
@@ -122,7 +122,7 @@ fn read_more<S: Source>(
     ensures taken { RisesByOk (S.taken source.old) (S.taken source.new) result }
     ensures called { S.calls source.new ≤ S.calls source.old + 1 }
 {
-    let end = filled + 1 + (limit - filled).min(ROOM - 1);
+    let end = filled + 1 + (limit - filled).min(READ_SIZE - 1);
     if bytes.len() < end {
         bytes.resize(end, 0)?;
     }
