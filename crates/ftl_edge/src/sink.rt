@@ -7,6 +7,8 @@ ghost use Rattle.ftl_edge.specs.Sink.{AppendsFront};
 
 use crate::{Failed, WriteFault};
 
+/// Where bytes go, some at a time. Contracts see what was written, where the sink tells it, and its
+/// count of faults.
 pub trait Sink {
     /// The bytes that were written, where the sink tells them.
     ghost written: { Self → Option (List ℕ) };
@@ -26,6 +28,7 @@ pub trait Sink {
         ensures none_taken { IfOk result (λ n. n ≡ 0 → 0 < length piece.now
             → Rose (fault_count self.old) (fault_count self.new)) };
 
+    /// How often the sink has failed.
     fn faults(&self) -> u64
         ensures { result ≡ fault_count self.now };
 }

@@ -8,6 +8,8 @@ ghost use Rattle.ftl_edge.specs.Source.{DropsFront};
 use crate::{Failed, ReadAllFault};
 use std::alloc::Global;
 
+/// Where bytes come from, some at a time. Contracts see what is left, where the source tells it,
+/// and its counts.
 pub trait Source {
     /// The bytes that are left, where the source tells them.
     ghost remaining: { Self → Option (List ℕ) };
@@ -43,6 +45,7 @@ pub trait Source {
         ensures endless { never_ends self.old → never_ends self.new }
         ensures no_end { never_ends self.old → IfOk result (λ n. n ≡ 0 → length room.old ≡ 0) };
 
+    /// How often the source has failed.
     fn faults(&self) -> u64
         ensures { result ≡ fault_count self.now };
 }
@@ -126,33 +129,6 @@ fn read_more<S: Source>(
     if bytes.len() < end {
         bytes.resize(end, 0)?;
     }
-    read_between(source, bytes.as_mut_slice(), filled, end)
-}
-
-// One call of the source, whose room is the bytes from `start` to `end`.
-fn read_between<S: Source>(
-    source: &mut S,
-    bytes: &mut [u8],
-    start: usize,
-    end: usize,
-) -> Result<usize, ReadAllFault>
-    requires order { start < end }
-    requires bounds { end ≤ length bytes.old }
-
-    ensures front { take start bytes.new ≡ take start bytes.old }
-    ensures fits { IfOk result (λ n. start + n ≤ end) }
-
-    ensures ok { IfOk result (λ n. Consumes (S.remaining source.old) (S.remaining source.new)
-        (take n (drop start bytes.new))) }
-    ensures end { IfOk result (λ n. n ≡ 0 → IsAtEnd (S.remaining source.new)) }
-    ensures endless { S.never_ends source.old → S.never_ends source.new }
-    ensures no_end { S.never_ends source.old → IfOk result (λ n. 0 < n) }
-    ensures err { OnErr result (Keeps (S.remaining source.old) (S.remaining source.new)) }
-    ensures only_fault { IfErr result (λ e. e ≡ ReadAllFault.ReadFault) }
-    ensures fault { OnErr result (Rose (S.fault_count source.old) (S.fault_count source.new)) }
-    ensures kept { S.fault_count source.old ≤ S.fault_count source.new }
-    ensures taken { RisesByOk (S.taken source.old) (S.taken source.new) result }
-    ensures called { S.calls source.new ≡ raised (S.calls source.old) 1 }
-{
-    Ok(source.read_some(&mut bytes[start..end])?)
+    let room = &mut bytes.as_mut_slice()[filled..end];
+    Ok(source.read_some(room)?)
 }
