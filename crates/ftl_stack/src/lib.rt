@@ -1,0 +1,7 @@
+//! Lays out stack documents on one thread: the values of every box, and the printed boxes. What
+//! they are is said by `ftl_model`: the equations of the stack grammar, and the text of a table.
+#![tactic(auto)]
+
+mod area;
+
+pub use area::Area;
