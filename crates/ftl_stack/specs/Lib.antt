@@ -1,1 +1,2 @@
 pub mod TableOf
+pub mod Text

@@ -3,5 +3,7 @@
 #![tactic(auto)]
 
 mod area;
+mod print;
 
 pub use area::Area;
+pub use print::{print_boxes, shows_overflow};
