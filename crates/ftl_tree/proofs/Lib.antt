@@ -5,3 +5,5 @@ pub mod Scanner
 pub mod ScannerSound
 pub mod ScannerSteps
 pub mod ScanningLemmas
+pub mod SpelledRows
+pub mod SpelledSteps
