@@ -5,5 +5,8 @@ pub mod Scanner
 pub mod ScannerSound
 pub mod ScannerSteps
 pub mod ScanningLemmas
+pub mod SpelledBoxes
+pub mod SpelledComplete
 pub mod SpelledRows
+pub mod SpelledSound
 pub mod SpelledSteps

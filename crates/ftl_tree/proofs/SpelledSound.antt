@@ -1,0 +1,107 @@
+-- What is read is spelled.
+use Rattle.std.proofs.Common.{◌≡◌, ℕ, zero, suc, ◌+◌, ◌-◌, ◌<◌, ◌≤◌, max, Bool, true, false, cond, eqb, List, [], ◌∷◌, ◌++◌, ℤ, pos, length, Option, Some, None, refl, sym, ap, ◌∙◌, subst, arith, append_assoc}
+use Rattle.std.proofs.lemmas.List.{length_push, append-nil}
+use Rattle.ftl_model.specs.Tree.{Forest, none, tree, size, depth}
+use Rattle.ftl_model.specs.Path.{one_more}
+use Rattle.ftl_model.specs.Stack.{sheet, word, column, only_child}
+use Rattle.ftl_tree.specs.declared.symbol.Terminal.{Terminal}
+use Rattle.ftl_tree.specs.declared.symbol.Terminal.TheVariants.{Sheet, Column, Word, Body, Kids, Iw, Ih, LeftBrace, RightBrace, LeftBracket, RightBracket, Equals}
+use Rattle.ftl_tree.specs.declared.symbol.Symbol.{Symbol}
+use Rattle.ftl_tree.specs.declared.symbol.Symbol.TheVariants.{Fixed, Number}
+use Rattle.ftl_tree.specs.Scanning.{Scanned}
+use Rattle.ftl_tree.specs.Rows.{RowLists, closed}
+use Rattle.ftl_tree.specs.Spelling.{SpellsBoxes, no_box, word_box, column_box, SpellsDocument, sheet_over, sheet_opening, sheet_closing, column_opening, column_closing}
+use Rattle.ftl_tree.specs.Reading.{State, state, behind, ◌>>=◌, order_of, is_closing, expect, push_node, close_node, kids_in, kids_within, word_rest, column_rest, box_rows, first_box, sheet_rows}
+use Rattle.ftl_tree.proofs.SpelledRows.{no_rows, rows_of, with_node, with_tree, with_trees, with_trees-tree, with_trees-none, with_trees-one, with_tree-all, closed-with_trees, length-with_tree}
+use Rattle.ftl_tree.proofs.SpelledSteps.{left, Takes, Both, both, same_some, same_order, closing_is, expect-some, push_node-some}
+use Rattle.ftl_tree.proofs.SpelledBoxes.{WordRead, word_rest-some, ColumnRead, column_rest-some, word_body, column_body}
+
+-- one box was read behind its first symbol
+pub record BoxIs (d up kid : ℕ) (symbol : Symbol) (old new : State) : Type 0 where
+  pub class : ℕ
+  pub inputs : List ℤ
+  pub below : Forest
+  pub front : List Symbol
+  pub spells : (later : List Symbol) (beside : Forest) → SpellsBoxes later beside → SpellsBoxes (symbol ∷ (front ++ later)) (tree class only_child inputs below beside)
+  pub takes : Takes front (with_tree up kid class inputs below old.rows) old new
+  pub deep : depth below < d
+  pub room : length old.rows.nodes + suc (size below) ≤ 1048576
+
+-- boxes side by side were read, and the closing bracket behind them
+pub record BoxesAre (d up : ℕ) (seen : ℕ → ℕ) (old new : State) : Type 0 where
+  pub boxes : Forest
+  pub front : List Symbol
+  pub spells : SpellsBoxes front boxes
+  pub takes : Takes (front ++ Fixed RightBracket ∷ []) (with_trees up seen boxes old.rows) old new
+  pub deep : depth boxes ≤ d
+  pub room : length old.rows.nodes + size boxes ≤ 1048576
+
+-- each box that is read is a box
+abbrev ReadsBoxes : (d up : ℕ) → (ℕ → Symbol → State → Option State) → Type 0
+ReadsBoxes d up box =
+    (kid : ℕ) (symbol : Symbol) (s new : State) → length s.rows.nodes ≤ 1048576 → box kid symbol s ≡ Some new → BoxIs d up kid symbol s new
+
+module _ (d up : ℕ) (box : ℕ → Symbol → State → Option State) (reads : ReadsBoxes d up box) where
+
+  -- the closing bracket comes next
+  none_left : (seen : ℕ → ℕ) (symbol : Symbol) (rest : List Symbol) (s new : State) → length s.rows.nodes ≤ 1048576 → s.text.symbols ≡ symbol ∷ rest → is_closing symbol ≡ true → Some (behind rest s) ≡ Some new → BoxesAre d up seen s new
+  none_left seen symbol rest s new room next closing h =
+      let same : behind rest s ≡ new = same_some (behind rest s) new h in
+      record {
+        boxes = none;
+        front = [];
+        spells = no_box;
+        takes = record {
+          split = next ∙ ap (λ c. c ∷ rest) (closing_is symbol closing) ∙ ap (λ (n : State). Fixed RightBracket ∷ n.text.symbols) same;
+          whole = ap (λ (n : State). n.text.whole) (sym same);
+          rows = ap (λ (n : State). n.rows) (sym same) ∙ sym (with_trees-none up seen s.rows);
+        };
+        deep = omega arith;
+        room = omega (arith, room);
+      }
+
+  -- a box comes next, and others behind it
+  one_before : (kid : ℕ) (seen : ℕ → ℕ) (symbol : Symbol) (rest : List Symbol) (s between new : State) → seen 0 ≡ kid → s.text.symbols ≡ symbol ∷ rest → BoxIs d up kid symbol (behind rest s) between → BoxesAre d up (one_more 0 seen) between new → BoxesAre d up seen s new
+  one_before kid seen symbol rest s between new first next b k =
+      let long = length-with_tree up kid b.class b.inputs b.below s.rows in
+      let rows = ap (λ (r : RowLists). length r.nodes) b.takes.rows in
+      let deep = b.deep in
+      let deep' = k.deep in
+      let room = k.room in
+      record {
+        boxes = tree b.class only_child b.inputs b.below k.boxes;
+        front = symbol ∷ (b.front ++ k.front);
+        spells = b.spells k.front k.boxes k.spells;
+        takes = record {
+          split =
+            next ∙ ap (λ x. symbol ∷ x)
+              (b.takes.split ∙ ap (λ x. b.front ++ x) k.takes.split
+              ∙ sym (append_assoc b.front (k.front ++ Fixed RightBracket ∷ []) new.text.symbols)
+              ∙ ap (λ x. x ++ new.text.symbols) (sym (append_assoc b.front k.front (Fixed RightBracket ∷ []))));
+          whole = k.takes.whole ∙ b.takes.whole;
+          rows =
+            k.takes.rows ∙ ap (with_trees up (one_more 0 seen) k.boxes) b.takes.rows
+            ∙ sym (with_trees-tree up kid b.class seen b.inputs b.below k.boxes s.rows first);
+        };
+        deep = omega (arith, deep, deep');
+        room = omega (arith, room, long, rows);
+      }
+
+  pub boxes_are : (turns kid : ℕ) (seen : ℕ → ℕ) (s new : State) → seen 0 ≡ kid → length s.rows.nodes ≤ 1048576 → kids_within box turns kid s ≡ Some new → BoxesAre d up seen s new
+  unfolding kids_within
+  boxes_are zero kid seen s new first room h = absurd (cc)
+  boxes_are (suc turns) kid seen s new first room h = go s.text.symbols refl h (λ between k. boxes_are turns (kid + 1) (one_more 0 seen) between new (omega (arith, first)) k)
+    where
+      go : (symbols : List Symbol) → s.text.symbols ≡ symbols → kids_in box (kids_within box turns (kid + 1)) kid symbols s ≡ Some new → ((between : State) → length between.rows.nodes ≤ 1048576 → kids_within box turns (kid + 1) between ≡ Some new → BoxesAre d up (one_more 0 seen) between new) → BoxesAre d up seen s new
+      go [] e h more = absurd (cc)
+      go (symbol ∷ rest) e h more = turn (is_closing symbol) refl h
+        where
+          turn : (closing : Bool) → is_closing symbol ≡ closing → cond closing (Some (behind rest s)) (box kid symbol (behind rest s) >>= kids_within box turns (kid + 1)) ≡ Some new → BoxesAre d up seen s new
+          turn true f h = none_left seen symbol rest s new room e f h
+          turn false f h =
+              let b = both (box kid symbol (behind rest s)) (kids_within box turns (kid + 1)) new h in
+              let is = reads kid symbol (behind rest s) b.between room b.one in
+              let long = length-with_tree up kid is.class is.inputs is.below s.rows in
+              let rows = ap (λ (r : RowLists). length r.nodes) is.takes.rows in
+              let here = is.room in
+              one_before kid seen symbol rest s b.between new first e is (more b.between (omega (arith, here, long, rows)) b.two)
