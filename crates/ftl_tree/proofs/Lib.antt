@@ -7,6 +7,7 @@ pub mod ScannerSteps
 pub mod ScanningLemmas
 pub mod SpelledBoxes
 pub mod SpelledComplete
+pub mod SpelledDocument
 pub mod SpelledRows
 pub mod SpelledSound
 pub mod SpelledSteps

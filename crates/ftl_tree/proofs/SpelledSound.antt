@@ -1,5 +1,5 @@
 -- What is read is spelled.
-use Rattle.std.proofs.Common.{◌≡◌, ℕ, zero, suc, ◌+◌, ◌-◌, ◌<◌, ◌≤◌, max, Bool, true, false, cond, eqb, List, [], ◌∷◌, ◌++◌, ℤ, pos, length, Option, Some, None, refl, sym, ap, ◌∙◌, subst, arith, append_assoc}
+use Rattle.std.proofs.Common.{◌≡◌, ◌≢◌, ℕ, zero, suc, ◌+◌, ◌-◌, ◌<◌, ◌≤◌, max, Bool, true, false, cond, eqb, List, [], ◌∷◌, ◌++◌, ℤ, pos, length, Option, Some, None, refl, sym, ap, ◌∙◌, subst, arith, append_assoc}
 use Rattle.std.proofs.lemmas.List.{length_push, append-nil}
 use Rattle.ftl_model.specs.Tree.{Forest, none, tree, size, depth}
 use Rattle.ftl_model.specs.Path.{one_more}
@@ -9,7 +9,7 @@ use Rattle.ftl_tree.specs.declared.symbol.Terminal.TheVariants.{Sheet, Column, W
 use Rattle.ftl_tree.specs.declared.symbol.Symbol.{Symbol}
 use Rattle.ftl_tree.specs.declared.symbol.Symbol.TheVariants.{Fixed, Number}
 use Rattle.ftl_tree.specs.Scanning.{Scanned}
-use Rattle.ftl_tree.specs.Rows.{RowLists, closed}
+use Rattle.ftl_tree.specs.Rows.{RowLists, new_node, closed}
 use Rattle.ftl_tree.specs.Spelling.{SpellsBoxes, no_box, word_box, column_box, SpellsDocument, sheet_over, sheet_opening, sheet_closing, column_opening, column_closing}
 use Rattle.ftl_tree.specs.Reading.{State, state, behind, ◌>>=◌, order_of, is_closing, expect, push_node, close_node, kids_in, kids_within, word_rest, column_rest, box_rows, first_box, sheet_rows}
 use Rattle.ftl_tree.proofs.SpelledRows.{no_rows, rows_of, with_node, with_tree, with_trees, with_trees-tree, with_trees-none, with_trees-one, with_tree-all, closed-with_trees, length-with_tree}
@@ -105,3 +105,76 @@ module _ (d up : ℕ) (box : ℕ → Symbol → State → Option State) (reads :
               let rows = ap (λ (r : RowLists). length r.nodes) is.takes.rows in
               let here = is.room in
               one_before kid seen symbol rest s b.between new first e is (more b.between (omega (arith, here, long, rows)) b.two)
+
+below_limit : (n m : ℕ) → n ≤ m → (n ≡ m → ⊥) → n + 1 ≤ m
+below_limit n m h other = let apart : n ≢ m = other in omega (arith, h, apart)
+
+word_is : (d up kid : ℕ) (s new : State) → length s.rows.nodes ≤ 1048576 → WordRead up kid s new → BoxIs (suc d) up kid (Fixed Word) s new
+word_is d up kid s new room read =
+    record {
+      class = word;
+      inputs = pos read.w ∷ (pos read.h ∷ []);
+      below = none;
+      front = word_body read.w read.h [];
+      spells = λ later beside is. word_box is;
+      takes = read.takes;
+      deep = omega arith;
+      room = below_limit (length s.rows.nodes) 1048576 room read.room;
+    }
+
+-- a column is open, with its own row
+opened : (d up kid : ℕ) (s new : State) → length s.rows.nodes ≤ 1048576 → (read : ColumnRead (box_rows d) up kid s new) → (length read.before.rows.nodes ≡ length s.rows.nodes + 1) × (length read.before.rows.nodes ≤ 1048576)
+opened d up kid s new room read =
+    let long : length read.before.rows.nodes ≡ length s.rows.nodes + 1 =
+        ap (λ (r : RowLists). length r.nodes) read.opens.rows ∙ length_push s.rows.nodes (new_node column up kid) in
+    let small = below_limit (length s.rows.nodes) 1048576 room read.room in
+    (long, omega (arith, long, small))
+
+column_is : (d up kid : ℕ) (s new : State) → length s.rows.nodes ≤ 1048576 → (read : ColumnRead (box_rows d) up kid s new) → BoxesAre d (length s.rows.nodes) (λ c. 0) read.before read.after → BoxIs (suc d) up kid (Fixed Column) s new
+column_is d up kid s new room read k =
+    let n = length s.rows.nodes in
+    let long = (opened d up kid s new room read).0 in
+    let deep = k.deep in
+    let fits = k.room in
+    record {
+      class = column;
+      inputs = [];
+      below = k.boxes;
+      front = column_body (k.front ++ column_closing);
+      spells = λ later beside is.
+        subst (λ (ss : List Symbol). SpellsBoxes (Fixed Column ∷ column_body ss) (tree column only_child [] k.boxes beside))
+        (sym (append_assoc k.front column_closing later)) (column_box k.spells is);
+      takes = record {
+        split =
+          read.opens.split
+          ∙ ap column_body
+            (k.takes.split ∙ ap (λ x. (k.front ++ Fixed RightBracket ∷ []) ++ x) read.closes.split
+            ∙ append_assoc k.front (Fixed RightBracket ∷ []) (Fixed RightBrace ∷ new.text.symbols)
+            ∙ sym (append_assoc k.front column_closing new.text.symbols));
+        whole = read.closes.whole ∙ k.takes.whole ∙ read.opens.whole;
+        rows =
+          read.closes.rows
+          ∙ ap (closed n) (k.takes.rows ∙ ap (with_trees n (λ c. 0) k.boxes) read.opens.rows)
+          ∙ closed-with_trees column up kid n k.boxes s.rows refl;
+      };
+      deep = omega (arith, deep);
+      room = omega (arith, fits, long);
+    }
+
+-- what is read as a box is a box
+pub box_is : (d up : ℕ) → ReadsBoxes d up (box_rows d up)
+unfolding box_rows
+box_is zero up kid symbol s new room h = absurd (cc)
+box_is (suc d) up kid (Number n) s new room h = absurd (cc)
+box_is (suc d) up kid (Fixed t) s new room h =
+    go (eqb (order_of t) 2) (eqb (order_of t) 1) refl refl h (λ up. box_is d up)
+  where
+    go : (word column : Bool) → eqb (order_of t) 2 ≡ word → eqb (order_of t) 1 ≡ column → cond word (word_rest up kid s) (cond column (column_rest (box_rows d) up kid s) None) ≡ Some new → ((up : ℕ) → ReadsBoxes d up (box_rows d up)) → BoxIs (suc d) up kid (Fixed t) s new
+    go true c e f h inner =
+        subst (λ (u : Terminal). BoxIs (suc d) up kid (Fixed u) s new) (sym (same_order t Word e)) (word_is d up kid s new room (word_rest-some up kid s new h))
+    go false true e f h inner =
+        let read = column_rest-some (box_rows d) up kid s new h in
+        let n = length s.rows.nodes in
+        subst (λ (u : Terminal). BoxIs (suc d) up kid (Fixed u) s new) (sym (same_order t Column f))
+        (column_is d up kid s new room read (boxes_are d n (box_rows d n) (inner n) 1048577 0 (λ c. 0) read.before read.after refl (opened d up kid s new room read).1 read.kids))
+    go false false e f h inner = absurd (cc)
