@@ -8,6 +8,9 @@ pub mod ScanningLemmas
 pub mod SpelledBoxes
 pub mod SpelledComplete
 pub mod SpelledDocument
+pub mod SpelledOnce
 pub mod SpelledRows
+pub mod SpelledSmall
 pub mod SpelledSound
 pub mod SpelledSteps
+pub mod SpelledTree
