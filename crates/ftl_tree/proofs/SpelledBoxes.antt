@@ -102,7 +102,8 @@ module _ (box : (parent kid : ℕ) → Symbol → State → Option State) (up ki
       let tg = expect-some RightBrace f.between g.between g.one in
       let rows : d.between.rows ≡ s.rows = td.rows ∙ tc.rows ∙ tb.rows ∙ ta.rows in
       let number : n ≡ length s.rows.nodes = ap (λ (r : RowLists). length r.nodes) rows in
-      let same : new ≡ close_node n g.between = sym (same_some (close_node n g.between) new g.two) in
+      let last : State = close_node n g.between in
+      let same : last ≡ new = same_some last new g.two in
       record {
         before = e.between;
         after = f.between;
@@ -117,9 +118,9 @@ module _ (box : (parent kid : ℕ) → Symbol → State → Option State) (up ki
           rows = ap (λ (x : State). x.rows) te.0 ∙ ap (with_node column up kid) rows;
         };
         closes = record {
-          split = tg.split ∙ ap (λ (x : State). Fixed RightBrace ∷ x.text.symbols) (sym same);
-          whole = ap (λ (x : State). x.text.whole) same ∙ tg.whole;
-          rows = ap (λ (x : State). x.rows) same ∙ ap (closed n) tg.rows ∙ ap (λ (m : ℕ). closed m f.between.rows) number;
+          split = tg.split ∙ ap (λ (x : State). Fixed RightBrace ∷ x.text.symbols) same;
+          whole = sym (ap (λ (x : State). x.text.whole) same) ∙ tg.whole;
+          rows = sym (ap (λ (x : State). x.rows) same) ∙ ap (closed n) tg.rows ∙ ap (λ (m : ℕ). closed m f.between.rows) number;
         };
         room = λ full. te.1 (number ∙ full);
       }

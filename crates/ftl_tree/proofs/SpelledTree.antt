@@ -48,10 +48,17 @@ sheet_fits class inputs below =
 boxes_fit : (ss : List Symbol) (f : Forest) → SpellsBoxes ss f → AllByRecursion IsSmall ss → (above : ℕ) → 0 < stack.child_count above → (c : ℕ) → c ≡ 0 → FitBelow stack above f × StartsFrom c f
 boxes_fit ss f no_box small above has c first = (tt, tt)
 boxes_fit ss f (word_box {w} {h} {later} {beside} spells) small above has c first =
-    let rest = boxes_fit later beside spells small.1.1.1.1.1.1.1.1.1 above has 0 refl in
-    ((record { declared = has; interface = refl }, word_fits w h small.1.1.1.1.0 small.1.1.1.1.1.1.1.0, tt, rest.1, rest.0), omega (arith, first))
+    let from_w = small.1.1.1.1 in
+    let from_h = from_w.1.1.1 in
+    let rest = boxes_fit later beside spells from_h.1.1 above has 0 refl in
+    ((record { declared = has; interface = refl }, word_fits w h from_w.0 from_h.0, tt, rest.1, rest.0), omega (arith, first))
 boxes_fit ss f (column_box {kids} {later} {below} {beside} spells others) small above has c first =
-    let behind = small.1.1.1.1.1 in
-    let inner = boxes_fit kids below spells (small_front kids (column_closing ++ later) behind) column (omega arith) 0 refl in
-    let rest = boxes_fit later beside others (small_back kids (column_closing ++ later) behind).1.1 above has 0 refl in
+    let from_kids = small.1.1.1.1.1 in
+    let inner = boxes_fit kids below spells (small_front kids (column_closing ++ later) from_kids) column (omega arith) 0 refl in
+    let rest = boxes_fit later beside others (small_back kids (column_closing ++ later) from_kids).1.1 above has 0 refl in
     ((record { declared = has; interface = refl }, column_fits below, inner.0, rest.1, rest.0), omega (arith, first))
+
+pub spelled_is_tree : (ss : List Symbol) (t : Forest) → SpellsDocument ss t → AllByRecursion IsSmall ss → IsTreeOf stack t
+spelled_is_tree ss t (sheet_over {body} {class} {below} {inputs} spells) small =
+    let fits = boxes_fit body (tree class only_child inputs below none) spells (small_front body sheet_closing small.1.1.1.1) sheet (omega arith) 0 refl in
+    (refl, sheet_fits class inputs below, fits.0, refl, refl)
