@@ -1,17 +1,14 @@
 -- Reading one box behind its name.
-use Rattle.std.proofs.Common.{◌≡◌, ℕ, zero, suc, ◌+◌, ◌-◌, ◌<◌, ◌≤◌, Bool, true, false, cond, eqb, List, [], ◌∷◌, ◌++◌, ℤ, pos, length, Option, Some, None, refl, sym, ap, ◌∙◌, subst, arith, append_assoc, length-append}
-use Rattle.std.proofs.lemmas.List.{length_push}
-use Rattle.ftl_model.specs.Tree.{Forest, none, tree, size, depth}
-use Rattle.ftl_model.specs.Stack.{word, column, only_child}
-use Rattle.ftl_tree.specs.declared.symbol.Terminal.{Terminal}
-use Rattle.ftl_tree.specs.declared.symbol.Terminal.TheVariants.{Sheet, Column, Word, Body, Kids, Iw, Ih, LeftBrace, RightBrace, LeftBracket, RightBracket, Equals}
+use Rattle.std.proofs.Common.{◌≡◌, ℕ, zero, suc, ◌-◌, ◌<◌, Bool, List, [], ◌∷◌, ◌++◌, pos, length, Option, Some, refl, sym, ap, ◌∙◌, subst, arith}
+use Rattle.ftl_model.specs.Tree.{none}
+use Rattle.ftl_model.specs.Stack.{word, column}
+use Rattle.ftl_tree.specs.declared.symbol.Terminal.TheVariants.{Column, Word, Kids, Iw, Ih, LeftBrace, RightBrace, LeftBracket, Equals}
 use Rattle.ftl_tree.specs.declared.symbol.Symbol.{Symbol}
 use Rattle.ftl_tree.specs.declared.symbol.Symbol.TheVariants.{Fixed, Number}
-use Rattle.ftl_tree.specs.Rows.{RowLists, new_node, closed}
-use Rattle.ftl_tree.specs.Spelling.{column_closing}
-use Rattle.ftl_tree.specs.Reading.{State, state, ◌>>=◌, expect, number, input, push_node, push_inputs, close_node, word_rest, column_rest, kids_within, box_level, box_rows}
-use Rattle.ftl_tree.proofs.SpelledRows.{with_node, with_tree, with_trees, closed-with_trees}
-use Rattle.ftl_tree.proofs.SpelledSteps.{left, Takes, Both, both, same_some, expect-some, input-some, push_node-some, push_node-does}
+use Rattle.ftl_tree.specs.Rows.{RowLists, closed}
+use Rattle.ftl_tree.specs.Reading.{State, ◌>>=◌, expect, number, input, push_node, push_inputs, close_node, word_rest, column_rest, kids_within, box_rows}
+use Rattle.ftl_tree.proofs.SpelledRows.{with_node, with_tree}
+use Rattle.ftl_tree.proofs.SpelledSteps.{left, Takes, moves, stays, ends, both, expect-some, input-some, push_node-some, push_node-does}
 
 -- a word or a column, behind its name
 abbrev pub word_body : ℕ → ℕ → List Symbol → List Symbol
@@ -42,31 +39,22 @@ word_rest-some up kid s new is =
     let c = both (input Ih b.between.1) _ new b.two in
     let d = both (expect RightBrace c.between.1) _ new c.two in
     let e = both (push_node word up kid d.between) _ new d.two in
-    let ta = expect-some LeftBrace s a.between a.one in
-    let tb = input-some Iw a.between b.between b.one in
-    let tc = input-some Ih b.between.1 c.between c.one in
-    let td = expect-some RightBrace c.between.1 d.between d.one in
-    let te = push_node-some word up kid d.between e.between e.one in
-    let same : new ≡ push_inputs b.between.0 c.between.0 (state d.between.text (with_node word up kid d.between.rows)) =
-        sym (same_some (push_inputs b.between.0 c.between.0 e.between) new e.two) ∙ ap (push_inputs b.between.0 c.between.0) te.0 in
-    let rows : d.between.rows ≡ s.rows = td.rows ∙ tc.rows ∙ tb.rows ∙ ta.rows in
+    let step : RowLists → RowLists = λ r. record { nodes = r.nodes; inputs = r.inputs ++ (pos b.between.0 ∷ (pos c.between.0 ∷ [])) } in
+    let before =
+    stays s a.between d.between (expect-some LeftBrace s a.between a.one)
+    (stays a.between b.between.1 d.between (input-some Iw a.between b.between b.one)
+    (stays b.between.1 c.between.1 d.between (input-some Ih b.between.1 c.between c.one) (expect-some RightBrace c.between.1 d.between d.one))) in
+    let pushed = push_node-some word up kid d.between e.between e.one in
     record {
       w = b.between.0;
       h = c.between.0;
-      takes = record {
-        split =
-          ta.split ∙ ap (λ x. Fixed LeftBrace ∷ x)
-            (tb.split ∙ ap (λ x. Fixed Iw ∷ (Fixed Equals ∷ (Number b.between.0 ∷ x)))
-                (tc.split ∙ ap (λ x. Fixed Ih ∷ (Fixed Equals ∷ (Number c.between.0 ∷ x)))
-                    (td.split ∙ ap (λ (n : State). Fixed RightBrace ∷ n.text.symbols) (sym same))));
-        whole = ap (λ (n : State). n.text.whole) same ∙ td.whole ∙ tc.whole ∙ tb.whole ∙ ta.whole;
-        rows = ap (λ (n : State). n.rows) same ∙ ap (with_tree up kid word (pos b.between.0 ∷ (pos c.between.0 ∷ [])) none) rows;
-      };
-      room = λ full. te.1 (ap (λ (r : RowLists). length r.nodes) rows ∙ full);
+      takes =
+          moves (λ r. step (with_node word up kid r)) s d.between new before
+          (moves step d.between e.between new pushed.takes (ends step e.between new e.two));
+      room = λ full. pushed.room (ap (λ (r : RowLists). length r.nodes) before.rows ∙ full);
     }
 
 module _ (box : (parent kid : ℕ) → Symbol → State → Option State) (up kid : ℕ) where
-
   pub column_rest-does : (symbols rest : List Symbol) (whole : Bool) (rows after : RowLists) → length rows.nodes < 1048576 → kids_within (box (length rows.nodes)) 1048577 0 (left symbols whole (with_node column up kid rows)) ≡ Some (left (Fixed RightBrace ∷ rest) whole after) → column_rest box up kid (left (column_body symbols) whole rows) ≡ Some (left rest whole (closed (length rows.nodes) after))
   unfolding column_rest expect
   column_rest-does symbols rest whole rows after room kids =
@@ -94,39 +82,24 @@ module _ (box : (parent kid : ℕ) → Symbol → State → Option State) (up ki
       let e = both (push_node column up kid d.between) _ new d.two in
       let f = both (kids_within (box n) 1048577 0 e.between) _ new e.two in
       let g = both (expect RightBrace f.between) _ new f.two in
-      let ta = expect-some LeftBrace s a.between a.one in
-      let tb = expect-some Kids a.between b.between b.one in
-      let tc = expect-some Equals b.between c.between c.one in
-      let td = expect-some LeftBracket c.between d.between d.one in
-      let te = push_node-some column up kid d.between e.between e.one in
-      let tg = expect-some RightBrace f.between g.between g.one in
-      let rows : d.between.rows ≡ s.rows = td.rows ∙ tc.rows ∙ tb.rows ∙ ta.rows in
-      let number : n ≡ length s.rows.nodes = ap (λ (r : RowLists). length r.nodes) rows in
-      let last : State = close_node n g.between in
-      let same : last ≡ new = same_some last new g.two in
+      let before =
+      stays s a.between d.between (expect-some LeftBrace s a.between a.one)
+      (stays a.between b.between d.between (expect-some Kids a.between b.between b.one)
+      (stays b.between c.between d.between (expect-some Equals b.between c.between c.one) (expect-some LeftBracket c.between d.between d.one))) in
+      let pushed = push_node-some column up kid d.between e.between e.one in
+      let number : n ≡ length s.rows.nodes = ap (λ (r : RowLists). length r.nodes) before.rows in
       record {
         before = e.between;
         after = f.between;
-        kids = ap (λ (m : ℕ). kids_within (box m) 1048577 0 e.between) (sym number) ∙ f.one;
-        opens = record {
-          split =
-            ta.split ∙ ap (λ x. Fixed LeftBrace ∷ x)
-              (tb.split ∙ ap (λ x. Fixed Kids ∷ x)
-                  (tc.split ∙ ap (λ x. Fixed Equals ∷ x)
-                      (td.split ∙ ap (λ (x : State). Fixed LeftBracket ∷ x.text.symbols) (sym te.0))));
-          whole = ap (λ (x : State). x.text.whole) te.0 ∙ td.whole ∙ tc.whole ∙ tb.whole ∙ ta.whole;
-          rows = ap (λ (x : State). x.rows) te.0 ∙ ap (with_node column up kid) rows;
-        };
-        closes = record {
-          split = tg.split ∙ ap (λ (x : State). Fixed RightBrace ∷ x.text.symbols) same;
-          whole = sym (ap (λ (x : State). x.text.whole) same) ∙ tg.whole;
-          rows = sym (ap (λ (x : State). x.rows) same) ∙ ap (closed n) tg.rows ∙ ap (λ (m : ℕ). closed m f.between.rows) number;
-        };
-        room = λ full. te.1 (number ∙ full);
+        kids = subst (λ (m : ℕ). kids_within (box m) 1048577 0 e.between ≡ Some f.between) number f.one;
+        opens = moves (with_node column up kid) s d.between e.between before pushed.takes;
+        closes =
+            subst (λ (m : ℕ). Takes (Fixed RightBrace ∷ []) (closed m f.between.rows) f.between new) number
+            (moves (closed n) f.between g.between new (expect-some RightBrace f.between g.between g.one) (ends (closed n) g.between new g.two));
+        room = λ full. pushed.room (number ∙ full);
       }
 
 module _ (up kid : ℕ) (s : State) where
-
   pub box_rows-word : (d : ℕ) → 0 < d → box_rows d up kid (Fixed Word) s ≡ word_rest up kid s
   unfolding box_rows
   box_rows-word zero h = absurd (omega (arith, h))

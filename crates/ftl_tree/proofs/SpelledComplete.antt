@@ -1,18 +1,17 @@
 -- What symbols spell is read.
-use Rattle.std.proofs.Common.{◌≡◌, ℕ, zero, suc, ◌+◌, ◌-◌, ◌<◌, ◌≤◌, max, Bool, true, false, cond, List, [], ◌∷◌, ◌++◌, ℤ, pos, length, Option, Some, None, refl, sym, ap, ◌∙◌, subst, arith, append_assoc}
+use Rattle.std.proofs.Common.{◌≡◌, ℕ, ◌+◌, ◌-◌, ◌<◌, ◌≤◌, Bool, List, [], ◌∷◌, ◌++◌, pos, length, Option, Some, refl, sym, ap, ◌∙◌, arith, append_assoc}
 use Rattle.std.proofs.lemmas.List.{length_push}
 use Rattle.ftl_model.specs.Tree.{Forest, none, tree, size, depth, IsTree, class_of, inputs_of, below_of, beside_of}
 use Rattle.ftl_model.specs.Path.{one_more}
 use Rattle.ftl_model.specs.Stack.{sheet, word, column, only_child}
-use Rattle.ftl_tree.specs.declared.symbol.Terminal.{Terminal}
-use Rattle.ftl_tree.specs.declared.symbol.Terminal.TheVariants.{Sheet, Column, Word, Body, Kids, Iw, Ih, LeftBrace, RightBrace, LeftBracket, RightBracket, Equals}
+use Rattle.ftl_tree.specs.declared.symbol.Terminal.TheVariants.{Column, Word, RightBrace, RightBracket}
 use Rattle.ftl_tree.specs.declared.symbol.Symbol.{Symbol}
-use Rattle.ftl_tree.specs.declared.symbol.Symbol.TheVariants.{Fixed, Number}
+use Rattle.ftl_tree.specs.declared.symbol.Symbol.TheVariants.{Fixed}
 use Rattle.ftl_tree.specs.Rows.{RowLists, closed}
-use Rattle.ftl_tree.specs.Spelling.{SpellsBoxes, no_box, word_box, column_box, SpellsDocument, sheet_over, word_spelling, column_opening, column_closing, sheet_opening, sheet_closing}
-use Rattle.ftl_tree.specs.Reading.{State, state, ◌>>=◌, expect, push_node, close_node, kids_within, box_rows, first_box, sheet_rows}
+use Rattle.ftl_tree.specs.Spelling.{SpellsBoxes, no_box, word_box, column_box, SpellsDocument, sheet_over, word_spelling, column_closing, sheet_opening, sheet_closing}
+use Rattle.ftl_tree.specs.Reading.{State, state, ◌>>=◌, expect, close_node, kids_within, box_rows, first_box, sheet_rows}
 use Rattle.ftl_tree.proofs.KidsSteps.{closes, goes_on}
-use Rattle.ftl_tree.proofs.SpelledRows.{no_rows, rows_of, with_node, with_tree, with_trees, with_trees-tree, with_trees-none, with_trees-one, with_tree-all, closed-with_trees, length-with_tree}
+use Rattle.ftl_tree.proofs.SpelledRows.{no_rows, rows_of, with_node, with_tree, with_trees, with_trees-tree, with_trees-none, closed-with_trees, closed-sheet, length-with_tree}
 use Rattle.ftl_tree.proofs.SpelledSteps.{left, push_node-does}
 use Rattle.ftl_tree.proofs.SpelledBoxes.{word_body, column_body, word_rest-does, column_rest-does, box_rows-word, box_rows-column}
 
@@ -26,7 +25,6 @@ KidsRead d n kids rest whole below rows =
     kids_within (box_rows d n) 1048577 0 (left (kids ++ Fixed RightBracket ∷ rest) whole rows) ≡ Some (left rest whole (with_trees n (λ c. 0) below rows))
 
 module _ (d up kid : ℕ) (whole : Bool) (rows : RowLists) where
-
   word_read : (w h : ℕ) (rest : List Symbol) → 0 < d → length rows.nodes < 1048576 → box_rows d up kid (Fixed Word) (left (word_body w h rest) whole rows) ≡ Some (left rest whole (with_tree up kid word (pos w ∷ (pos h ∷ [])) none rows))
   word_read w h rest deep room =
       box_rows-word up kid (left (word_body w h rest) whole rows) d deep ∙ word_rest-does up kid w h rest whole rows room
@@ -36,7 +34,7 @@ module _ (d up kid : ℕ) (whole : Bool) (rows : RowLists) where
       let n = length rows.nodes in
       box_rows-column up kid (left (column_symbols kids later rest) whole rows) d deep
       ∙ column_rest-does (box_rows (d - 1)) up kid ((kids ++ (column_closing ++ later)) ++ rest) (later ++ rest) whole rows (with_trees n (λ c. 0) below (with_node column up kid rows)) room
-          (ap (λ ss. kids_within (box_rows (d - 1) n) 1048577 0 (left ss whole (with_node column up kid rows))) (append_assoc kids (column_closing ++ later) rest) ∙ read)
+      (ap (λ ss. kids_within (box_rows (d - 1) n) 1048577 0 (left ss whole (with_node column up kid rows))) (append_assoc kids (column_closing ++ later) rest) ∙ read)
       ∙ ap (λ r. Some (left (later ++ rest) whole r)) (closed-with_trees column up kid n below rows refl)
 
 -- boxes side by side are read up to the closing bracket
@@ -62,7 +60,7 @@ boxes_read ss f (column_box {kids} {later} {below} {beside} spells others) d tur
     goes_on (box_rows d up) turns kid (record { symbols = Fixed Column ∷ column_symbols kids later behind; whole = whole }) (record { symbols = column_symbols kids later behind; whole = whole }) rows (Fixed Column) (left more whole rows')
     (omega (arith, enough)) refl refl
     (column_read d up kid whole rows kids later behind below (omega (arith, deep)) (omega (arith, room))
-        (boxes_read kids below spells (d - 1) 1048577 n 0 (λ c. 0) (Fixed RightBrace ∷ more) whole (with_node column up kid rows) refl (omega (arith, deep)) (omega (arith, room, length_push {X = _} rows.nodes)) (omega (arith, room))))
+    (boxes_read kids below spells (d - 1) 1048577 n 0 (λ c. 0) (Fixed RightBrace ∷ more) whole (with_node column up kid rows) refl (omega (arith, deep)) (omega (arith, room, length_push {X = _} rows.nodes)) (omega (arith, room))))
     ∙ boxes_read later beside others d (turns - 1) up (kid + 1) (one_more 0 seen) rest whole rows' (omega (arith, first)) (omega (arith, deep)) (omega (arith, room, long)) (omega (arith, enough))
     ∙ ap (λ r. Some (left rest whole r)) (sym (with_trees-tree up kid column seen [] below beside rows first))
 
@@ -95,10 +93,8 @@ sheet_read symbols rest whole after read =
 -- a document at the front of the symbols is read, and what is behind it is left
 pub sheet_rows_complete : (ss : List Symbol) (t : Forest) → SpellsDocument ss t → depth t ≤ 512 → size t ≤ 1048576 → (more : List Symbol) (whole : Bool) → sheet_rows (state (record { symbols = ss ++ more; whole = whole }) no_rows) ≡ Some (state (record { symbols = more; whole = whole }) (rows_of t))
 sheet_rows_complete ss t (sheet_over {body} {class} {below} {inputs} spells) deep large more whole =
-    let f = tree class only_child inputs below none in
     let rows = with_node sheet 0 0 no_rows in
     sheet_read ((body ++ sheet_closing) ++ more) more whole (with_tree 0 0 class inputs below rows)
     (ap (λ ss. first_box 511 ss (left ss whole rows)) (append_assoc body sheet_closing more)
-    ∙ first_box_read body f spells tt refl 511 (Fixed RightBrace ∷ more) whole rows (omega (arith, deep)) (omega (arith, large)))
-    ∙ ap (λ r. Some (left more whole (closed 0 r))) (sym (with_trees-one 0 0 class (λ c. 0) inputs below rows refl))
-    ∙ ap (λ r. Some (left more whole r)) (closed-with_trees sheet 0 0 0 f no_rows refl ∙ with_tree-all sheet [] f)
+    ∙ first_box_read body (tree class only_child inputs below none) spells tt refl 511 (Fixed RightBrace ∷ more) whole rows (omega (arith, deep)) (omega (arith, large)))
+    ∙ ap (λ r. Some (left more whole r)) (closed-sheet class inputs below)

@@ -1,17 +1,16 @@
 -- What is read as a document is spelled as one.
-use Rattle.std.proofs.Common.{◌≡◌, ℕ, zero, suc, ◌+◌, ◌≤◌, max, Bool, List, [], ◌∷◌, ◌++◌, ℤ, length, Option, Some, None, refl, sym, ap, ◌∙◌, arith, append_assoc}
+use Rattle.std.proofs.Common.{◌≡◌, ℕ, suc, ◌+◌, ◌≤◌, List, [], ◌∷◌, ◌++◌, ℤ, length, Some, refl, sym, ap, ◌∙◌, arith}
 use Rattle.std.proofs.lemmas.List.{append-nil}
 use Rattle.ftl_model.specs.Tree.{Forest, none, tree, size, depth}
 use Rattle.ftl_model.specs.Stack.{sheet, only_child}
 use Rattle.ftl_tree.specs.declared.symbol.Terminal.TheVariants.{Sheet, Body, LeftBrace, RightBrace, Equals}
 use Rattle.ftl_tree.specs.declared.symbol.Symbol.{Symbol}
-use Rattle.ftl_tree.specs.declared.symbol.Symbol.TheVariants.{Fixed}
 use Rattle.ftl_tree.specs.Scanning.{Scanned}
 use Rattle.ftl_tree.specs.Rows.{RowLists, closed}
 use Rattle.ftl_tree.specs.Spelling.{SpellsBoxes, no_box, SpellsDocument, sheet_over, sheet_opening, sheet_closing}
-use Rattle.ftl_tree.specs.Reading.{State, state, behind, ◌>>=◌, expect, push_node, close_node, first_box, sheet_rows}
-use Rattle.ftl_tree.proofs.SpelledRows.{no_rows, rows_of, with_node, with_tree, with_trees-one, with_tree-all, closed-with_trees}
-use Rattle.ftl_tree.proofs.SpelledSteps.{Takes, both, same_some, expect-some, push_node-some}
+use Rattle.ftl_tree.specs.Reading.{State, state, behind, expect, push_node, first_box, sheet_rows}
+use Rattle.ftl_tree.proofs.SpelledRows.{no_rows, rows_of, with_node, with_tree, closed-sheet}
+use Rattle.ftl_tree.proofs.SpelledSteps.{Takes, moves, stays, ends, both, expect-some, push_node-some}
 use Rattle.ftl_tree.proofs.SpelledSound.{box_is}
 
 -- one box was read
@@ -56,6 +55,26 @@ pub record DocumentRead (text : Scanned) (s : State) : Type 0 where
   pub deep : depth t ≤ 512
   pub large : size t ≤ 1048576
 
+-- a sheet with its box
+document_read : (text : Scanned) (before after s : State) → Takes sheet_opening (with_node sheet 0 0 no_rows) (state text no_rows) before → FirstBox 511 before after → Takes sheet_closing (closed 0 after.rows) after s → DocumentRead text s
+document_read text before after s opens box closes =
+    let takes =
+    moves (λ r. closed 0 (with_tree 0 0 box.class box.inputs box.below r)) (state text no_rows) before s opens
+    (moves (closed 0) before after s box.takes closes) in
+    let one : length before.rows.nodes ≡ 1 = ap (λ (r : RowLists). length r.nodes) opens.rows in
+    let deep = box.deep in
+    let room = box.room in
+    record {
+      t = tree sheet 0 [] (tree box.class only_child box.inputs box.below none) none;
+      front = sheet_opening ++ (box.front ++ sheet_closing);
+      spells = sheet_over box.spells;
+      split = takes.split;
+      whole = takes.whole;
+      rows = takes.rows ∙ closed-sheet box.class box.inputs box.below;
+      deep = omega (arith, deep);
+      large = omega (arith, room, one);
+    }
+
 -- the rows are those of the document at the front of the symbols
 pub sheet_rows_sound : (text : Scanned) (s : State) → sheet_rows (state text no_rows) ≡ Some s → DocumentRead text s
 unfolding sheet_rows
@@ -68,39 +87,13 @@ sheet_rows_sound text s is =
     let e = both (push_node sheet 0 0 d.between) _ s d.two in
     let f = both (first_box 511 e.between.text.symbols e.between) _ s e.two in
     let g = both (expect RightBrace f.between) _ s f.two in
-    let ta = expect-some Sheet start a.between a.one in
-    let tb = expect-some LeftBrace a.between b.between b.one in
-    let tc = expect-some Body b.between c.between c.one in
-    let td = expect-some Equals c.between d.between d.one in
-    let te = push_node-some sheet 0 0 d.between e.between e.one in
-    let tg = expect-some RightBrace f.between g.between g.one in
-    let rows : e.between.rows ≡ with_node sheet 0 0 no_rows =
-        ap (λ (x : State). x.rows) te.0 ∙ ap (with_node sheet 0 0) (td.rows ∙ tc.rows ∙ tb.rows ∙ ta.rows) in
-    let one : length e.between.rows.nodes ≡ 1 = ap (λ (r : RowLists). length r.nodes) rows in
+    let opens =
+    stays start a.between d.between (expect-some Sheet start a.between a.one)
+    (stays a.between b.between d.between (expect-some LeftBrace a.between b.between b.one)
+    (stays b.between c.between d.between (expect-some Body b.between c.between c.one) (expect-some Equals c.between d.between d.one))) in
+    let before : Takes sheet_opening (with_node sheet 0 0 no_rows) start e.between =
+    moves (with_node sheet 0 0) start d.between e.between opens (push_node-some sheet 0 0 d.between e.between e.one).takes in
+    let one : length e.between.rows.nodes ≡ 1 = ap (λ (r : RowLists). length r.nodes) before.rows in
     let box = first_box_is 511 e.between.text.symbols e.between f.between refl (omega (arith, one)) f.one in
-    let body = tree box.class only_child box.inputs box.below none in
-    let same : s ≡ close_node 0 g.between = sym (same_some (close_node 0 g.between) s g.two) in
-    let deep = box.deep in
-    let room = box.room in
-    record {
-      t = tree sheet 0 [] body none;
-      front = sheet_opening ++ (box.front ++ sheet_closing);
-      spells = sheet_over box.spells;
-      split =
-        ta.split ∙ ap (λ x. Fixed Sheet ∷ x)
-          (tb.split ∙ ap (λ x. Fixed LeftBrace ∷ x)
-              (tc.split ∙ ap (λ x. Fixed Body ∷ x)
-                  (td.split ∙ ap (λ x. Fixed Equals ∷ x)
-                      (ap (λ (x : State). x.text.symbols) (sym te.0) ∙ box.takes.split
-                      ∙ ap (λ x. box.front ++ x) (tg.split ∙ ap (λ (x : State). Fixed RightBrace ∷ x.text.symbols) (sym same))
-                      ∙ sym (append_assoc box.front sheet_closing s.text.symbols)))));
-      whole =
-        ap (λ (x : State). x.text.whole) same ∙ tg.whole ∙ box.takes.whole ∙ ap (λ (x : State). x.text.whole) te.0
-        ∙ td.whole ∙ tc.whole ∙ tb.whole ∙ ta.whole;
-      rows =
-        ap (λ (x : State). x.rows) same ∙ ap (closed 0) (tg.rows ∙ box.takes.rows ∙ ap (with_tree 0 0 box.class box.inputs box.below) rows)
-        ∙ ap (closed 0) (sym (with_trees-one 0 0 box.class (λ c. 0) box.inputs box.below (with_node sheet 0 0 no_rows) refl))
-        ∙ closed-with_trees sheet 0 0 0 body no_rows refl ∙ with_tree-all sheet [] body;
-      deep = omega (arith, deep);
-      large = omega (arith, room, one);
-    }
+    let after = moves (closed 0) f.between g.between s (expect-some RightBrace f.between g.between g.one) (ends (closed 0) g.between s g.two) in
+    document_read text e.between f.between s before box after

@@ -1,5 +1,5 @@
 -- Symbols spell one document at most.
-use Rattle.std.proofs.Common.{◌≡◌, ℕ, List, [], ◌∷◌, ◌++◌, pos, refl, sym, ap, ◌∙◌, append_assoc}
+use Rattle.std.proofs.Common.{◌≡◌, List, [], ◌∷◌, ◌++◌, pos, refl, sym, ap, ◌∙◌, append_assoc}
 use Rattle.std.proofs.lemmas.List.{append_cancel_right}
 use Rattle.ftl_model.specs.Tree.{Forest, none, tree}
 use Rattle.ftl_model.specs.Stack.{sheet, column, word, only_child}
@@ -21,16 +21,18 @@ boxes_once ss ss' f f' rest rest' (word_box {w} {h} {later} {beside} spells) (wo
     let behind : later ++ Fixed RightBracket ∷ rest ≡ later' ++ Fixed RightBracket ∷ rest' = cc in
     let wide : w ≡ w' = cc in
     let high : h ≡ h' = cc in
-    let r = boxes_once later later' beside beside' rest rest' spells spells' behind in
-    (ap (λ n. tree word only_child (pos n ∷ (pos h ∷ [])) none beside) wide
-    ∙ ap (λ n. tree word only_child (pos w' ∷ (pos n ∷ [])) none beside) high
-    ∙ ap (tree word only_child (pos w' ∷ (pos h' ∷ [])) none) r.0, r.1)
+    let r = boxes_once later later' beside beside' rest rest' spells spells' behind in (
+      ap (λ n. tree word only_child (pos n ∷ (pos h ∷ [])) none beside) wide
+          ∙ ap (λ n. tree word only_child (pos w' ∷ (pos n ∷ [])) none beside) high
+          ∙ ap (tree word only_child (pos w' ∷ (pos h' ∷ [])) none) r.0,
+      r.1,
+    )
 boxes_once ss ss' f f' rest rest' (column_box {kids} {later} {below} {beside} spells others) (column_box {kids = kids'} {later = later'} {below = below'} {beside = beside'} spells' others') e =
     let end = Fixed RightBracket ∷ rest in
     let end' = Fixed RightBracket ∷ rest' in
     let inner : (kids ++ (column_closing ++ later)) ++ end ≡ (kids' ++ (column_closing ++ later')) ++ end' = cc in
     let r = boxes_once kids kids' below below' (Fixed RightBrace ∷ (later ++ end)) (Fixed RightBrace ∷ (later' ++ end')) spells spells'
-        (sym (append_assoc kids (column_closing ++ later) end) ∙ inner ∙ append_assoc kids' (column_closing ++ later') end') in
+    (sym (append_assoc kids (column_closing ++ later) end) ∙ inner ∙ append_assoc kids' (column_closing ++ later') end') in
     let tails : (Fixed RightBrace ∷ (later ++ end)) ≡ Fixed RightBrace ∷ (later' ++ end') = r.1 in
     let behind : later ++ end ≡ later' ++ end' = cc in
     let q = boxes_once later later' beside beside' rest rest' others others' behind in
@@ -41,7 +43,7 @@ documents_once ss ss' t t' (sheet_over {body} {class} {below} {inputs} spells) (
     let closed : body ++ sheet_closing ≡ body' ++ sheet_closing = cc in
     let same : body ≡ body' = append_cancel_right body body' sheet_closing closed in
     let r = boxes_once body body' (tree class only_child inputs below none) (tree class' only_child inputs' below' none) [] [] spells spells'
-        (ap (λ x. x ++ Fixed RightBracket ∷ []) same) in
+    (ap (λ x. x ++ Fixed RightBracket ∷ []) same) in
     ap (λ b. tree sheet 0 [] b none) r.0
 
 -- the same symbols spell the same document

@@ -1,9 +1,9 @@
 -- The rows of trees of boxes, as they are appended tree by tree.
-use Rattle.std.proofs.Common.{◌≡◌, ℕ, zero, suc, ◌+◌, ◌-◌, ◌≤◌, cond, List, [], ◌∷◌, ◌++◌, ℤ, length, set, get_or, refl, sym, ap, ◌∙◌, arith, append_assoc, length-append}
+use Rattle.std.proofs.Common.{◌≡◌, ℕ, suc, ◌+◌, ◌-◌, List, [], ◌∷◌, ◌++◌, ℤ, length, set, refl, sym, ap, ◌∙◌, arith, append_assoc, length-append}
 use Rattle.std.proofs.lemmas.List.{append-nil, get_or_at, set_at, length_push}
 use Rattle.ftl_model.specs.Tree.{Forest, none, tree, size}
 use Rattle.ftl_model.specs.Path.{one_more}
-use Rattle.ftl_model.specs.Stack.{only_child}
+use Rattle.ftl_model.specs.Stack.{sheet, only_child}
 use Rattle.ftl_tree.specs.declared.rows.Node.{Node}
 use Rattle.ftl_tree.specs.Rows.{RowLists, node_rows, input_rows, new_node, closed}
 
@@ -25,8 +25,8 @@ with_tree up kid class inputs below rows =
     let n = length rows.nodes in
     record {
       nodes =
-        rows.nodes
-        ++ (record { class = class; child = only_child; kid = kid; parent = up; size = suc (size below) } ∷ node_rows n (n + 1) (λ c. 0) below);
+          rows.nodes
+          ++ (record { class = class; child = only_child; kid = kid; parent = up; size = suc (size below) } ∷ node_rows n (n + 1) (λ c. 0) below);
       inputs = rows.inputs ++ (inputs ++ input_rows below);
     }
 
@@ -100,11 +100,19 @@ closed-with_trees class up kid n below rows h =
     let under : ℕ → ℕ → List Node = λ m k. node_rows m k (λ c. 0) below in
     let is = rows.inputs ++ input_rows below in
     ap (λ (x : List Node). closed n (pack x is))
-        (append_assoc rows.nodes (new ∷ []) (under n (length (rows.nodes ++ new ∷ [])))
-        ∙ ap (λ (k : ℕ). rows.nodes ++ (new ∷ under n k)) (length_push rows.nodes new)
-        ∙ ap (λ (m : ℕ). rows.nodes ++ (new ∷ under m (length rows.nodes + 1))) (sym h))
+    (append_assoc rows.nodes (new ∷ []) (under n (length (rows.nodes ++ new ∷ [])))
+    ∙ ap (λ (k : ℕ). rows.nodes ++ (new ∷ under n k)) (length_push rows.nodes new)
+    ∙ ap (λ (m : ℕ). rows.nodes ++ (new ∷ under m (length rows.nodes + 1))) (sym h))
     ∙ closed_at rows.nodes new (under (length rows.nodes) (length rows.nodes + 1)) is n (size below) h (length-node_rows (length rows.nodes) (length rows.nodes + 1) (λ c. 0) below)
 
 -- with nothing before, these are all rows
 pub with_tree-all : (class : ℕ) (inputs : List ℤ) (below : Forest) → with_tree 0 0 class inputs below no_rows ≡ rows_of (tree class only_child inputs below none)
 with_tree-all class inputs below = sym (with_trees-one 0 0 class (λ c. 0) inputs below no_rows refl)
+
+-- the rows of a sheet, closed behind those of its box
+pub closed-sheet : (class : ℕ) (inputs : List ℤ) (below : Forest) → closed 0 (with_tree 0 0 class inputs below (with_node sheet 0 0 no_rows)) ≡ rows_of (tree sheet 0 [] (tree class only_child inputs below none) none)
+closed-sheet class inputs below =
+    let body = tree class only_child inputs below none in
+    ap (closed 0) (sym (with_trees-one 0 0 class (λ c. 0) inputs below (with_node sheet 0 0 no_rows) refl))
+    ∙ closed-with_trees sheet 0 0 0 body no_rows refl
+    ∙ with_tree-all sheet [] body

@@ -1,19 +1,18 @@
 -- What is read is spelled.
-use Rattle.std.proofs.Common.{◌≡◌, ◌≢◌, ℕ, zero, suc, ◌+◌, ◌-◌, ◌<◌, ◌≤◌, max, Bool, true, false, cond, eqb, List, [], ◌∷◌, ◌++◌, ℤ, pos, length, Option, Some, None, refl, sym, ap, ◌∙◌, subst, arith, append_assoc}
-use Rattle.std.proofs.lemmas.List.{length_push, append-nil}
+use Rattle.std.proofs.Common.{◌≡◌, ◌≢◌, ℕ, zero, suc, ◌+◌, ◌<◌, ◌≤◌, Bool, true, false, cond, eqb, List, [], ◌∷◌, ◌++◌, ℤ, pos, length, Option, Some, None, refl, sym, ap, ◌∙◌, subst, arith, append_assoc}
+use Rattle.std.proofs.lemmas.List.{length_push}
 use Rattle.ftl_model.specs.Tree.{Forest, none, tree, size, depth}
 use Rattle.ftl_model.specs.Path.{one_more}
-use Rattle.ftl_model.specs.Stack.{sheet, word, column, only_child}
+use Rattle.ftl_model.specs.Stack.{word, column, only_child}
 use Rattle.ftl_tree.specs.declared.symbol.Terminal.{Terminal}
-use Rattle.ftl_tree.specs.declared.symbol.Terminal.TheVariants.{Sheet, Column, Word, Body, Kids, Iw, Ih, LeftBrace, RightBrace, LeftBracket, RightBracket, Equals}
+use Rattle.ftl_tree.specs.declared.symbol.Terminal.TheVariants.{Column, Word, RightBrace, RightBracket}
 use Rattle.ftl_tree.specs.declared.symbol.Symbol.{Symbol}
 use Rattle.ftl_tree.specs.declared.symbol.Symbol.TheVariants.{Fixed, Number}
-use Rattle.ftl_tree.specs.Scanning.{Scanned}
 use Rattle.ftl_tree.specs.Rows.{RowLists, new_node, closed}
-use Rattle.ftl_tree.specs.Spelling.{SpellsBoxes, no_box, word_box, column_box, SpellsDocument, sheet_over, sheet_opening, sheet_closing, column_opening, column_closing}
-use Rattle.ftl_tree.specs.Reading.{State, state, behind, ◌>>=◌, order_of, is_closing, expect, push_node, close_node, kids_in, kids_within, word_rest, column_rest, box_rows, first_box, sheet_rows}
-use Rattle.ftl_tree.proofs.SpelledRows.{no_rows, rows_of, with_node, with_tree, with_trees, with_trees-tree, with_trees-none, with_trees-one, with_tree-all, closed-with_trees, length-with_tree}
-use Rattle.ftl_tree.proofs.SpelledSteps.{left, Takes, Both, both, same_some, same_order, closing_is, expect-some, push_node-some}
+use Rattle.ftl_tree.specs.Spelling.{SpellsBoxes, no_box, word_box, column_box, column_closing}
+use Rattle.ftl_tree.specs.Reading.{State, behind, ◌>>=◌, order_of, is_closing, kids_in, kids_within, word_rest, column_rest, box_rows}
+use Rattle.ftl_tree.proofs.SpelledRows.{with_tree, with_trees, with_trees-tree, with_trees-none, closed-with_trees, length-with_tree}
+use Rattle.ftl_tree.proofs.SpelledSteps.{Takes, both, same_some, same_order, closing_is}
 use Rattle.ftl_tree.proofs.SpelledBoxes.{WordRead, word_rest-some, ColumnRead, column_rest-some, word_body, column_body}
 
 -- one box was read behind its first symbol
@@ -42,7 +41,6 @@ ReadsBoxes d up box =
     (kid : ℕ) (symbol : Symbol) (s new : State) → length s.rows.nodes ≤ 1048576 → box kid symbol s ≡ Some new → BoxIs d up kid symbol s new
 
 module _ (d up : ℕ) (box : ℕ → Symbol → State → Option State) (reads : ReadsBoxes d up box) where
-
   -- the closing bracket comes next
   none_left : (seen : ℕ → ℕ) (symbol : Symbol) (rest : List Symbol) (s new : State) → length s.rows.nodes ≤ 1048576 → s.text.symbols ≡ symbol ∷ rest → is_closing symbol ≡ true → Some (behind rest s) ≡ Some new → BoxesAre d up seen s new
   none_left seen symbol rest s new room next closing h =
@@ -74,14 +72,14 @@ module _ (d up : ℕ) (box : ℕ → Symbol → State → Option State) (reads :
         spells = b.spells k.front k.boxes k.spells;
         takes = record {
           split =
-            next ∙ ap (λ x. symbol ∷ x)
+              next ∙ ap (λ x. symbol ∷ x)
               (b.takes.split ∙ ap (λ x. b.front ++ x) k.takes.split
               ∙ sym (append_assoc b.front (k.front ++ Fixed RightBracket ∷ []) new.text.symbols)
               ∙ ap (λ x. x ++ new.text.symbols) (sym (append_assoc b.front k.front (Fixed RightBracket ∷ []))));
           whole = k.takes.whole ∙ b.takes.whole;
           rows =
-            k.takes.rows ∙ ap (with_trees up (one_more 0 seen) k.boxes) b.takes.rows
-            ∙ sym (with_trees-tree up kid b.class seen b.inputs b.below k.boxes s.rows first);
+              k.takes.rows ∙ ap (with_trees up (one_more 0 seen) k.boxes) b.takes.rows
+              ∙ sym (with_trees-tree up kid b.class seen b.inputs b.below k.boxes s.rows first);
         };
         deep = omega (arith, deep, deep');
         room = omega (arith, room, long, rows);
@@ -126,7 +124,7 @@ word_is d up kid s new room read =
 opened : (d up kid : ℕ) (s new : State) → length s.rows.nodes ≤ 1048576 → (read : ColumnRead (box_rows d) up kid s new) → (length read.before.rows.nodes ≡ length s.rows.nodes + 1) × (length read.before.rows.nodes ≤ 1048576)
 opened d up kid s new room read =
     let long : length read.before.rows.nodes ≡ length s.rows.nodes + 1 =
-        ap (λ (r : RowLists). length r.nodes) read.opens.rows ∙ length_push s.rows.nodes (new_node column up kid) in
+    ap (λ (r : RowLists). length r.nodes) read.opens.rows ∙ length_push s.rows.nodes (new_node column up kid) in
     let small = below_limit (length s.rows.nodes) 1048576 room read.room in
     (long, omega (arith, long, small))
 
@@ -142,20 +140,20 @@ column_is d up kid s new room read k =
       below = k.boxes;
       front = column_body (k.front ++ column_closing);
       spells = λ later beside is.
-        subst (λ (ss : List Symbol). SpellsBoxes (Fixed Column ∷ column_body ss) (tree column only_child [] k.boxes beside))
-        (sym (append_assoc k.front column_closing later)) (column_box k.spells is);
+          subst (λ (ss : List Symbol). SpellsBoxes (Fixed Column ∷ column_body ss) (tree column only_child [] k.boxes beside))
+          (sym (append_assoc k.front column_closing later)) (column_box k.spells is);
       takes = record {
         split =
-          read.opens.split
-          ∙ ap column_body
+            read.opens.split
+            ∙ ap column_body
             (k.takes.split ∙ ap (λ x. (k.front ++ Fixed RightBracket ∷ []) ++ x) read.closes.split
             ∙ append_assoc k.front (Fixed RightBracket ∷ []) (Fixed RightBrace ∷ new.text.symbols)
             ∙ sym (append_assoc k.front column_closing new.text.symbols));
         whole = read.closes.whole ∙ k.takes.whole ∙ read.opens.whole;
         rows =
-          read.closes.rows
-          ∙ ap (closed n) (k.takes.rows ∙ ap (with_trees n (λ c. 0) k.boxes) read.opens.rows)
-          ∙ closed-with_trees column up kid n k.boxes s.rows refl;
+            read.closes.rows
+            ∙ ap (closed n) (k.takes.rows ∙ ap (with_trees n (λ c. 0) k.boxes) read.opens.rows)
+            ∙ closed-with_trees column up kid n k.boxes s.rows refl;
       };
       deep = omega (arith, deep);
       room = omega (arith, fits, long);

@@ -1,16 +1,13 @@
 -- The steps of reading: what each does at the symbols that it wants, and what is known where it does something.
-use Rattle.std.proofs.Common.{◌≡◌, ℕ, zero, suc, ◌+◌, ◌<◌, ◌≤◌, Bool, true, false, cond, eqb, List, [], ◌∷◌, ◌++◌, length, Option, Some, None, unwrap_or, refl, sym, ap, ◌∙◌, subst, arith, append_assoc}
-use Rattle.std.proofs.lemmas.Bool.{eqb-true, eqb-false, ne_eqb, eq-eqb}
-use Rattle.ftl_model.specs.Tree.{none}
-use Rattle.ftl_model.specs.Stack.{word}
+use Rattle.std.proofs.Common.{◌≡◌, ℕ, ◌<◌, Bool, true, false, cond, eqb, List, [], ◌∷◌, ◌++◌, length, Option, Some, None, unwrap_or, refl, sym, ap, ◌∙◌, arith, append_assoc}
+use Rattle.std.proofs.lemmas.Bool.{eqb-true, eqb-false, ne_eqb}
 use Rattle.ftl_tree.specs.declared.symbol.Terminal.{Terminal}
 use Rattle.ftl_tree.specs.declared.symbol.Terminal.TheVariants.{Sheet, Column, Word, Body, Kids, Iw, Ih, LeftBrace, RightBrace, LeftBracket, RightBracket, Equals}
 use Rattle.ftl_tree.specs.declared.symbol.Symbol.{Symbol}
 use Rattle.ftl_tree.specs.declared.symbol.Symbol.TheVariants.{Fixed, Number}
-use Rattle.ftl_tree.specs.Scanning.{Scanned}
-use Rattle.ftl_tree.specs.Rows.{RowLists, new_node}
-use Rattle.ftl_tree.specs.Reading.{State, state, behind, ◌>>=◌, order_of, expect, expect_in, number, number_in, input, push_node, push_inputs, is_closing, word_rest}
-use Rattle.ftl_tree.proofs.SpelledRows.{with_node, with_tree}
+use Rattle.ftl_tree.specs.Rows.{RowLists}
+use Rattle.ftl_tree.specs.Reading.{State, state, behind, ◌>>=◌, order_of, expect, expect_in, number, number_in, input, push_node, is_closing}
+use Rattle.ftl_tree.proofs.SpelledRows.{with_node}
 
 -- a state with these symbols left
 abbrev pub left : List Symbol → Bool → RowLists → State
@@ -21,6 +18,18 @@ pub record Takes (front : List Symbol) (after : RowLists) (old new : State) : Ty
   pub split : old.text.symbols ≡ front ++ new.text.symbols
   pub whole : new.text.whole ≡ old.text.whole
   pub rows : new.rows ≡ after
+
+-- one step after another
+pub moves : {front front' : List Symbol} {after : RowLists} (step : RowLists → RowLists) (old between new : State) → Takes front after old between → Takes front' (step between.rows) between new → Takes (front ++ front') (step after) old new
+moves {front} {front'} step old between new a b =
+    record {
+      split = a.split ∙ ap (λ x. front ++ x) b.split ∙ sym (append_assoc front front' new.text.symbols);
+      whole = b.whole ∙ a.whole;
+      rows = b.rows ∙ ap step a.rows;
+    }
+
+pub stays : {front front' : List Symbol} {after : RowLists} (old between new : State) → Takes front after old between → Takes front' between.rows between new → Takes (front ++ front') after old new
+stays old between new a b = moves (λ r. r) old between new a b
 
 -- where the second of two steps gives something, the first does
 pub record Both {A B : Type 0} (first : Option A) (second : A → Option B) (last : B) : Type 0 where
@@ -97,18 +106,27 @@ unfolding input
 input-some name s new h =
     let a = both (expect name s) _ new h in
     let b = both (expect Equals a.between) _ new a.two in
-    let x = expect-some name s a.between a.one in
-    let y = expect-some Equals a.between b.between b.one in
-    let z = number-some b.between new b.two in
-    record { split = cc; whole = cc; rows = cc }
+    stays s a.between new.1 (expect-some name s a.between a.one)
+    (stays a.between b.between new.1 (expect-some Equals a.between b.between b.one) (number-some b.between new b.two))
 
-pub push_node-some : (class up kid : ℕ) (s new : State) → push_node class up kid s ≡ Some new → (new ≡ state s.text (with_node class up kid s.rows)) × (length s.rows.nodes ≡ 1048576 → ⊥)
+-- the last step changes rows alone
+pub ends : (step : RowLists → RowLists) (s new : State) → Some (state s.text (step s.rows)) ≡ Some new → Takes [] (step s.rows) s new
+ends step s new h =
+    let same = same_some (state s.text (step s.rows)) new h in
+    record { split = ap (λ (n : State). n.text.symbols) same; whole = sym (ap (λ (n : State). n.text.whole) same); rows = sym (ap (λ (n : State). n.rows) same) }
+
+-- a row was added, so there was room
+pub record Pushed (class up kid : ℕ) (s new : State) : Type 0 where
+  pub takes : Takes [] (with_node class up kid s.rows) s new
+  pub room : length s.rows.nodes ≡ 1048576 → ⊥
+
+pub push_node-some : (class up kid : ℕ) (s new : State) → push_node class up kid s ≡ Some new → Pushed class up kid s new
 unfolding push_node
 push_node-some class up kid s new h = go (eqb (length s.rows.nodes) 1048576) refl h
   where
-    go : (full : Bool) → eqb (length s.rows.nodes) 1048576 ≡ full → cond full None (Some (state s.text (with_node class up kid s.rows))) ≡ Some new → (new ≡ state s.text (with_node class up kid s.rows)) × (length s.rows.nodes ≡ 1048576 → ⊥)
+    go : (full : Bool) → eqb (length s.rows.nodes) 1048576 ≡ full → cond full None (Some (state s.text (with_node class up kid s.rows))) ≡ Some new → Pushed class up kid s new
     go true e h = absurd (cc)
-    go false e h = (sym (same_some (state s.text (with_node class up kid s.rows)) new h), eqb-false (length s.rows.nodes) 1048576 e)
+    go false e h = record { takes = ends (with_node class up kid) s new h; room = eqb-false (length s.rows.nodes) 1048576 e }
 
 pub push_node-does : (class up kid : ℕ) (s : State) → length s.rows.nodes < 1048576 → push_node class up kid s ≡ Some (state s.text (with_node class up kid s.rows))
 unfolding push_node

@@ -1,9 +1,9 @@
 -- What spells a document spells a tree of the stack grammar.
-use Rattle.std.proofs.Common.{◌≡◌, ℕ, zero, suc, ◌+◌, ◌<◌, ◌≤◌, Bool, true, false, List, [], ◌∷◌, ◌++◌, ℤ, pos, length, refl, sym, ap, ◌∙◌, arith}
+use Rattle.std.proofs.Common.{◌≡◌, ℕ, zero, suc, ◌<◌, ◌≤◌, false, List, [], ◌∷◌, ◌++◌, ℤ, pos, refl, arith}
 use Rattle.std.specs.List.{AllByRecursion}
 use Rattle.std.proofs.lemmas.Int.{ints}
 use Rattle.ftl_model.specs.Tree.{Forest, none, tree, count_in}
-use Rattle.ftl_model.specs.TreeOf.{IsInput, StartsFrom, FitsClass, FitsChild, FitBelow, IsTreeOf}
+use Rattle.ftl_model.specs.TreeOf.{IsInput, StartsFrom, FitsClass, FitBelow, IsTreeOf}
 use Rattle.ftl_model.specs.Stack.{stack, sheet, column, word, only_child}
 use Rattle.ftl_tree.specs.declared.symbol.Symbol.{Symbol}
 use Rattle.ftl_tree.specs.Symbols.{IsSmall}
