@@ -9,3 +9,12 @@ pub mod Scanner
 pub mod ScannerSound
 pub mod ScannerSteps
 pub mod ScanningLemmas
+pub mod SpelledBoxes
+pub mod SpelledComplete
+pub mod SpelledDocument
+pub mod SpelledOnce
+pub mod SpelledRows
+pub mod SpelledSmall
+pub mod SpelledSound
+pub mod SpelledSteps
+pub mod SpelledTree
