@@ -1,5 +1,6 @@
 pub mod Access
 pub mod Digits
+pub mod Documents
 pub mod FlatRows
 pub mod Inputs
 pub mod KidsSteps

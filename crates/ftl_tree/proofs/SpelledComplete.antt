@@ -7,11 +7,11 @@ use Rattle.ftl_model.specs.Stack.{sheet, word, column, only_child}
 use Rattle.ftl_tree.specs.declared.symbol.Terminal.TheVariants.{Column, Word, RightBrace, RightBracket}
 use Rattle.ftl_tree.specs.declared.symbol.Symbol.{Symbol}
 use Rattle.ftl_tree.specs.declared.symbol.Symbol.TheVariants.{Fixed}
-use Rattle.ftl_tree.specs.Rows.{RowLists, closed}
+use Rattle.ftl_tree.specs.Rows.{RowLists, closed, rows_of}
 use Rattle.ftl_tree.specs.Spelling.{SpellsBoxes, no_box, word_box, column_box, SpellsDocument, sheet_over, word_spelling, column_closing, sheet_opening, sheet_closing}
 use Rattle.ftl_tree.specs.Reading.{State, state, ◌>>=◌, expect, close_node, kids_within, box_rows, first_box, sheet_rows}
 use Rattle.ftl_tree.proofs.KidsSteps.{closes, goes_on}
-use Rattle.ftl_tree.proofs.SpelledRows.{no_rows, rows_of, with_node, with_tree, with_trees, with_trees-tree, with_trees-none, closed-with_trees, closed-sheet, length-with_tree}
+use Rattle.ftl_tree.proofs.SpelledRows.{no_rows, with_node, with_tree, with_trees, with_trees-tree, with_trees-none, closed-with_trees, closed-sheet, length-with_tree}
 use Rattle.ftl_tree.proofs.SpelledSteps.{left, push_node-does}
 use Rattle.ftl_tree.proofs.SpelledBoxes.{word_body, column_body, word_rest-does, column_rest-does, box_rows-word, box_rows-column}
 

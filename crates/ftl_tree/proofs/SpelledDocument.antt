@@ -6,10 +6,10 @@ use Rattle.ftl_model.specs.Stack.{sheet, only_child}
 use Rattle.ftl_tree.specs.declared.symbol.Terminal.TheVariants.{Sheet, Body, LeftBrace, RightBrace, Equals}
 use Rattle.ftl_tree.specs.declared.symbol.Symbol.{Symbol}
 use Rattle.ftl_tree.specs.Scanning.{Scanned}
-use Rattle.ftl_tree.specs.Rows.{RowLists, closed}
+use Rattle.ftl_tree.specs.Rows.{RowLists, closed, rows_of}
 use Rattle.ftl_tree.specs.Spelling.{SpellsBoxes, no_box, SpellsDocument, sheet_over, sheet_opening, sheet_closing}
 use Rattle.ftl_tree.specs.Reading.{State, state, behind, expect, push_node, first_box, sheet_rows}
-use Rattle.ftl_tree.proofs.SpelledRows.{no_rows, rows_of, with_node, with_tree, closed-sheet}
+use Rattle.ftl_tree.proofs.SpelledRows.{no_rows, with_node, with_tree, closed-sheet}
 use Rattle.ftl_tree.proofs.SpelledSteps.{Takes, moves, stays, ends, both, expect-some, push_node-some}
 use Rattle.ftl_tree.proofs.SpelledSound.{box_is}
 

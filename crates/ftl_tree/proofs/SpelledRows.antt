@@ -5,14 +5,10 @@ use Rattle.ftl_model.specs.Tree.{Forest, none, tree, size}
 use Rattle.ftl_model.specs.Path.{one_more}
 use Rattle.ftl_model.specs.Stack.{sheet, only_child}
 use Rattle.ftl_tree.specs.declared.rows.Node.{Node}
-use Rattle.ftl_tree.specs.Rows.{RowLists, node_rows, input_rows, new_node, closed}
+use Rattle.ftl_tree.specs.Rows.{RowLists, node_rows, input_rows, new_node, closed, rows_of}
 
 abbrev pub no_rows : RowLists
 no_rows = record { nodes = []; inputs = [] }
-
--- all rows of a tree
-abbrev pub rows_of : Forest → RowLists
-rows_of t = record { nodes = node_rows 0 0 (λ c. 0) t; inputs = input_rows t }
 
 -- rows, and behind them those of trees side by side below a node, so many kids of each child having come
 abbrev pub with_trees : (up : ℕ) → (ℕ → ℕ) → Forest → RowLists → RowLists

@@ -1,5 +1,6 @@
 pub use Rattle.ftl_model.specs.Tree
 pub use Rattle.ftl_model.specs.Path
+pub mod Document
 pub mod FirstForm
 pub mod Flat
 pub mod FlatTree

@@ -3,6 +3,7 @@
 #![tactic(auto)]
 
 mod fault;
+mod page;
 mod reader;
 mod rows;
 mod symbol;
@@ -10,5 +11,7 @@ mod symbols;
 mod tree;
 
 pub use fault::StackFault;
+pub use page::read_stack_page;
 pub use rows::Node;
 pub use symbol::{Symbol, Terminal};
+pub use tree::{Place, Tree};

@@ -19,6 +19,7 @@ const MAX_DEPTH: u32 = 512;
 const MAX_TURNS: u32 = 1048577;
 
 /// Reads a stack document into rows, symbol by symbol.
+#[derive(Drop)]
 pub(crate) struct Reader<'a> {
     pub symbols: Symbols<'a>,
     pub rows: Rows,

@@ -7,6 +7,7 @@ use crate::symbol::{Symbol, blanks, next_symbol};
 use std::marker::Model;
 
 /// The symbols of a document that are left to read.
+#[derive(Drop)]
 pub(crate) struct Symbols<'a> {
     rest: &'a [u8],
 }
