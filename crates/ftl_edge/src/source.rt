@@ -79,6 +79,7 @@ pub fn read_all<S: Source>(
 
     // Whatever the answer.
     ensures left { DropsFront (S.remaining source.old) (S.remaining source.new) }
+    ensures at_most { S.taken source.new ≤ S.taken source.old + limit + 1 }
     ensures kept { S.fault_count source.old ≤ S.fault_count source.new }
     ensures turns { S.calls source.new ≤ S.calls source.old + limit + 2 }
 {
