@@ -80,7 +80,8 @@ fn print_field(out: &mut Vec<u8>, area: &Area, attr: u32) -> Result<(), AllocErr
 fn print_fields(out: &mut Vec<u8>, class: u32, area: &Area) -> Result<(), AllocError>
     ensures { OnOk result (out.new.items ≡ out.old.items ++ area_fields class area.now) }
 {
-    for attr in shown(class) {
+    let attrs = shown(class);
+    for attr in attrs {
         print_field(out, area, *attr)?;
     }
     Ok(())
