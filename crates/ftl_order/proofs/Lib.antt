@@ -1,0 +1,5 @@
+pub mod EquationSystem
+pub mod Kids
+pub mod StackLawful
+pub mod StackRank
+pub mod TreeEquations

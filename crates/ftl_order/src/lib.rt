@@ -1,0 +1,8 @@
+//! Why exactly one table solves the equations of a tree: a number that falls along the reads, or an
+//! ordered schedule of passes, which gives one. Goes in: the definitions of `ftl_model`. Comes out:
+//! laws, stated by empty functions, in the words of `specs/`. There is no code here.
+#![tactic(auto)]
+
+mod one_table;
+
+pub use one_table::{exactly_one_stack_table, one_table_by_rank};
