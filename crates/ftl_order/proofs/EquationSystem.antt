@@ -1,5 +1,5 @@
 -- Systems of equations whose reads fall along a rank: each has exactly one solution.
-use Rattle.std.proofs.Common.{◌≡◌, ℕ, zero, suc, ◌<◌, ◌≤◌, refl, sym, ◌∙◌, arith}
+use Rattle.std.proofs.Common.{◌≡◌, ℕ, zero, suc, ◌<◌, sym, ◌∙◌, arith}
 
 -- the value of an equation depends on what it reads alone, and what a valid equation reads is valid
 pub record System (I V : Type 0) : Type 1 where

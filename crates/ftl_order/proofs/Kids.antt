@@ -1,7 +1,7 @@
 -- The kids of a node: a kid is there exactly where its number is below the count, and it fits where the tree fits.
-use Rattle.std.proofs.Common.{◌≡◌, ℕ, zero, suc, ◌+◌, ◌<◌, ◌≤◌, ◌==◌, eqb, Bool, true, false, cond, if◌then◌else◌, refl, sym, subst, eqb-true, arith}
+use Rattle.std.proofs.Common.{◌≡◌, ℕ, zero, suc, ◌+◌, ◌<◌, ◌≤◌, ◌==◌, true, false, if◌then◌else◌, refl, subst, eqb-true, arith}
 use Rattle.ftl_model.specs.Tree.{Forest, none, tree, size, IsTree, class_of, inputs_of, below_of, count_in, from_kid}
-use Rattle.ftl_model.specs.Path.{Path, top, down, at, Has, class_at, kids_at}
+use Rattle.ftl_model.specs.Path.{Path, top, down, at, Has, class_at}
 use Rattle.ftl_model.specs.AttributeGrammar.{AttributeGrammar}
 use Rattle.ftl_model.specs.TreeOf.{FitsClass, FitsChild, FitBelow, IsTreeOf}
 

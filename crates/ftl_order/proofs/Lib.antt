@@ -1,5 +1,7 @@
 pub mod EquationSystem
+pub mod Instances
 pub mod Kids
+pub mod OneList
 pub mod StackLawful
 pub mod StackRank
 pub mod TreeEquations

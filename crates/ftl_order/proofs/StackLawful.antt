@@ -1,13 +1,13 @@
 -- The stack grammar is lawful.
-use Rattle.std.proofs.Common.{◌≡◌, ◌≢◌, ◌⊎◌, ℕ, zero, suc, ◌-◌, ◌<◌, ◌==◌, Bool, true, false, if◌then◌else◌, refl, sym, ap, ap₂, ◌∙◌, inl, inr, lit<, arith, List, [], ◌∷◌, Contains}
+use Rattle.std.proofs.Common.{◌≡◌, ◌≢◌, ◌⊎◌, ℕ, zero, suc, ◌-◌, ◌<◌, ◌==◌, true, false, if◌then◌else◌, refl, ap, ap₂, ◌∙◌, inl, lit<, arith, List, [], ◌∷◌, Contains}
 use Rattle.std.specs.List.{AllByRecursion}
 use Rattle.std.proofs.lemmas.List.Elements.{All-contains, All-from_recursion}
 use Rattle.ftl_model.specs.Folds.{fold_kids}
-use Rattle.ftl_model.specs.Values.{Value, sum_of, greatest_of, number}
-use Rattle.ftl_model.specs.AttributeGrammar.{Rule, Read, self_read, single_read, each_read, prev_read, Occurrence, own, kid, Sees, reads_for, Sort, input, inherited, synthesized, local}
+use Rattle.ftl_model.specs.Values.{sum_of, greatest_of}
+use Rattle.ftl_model.specs.AttributeGrammar.{Read, self_read, single_read, each_read, prev_read, own, kid, reads_for, input, inherited, synthesized, local}
 use Rattle.ftl_model.specs.Solves.{attributes_of}
-use Rattle.ftl_model.specs.Stack.{stack, page, box_x, box_w, only_child, sheet_h, body_origin, column_w, column_h, kids_x, kids_y, word_w, word_h}
-use Rattle.ftl_order.specs.Lawful.{IsLawful, MayReadForSelf, MayReadForChild, IsAlone, IsOwnSort, AreDistinct, OfClass, OfChild}
+use Rattle.ftl_model.specs.Stack.{stack, page, box_x, box_w, sheet_h, body_origin, column_w, column_h, kids_x, kids_y, word_w, word_h}
+use Rattle.ftl_order.specs.Lawful.{IsLawful, MayReadForSelf, MayReadForChild, IsAlone, AreDistinct}
 
 -- what holds of each entry of a list holds of what it contains
 pub each_in : {X : Type 0} (P : X → Type 0) (xs : List X) → AllByRecursion P xs → (x : X) → Contains xs x → P x

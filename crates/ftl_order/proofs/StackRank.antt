@@ -1,18 +1,19 @@
 -- A number that falls along the reads of the stack grammar: sizes by how much stands below, then positions by the way
 -- from the root.
 use Rattle.std.proofs.Common.{◌≡◌, ℕ, zero, suc, ◌+◌, ◌-◌, ◌<◌, ◌≤◌, refl, sym, subst, arith, Contains}
-use Rattle.ftl_model.specs.Tree.{Forest, none, tree, IsTree, size, below_of, from_kid}
+use Rattle.ftl_model.specs.Tree.{Forest, none, tree, size, below_of}
 use Rattle.ftl_model.specs.Path.{Path, top, down, at, Has, class_at, kids_at}
-use Rattle.ftl_model.specs.AttributeGrammar.{Read, self_read, single_read, each_read, prev_read, Occurrence, own, kid, Sees, reads_for, Sort, input, inherited, synthesized, local}
+use Rattle.ftl_model.specs.AttributeGrammar.{Read, self_read, single_read, each_read, prev_read, Occurrence, Sees, reads_for, Sort, input, inherited, synthesized, local}
 use Rattle.ftl_model.specs.TreeOf.{IsTreeOf}
-use Rattle.ftl_model.specs.Solves.{Instance, instance_of, IsInstance, seen_from}
+use Rattle.ftl_model.specs.Solves.{Instance, seen_from}
 use Rattle.ftl_model.specs.Values.{overflow}
 use Rattle.ftl_model.specs.Stack.{stack}
 use Rattle.ftl_order.specs.Lawful.{OfClass}
-use Rattle.ftl_order.specs.Reads.{RuleReads, EquationReads, Reads, FallsAlongReads}
-use Rattle.ftl_order.specs.OneTable.{ExactlyOneTable}
+use Rattle.ftl_order.specs.Reads.{RuleReads, EquationReads, FallsAlongReads}
+use Rattle.ftl_order.specs.OneTable.{ExactlyOneTable, ExactlyOneList}
 use Rattle.ftl_order.proofs.Kids.{kid_size, below_size, has_above, class_known, child_fits}
 use Rattle.ftl_order.proofs.TreeEquations.{inside_by, one_table_by, root_inherits_nothing}
+use Rattle.ftl_order.proofs.OneList.{one_list_by}
 use Rattle.ftl_order.proofs.StackLawful.{stack_lawful, self_rules_have, child_rules_have}
 
 size_below : (f : Forest) → size (below_of f) ≤ size f
@@ -138,3 +139,6 @@ module _ (t : Forest) (fits : IsTreeOf stack t) where
 
   pub one_stack_table : ExactlyOneTable stack t
   one_stack_table = one_table_by stack stack_lawful t fits (stack_rank t) stack_falls overflow
+
+  pub one_stack_list : ExactlyOneList stack t overflow
+  one_stack_list = one_list_by stack stack_lawful t fits overflow one_stack_table

@@ -1,16 +1,16 @@
 -- The equations of a tree of a lawful grammar are a system: each depends on what it reads alone, and reads instances.
-use Rattle.std.proofs.Common.{◌≡◌, ◌⊎◌, ℕ, zero, suc, ◌-◌, ◌<◌, true, false, refl, sym, ◌∙◌, subst, inl, inr, ⊎_elim, arith, List, ◌++◌, Contains}
+use Rattle.std.proofs.Common.{◌≡◌, ℕ, ◌-◌, ◌<◌, refl, sym, subst, inl, inr, ⊎_elim, arith, Contains}
 use Rattle.std.proofs.lemmas.List.Elements.{Contains-append_left, Contains-append_cases}
-use Rattle.ftl_model.specs.Tree.{Forest, IsTree, class_of, below_of, count_in}
+use Rattle.ftl_model.specs.Tree.{Forest, below_of}
 use Rattle.ftl_model.specs.Path.{Path, top, down, at, Has, class_at, kids_at}
-use Rattle.ftl_model.specs.AttributeGrammar.{AttributeGrammar, Rule, Read, self_read, single_read, each_read, this_read, prev_read, last_read, Occurrence, own, kid, Sees, reads_for, Sort, input, inherited, synthesized, local}
+use Rattle.ftl_model.specs.AttributeGrammar.{AttributeGrammar, Read, self_read, single_read, each_read, this_read, prev_read, last_read, Occurrence, Sees, Sort, input, inherited, synthesized, local}
 use Rattle.ftl_model.specs.TreeOf.{IsTreeOf}
-use Rattle.ftl_model.specs.Solves.{Instance, instance_of, IsInstance, seen_from, rule_node, rule_kid, rule_of, equation_value, Solves, attributes_of}
-use Rattle.ftl_order.specs.Lawful.{IsLawful, IsSingle, IsListChild, OfClass, OfChild, MayReadForSelf, MayReadForChild, IsAlone, IsOwnSort}
+use Rattle.ftl_model.specs.Solves.{Instance, instance_of, IsInstance, seen_from, equation_value}
+use Rattle.ftl_order.specs.Lawful.{IsLawful, IsSingle, OfClass, OfChild, MayReadForSelf, MayReadForChild, IsOwnSort}
 use Rattle.ftl_order.specs.Reads.{RuleReads, EquationReads, Reads, FallsAlongReads}
 use Rattle.ftl_order.specs.OneTable.{ExactlyOneTable}
 use Rattle.ftl_order.proofs.Kids.{kid_exists, kid_counted, has_above, node_fits, child_fits, class_known, root_interface}
-use Rattle.ftl_order.proofs.EquationSystem.{System, Solution, Falls, solutions_agree, solution, solution_solves}
+use Rattle.ftl_order.proofs.EquationSystem.{System, solutions_agree, solution, solution_solves}
 
 -- an inherited attribute of a class is one of its interface
 pub inherited_is_shared : {V : Type 0} (g : AttributeGrammar V) → IsLawful g → (k a : ℕ) → k < g.class_count → OfClass g k a

@@ -27,6 +27,11 @@ OneTableByRank =
     (g : AttributeGrammar Value) (t : Forest) → IsLawful g → IsTreeOf g t
     → (rank : Instance → ℕ) → FallsAlongReads g t rank → ExactlyOneTable g t
 
+abbrev pub OneListByRank : Type 0
+OneListByRank =
+    (g : AttributeGrammar Value) (t : Forest) → IsLawful g → IsTreeOf g t
+    → (rank : Instance → ℕ) → FallsAlongReads g t rank → ExactlyOneList g t overflow
+
 -- of each tree of the stack grammar
 abbrev pub OneStackTable : Type 0
 OneStackTable = (t : Forest) → IsTreeOf stack t → ExactlyOneTable stack t

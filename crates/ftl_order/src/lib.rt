@@ -5,4 +5,6 @@
 
 mod one_table;
 
-pub use one_table::{exactly_one_stack_table, one_table_by_rank};
+pub use one_table::{
+    exactly_one_stack_list, exactly_one_stack_table, one_list_by_rank, one_table_by_rank,
+};
