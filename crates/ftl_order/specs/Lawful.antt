@@ -50,10 +50,10 @@ IsAlone {V} rule place =
 abbrev pub IsOwnSort : Sort → Type 0
 IsOwnSort sort = (sort ≡ synthesized) ⊎ (sort ≡ local)
 
--- no number stands twice
-abbrev pub AreDistinct : List ℕ → Type 0
+-- no entry stands twice
+abbrev pub AreDistinct : {X : Type 0} → List X → Type 0
 AreDistinct [] = Unit {0}
-AreDistinct (n ∷ ns) = (Contains ns n → ⊥) × AreDistinct ns
+AreDistinct (x ∷ xs) = (Contains xs x → ⊥) × AreDistinct xs
 
 -- The interfaces share inputs, inherited and synthesized attributes, and the root's has none that is inherited; a class
 -- adds inputs and locals. A class has no attribute twice. Each rule reads what it may, and depends on it alone.

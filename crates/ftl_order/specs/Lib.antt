@@ -1,3 +1,7 @@
 pub mod Lawful
+pub mod LegalOrder
 pub mod OneTable
+pub mod Ordered
+pub mod Pairs
 pub mod Reads
+pub mod Schedule
