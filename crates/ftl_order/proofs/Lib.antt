@@ -1,8 +1,14 @@
 pub mod EquationSystem
 pub mod Instances
 pub mod Kids
+pub mod LegalOrders
+pub mod Lists
 pub mod Near
 pub mod OneList
+pub mod OrderRank
+pub mod Runs
+pub mod Scheduled
 pub mod StackLawful
 pub mod StackRank
 pub mod TreeEquations
+pub mod Weights

@@ -1,7 +1,7 @@
 -- Which step must come before which, and the orders of all steps that keep to it.
-use Rattle.std.specs.Prelude.{◌≡◌, ◌≢◌, ◌⊎◌, ℕ, zero, suc, ◌<◌, List, [], ◌∷◌, length, Option, Some, slice_index_or, slice_set, Contains}
+use Rattle.std.specs.Prelude.{◌≡◌, ◌≢◌, ◌⊎◌, ℕ, ◌<◌, List, [], ◌∷◌, length, Some, slice_index_or, slice_set, HoldsAt, Contains}
 use Rattle.ftl_model.specs.Tree.{Forest}
-use Rattle.ftl_model.specs.Path.{Path, top, down, parent_of, Above}
+use Rattle.ftl_model.specs.Path.{Path, top, down, parent_of, Above, class_at, inputs_at}
 use Rattle.ftl_model.specs.AttributeGrammar.{AttributeGrammar, Sort, input, inherited, synthesized, local}
 use Rattle.ftl_model.specs.Solves.{Instance, IsInstance, rule_node, rule_kid, equation_value}
 use Rattle.ftl_model.specs.Table.{instance_number, value_in}
@@ -101,12 +101,18 @@ pub record IsLegalOrder {V : Type 0} (g : AttributeGrammar V) (at : Placing) (t 
 -- i stands before j
 abbrev pub StandsBefore : List Instance → Instance → Instance → Type 0
 StandsBefore order i j =
-    (m : ℕ) × (n : ℕ) × (m < n) × (n < length order) × (slice_index_or order m j ≡ i) × (slice_index_or order n i ≡ j)
+    (m : ℕ) × (n : ℕ) × (m < n) × (n < length order) × HoldsAt (λ x. x ≡ i) order m × HoldsAt (λ x. x ≡ j) order n
 
 -- the values after the steps of an order have been computed one after the other
 abbrev pub run : {V : Type 0} → AttributeGrammar V → Forest → V → List Instance → List V → List V
 run g t missing [] values = values
 run g t missing (i ∷ order) values =
     run g t missing order
-      (slice_set values (instance_number g t i)
-        (equation_value g t (value_in g t missing values) (g.sort i.attribute) i.node i.attribute))
+    (slice_set values (instance_number g t i)
+    (equation_value g t (value_in g t missing values) (g.sort i.attribute) i.node i.attribute))
+
+-- the values have each input's number from the document
+abbrev pub HoldsInputs : {V : Type 0} → AttributeGrammar V → Forest → V → List V → Type 0
+HoldsInputs g t missing values =
+    (i : Instance) → IsInstance g t i → g.sort i.attribute ≡ input
+    → value_in g t missing values i ≡ g.given (class_at t i.node) i.attribute (inputs_at t i.node)

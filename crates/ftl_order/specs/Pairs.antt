@@ -1,6 +1,6 @@
 -- Pairs of a read and a rule that writes what is read. They speak of rules and of no tree.
-use Rattle.std.specs.Prelude.{◌≡◌, ◌⊎◌, ℕ, ◌<◌, Bool, true, false, List, Contains}
-use Rattle.ftl_model.specs.AttributeGrammar.{AttributeGrammar, Rule, Read, self_read, single_read, each_read, this_read, prev_read, last_read, Sort, input, inherited, synthesized, local}
+use Rattle.std.specs.Prelude.{◌≡◌, ◌⊎◌, ℕ, ◌<◌, Bool, true, false, Contains}
+use Rattle.ftl_model.specs.AttributeGrammar.{AttributeGrammar, Read, self_read, single_read, each_read, this_read, prev_read, last_read, Sort, input, inherited, synthesized, local}
 use Rattle.ftl_order.specs.Lawful.{IsOwnSort, OfClass, OfChild}
 
 -- a rule, by the class that has it: for an attribute of the node itself, or of its kids in a child

@@ -1,5 +1,5 @@
 -- Schedules: stages one after the other, each with passes beside each other, each with a list of attributes.
-use Rattle.std.specs.Prelude.{◌≡◌, ◌≢◌, ◌⊎◌, ℕ, zero, suc, ◌<◌, Bool, true, false, ◌==◌, if◌then◌else◌, List, [], ◌∷◌, count_by, flat_map, slice_index_or, Contains}
+use Rattle.std.specs.Prelude.{◌≡◌, ◌≢◌, ◌⊎◌, ℕ, suc, ◌<◌, Bool, true, false, ◌==◌, if◌then◌else◌, List, [], ◌∷◌, count_by, flat_map, slice_index_or, Contains}
 use Rattle.ftl_model.specs.AttributeGrammar.{AttributeGrammar, input}
 use Rattle.ftl_model.specs.Table.{place_in}
 

@@ -3,8 +3,10 @@
 //! laws, stated by empty functions, in the words of `specs/`. There is no code here.
 #![tactic(auto)]
 
+mod legal_order;
 mod one_table;
 
+pub use legal_order::{exactly_one_table, legal_orders, ordered_reads, runs_end_in_the_table};
 pub use one_table::{
     exactly_one_stack_list, exactly_one_stack_table, one_list_by_rank, one_table_by_rank,
 };
