@@ -166,3 +166,14 @@ module _ {V : Type 0} (g : AttributeGrammar V) (t : Forest) where
             ∙ ap (λ m. m + j) (sym (before_row (take i (preorder t))))
             ∙ piece.is;
       }
+
+  -- what stands at a place of the list is an instance, and has that number
+  pub instance_here : IsLawful g → IsTreeOf g t → (n : ℕ) (d : Instance) → n < instance_count g t
+      → IsInstance g t (get_or (instances g t) n d) × (instance_number g t (get_or (instances g t) n d) ≡ n)
+  instance_here law fits n d below =
+      let here = numbered law fits n below in
+      let i = here.instance in
+      let is : get_or (instances g t) n d ≡ i =
+      ap (λ m. get_or (instances g t) m d) (sym here.number)
+      ∙ instance_at_number i.node i.attribute d here.valid.0 here.valid.1 in
+      (subst (IsInstance g t) (sym is) here.valid, ap (instance_number g t) is ∙ here.number)

@@ -12,10 +12,11 @@ use Rattle.ftl_order.specs.Reads.{Reads}
 use Rattle.ftl_order.specs.Schedule.{Schedule, Placing, HasOneKind, spot_of, pass_at}
 use Rattle.ftl_order.specs.Ordered.{EachPairOrdered}
 use Rattle.ftl_order.specs.LegalOrder.{IsStep, MustPrecede, IsLegalOrder, StandsBefore}
-use Rattle.ftl_order.proofs.Instances.{length-instances, instance_at_number, numbered}
+use Rattle.ftl_order.proofs.Instances.{length-instances, instance_here}
 use Rattle.ftl_order.proofs.Lists.{distinct_by_number, in_filter, filter_has, distinct-filter, sorted_by, in_sorted, sorted_has, distinct-sorted, sorted_rises}
 use Rattle.ftl_order.proofs.TreeEquations.{inside_by}
-use Rattle.ftl_order.proofs.Near.{reads_near, near_precedes}
+use Rattle.ftl_order.proofs.Near.{reads_near}
+use Rattle.ftl_order.proofs.Rows.{near_precedes}
 use Rattle.ftl_order.proofs.OrderRank.{step_rank, step_rises, is_listed_instance}
 
 -- the attributes of one stage and pass stand in one pass
@@ -91,16 +92,6 @@ module _ {V : Type 0} (g : AttributeGrammar V) (at : Placing) (t : Forest) (one_
         (λ d. get_or_default order ci.0 d i ci.1 ∙ ci.2),
       )
 
-  instance_here : (n : ℕ) (d : Instance) → n < length (instances g t)
-      → IsInstance g t (get_or (instances g t) n d) × (instance_number g t (get_or (instances g t) n d) ≡ n)
-  instance_here n d below =
-      let here = numbered g t law fits n (let e = length-instances g t in omega (arith, e, below)) in
-      let i = here.instance in
-      let is : get_or (instances g t) n d ≡ i =
-      ap (λ m. get_or (instances g t) m d) (sym here.number)
-      ∙ instance_at_number g t i.node i.attribute d here.valid.0 here.valid.1 in
-      (subst (IsInstance g t) (sym is) here.valid, ap (instance_number g t) is ∙ here.number)
-
   abbrev steps : List Instance
   steps = filter (λ i. is_computed (g.sort i.attribute)) (instances g t)
 
@@ -108,7 +99,7 @@ module _ {V : Type 0} (g : AttributeGrammar V) (at : Placing) (t : Forest) (one_
   order_by_rank = sorted_by (step_rank g at t) steps
 
   listed_valid : (i : Instance) → Contains (instances g t) i → IsInstance g t i
-  listed_valid i h = subst (IsInstance g t) h.2 (instance_here h.0 i h.1).0
+  listed_valid i h = subst (IsInstance g t) h.2 (instance_here g t law fits h.0 i (let b = h.1 in let e = length-instances g t in omega (arith, e, b))).0
 
   order_steps : (i : Instance) → Contains order_by_rank i → IsStep g t i
   order_steps i h =
@@ -128,7 +119,7 @@ module _ {V : Type 0} (g : AttributeGrammar V) (at : Placing) (t : Forest) (one_
             distinct-sorted (step_rank g at t) steps
             (distinct-filter (λ x. is_computed (g.sort x.attribute)) (instances g t)
             (distinct_by_number (instance_number g t) (instances g t) 0
-            (λ n d below. (instance_here n d below).1 ∙ (let z : n ≡ 0 + n = omega arith in z))));
+            (λ n d below. (instance_here g t law fits n d (let e = length-instances g t in omega (arith, e, below))).1 ∙ (let z : n ≡ 0 + n = omega arith in z))));
         legal = λ m n d less below first.
             let there = order_steps (get_or order_by_rank n d) (n, below, get_or_default order_by_rank n (get_or order_by_rank n d) d below) in
             let up = step_rises g at t one_kind (get_or order_by_rank n d) (get_or order_by_rank m d) there.0 first in

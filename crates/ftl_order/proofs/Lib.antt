@@ -6,6 +6,8 @@ pub mod Lists
 pub mod Near
 pub mod OneList
 pub mod OrderRank
+pub mod Ranges
+pub mod Rows
 pub mod Runs
 pub mod Scheduled
 pub mod StackLawful

@@ -15,7 +15,8 @@ use Rattle.ftl_order.proofs.Kids.{kid_size, below_size, has_above}
 use Rattle.ftl_order.proofs.Instances.{length-instances, instance_at_number, number_within}
 use Rattle.ftl_order.proofs.TreeEquations.{inside_by}
 use Rattle.ftl_order.proofs.Weights.{weight, before_weight, sum_of_all, all_below, total_by, at_most_total_of}
-use Rattle.ftl_order.proofs.Near.{reads_near, near_precedes}
+use Rattle.ftl_order.proofs.Near.{reads_near}
+use Rattle.ftl_order.proofs.Rows.{near_precedes}
 
 abbrev pub depth_of : Path → ℕ
 depth_of top = 0

@@ -1,5 +1,6 @@
 pub mod Lawful
 pub mod LegalOrder
+pub mod Numbers
 pub mod OneTable
 pub mod Ordered
 pub mod OrderLaws
