@@ -1,3 +1,4 @@
+pub mod ChainLaws
 pub mod EquationSystem
 pub mod Instances
 pub mod Kids
@@ -11,6 +12,8 @@ pub mod Rows
 pub mod Runs
 pub mod Scheduled
 pub mod StackLawful
+pub mod StackPairs
 pub mod StackRank
 pub mod TreeEquations
 pub mod Weights
+pub mod WorkedPairs

@@ -153,7 +153,7 @@ stack_private_sorts (suc (suc zero)) a known =
 stack_private_sorts (suc (suc (suc k))) a known = absurd (let z : ⊥ = omega (arith, known) in z)
 
 -- a number that differs from each entry is not among them
-not_among : (n : ℕ) (ns : List ℕ) → AllByRecursion (λ x. x ≢ n) ns → Contains ns n → ⊥
+pub not_among : (n : ℕ) (ns : List ℕ) → AllByRecursion (λ x. x ≢ n) ns → Contains ns n → ⊥
 not_among n ns h in_it = each_in (λ x. x ≢ n) ns h n in_it refl
 
 stack_distinct : (k : ℕ) → k < 3 → AreDistinct (attributes_of stack k)

@@ -1,9 +1,11 @@
+pub mod Chain
 pub mod Lawful
 pub mod LegalOrder
 pub mod Numbers
 pub mod OneTable
-pub mod Ordered
 pub mod OrderLaws
+pub mod Ordered
 pub mod Pairs
 pub mod Reads
 pub mod Schedule
+pub mod WorkedSchedules

@@ -6,9 +6,14 @@
 mod legal_order;
 mod numbers;
 mod one_table;
+mod worked;
 
 pub use legal_order::{exactly_one_table, legal_orders, ordered_reads, runs_end_in_the_table};
 pub use numbers::{instance_numbers, preorder_numbers, subtree_ranges};
 pub use one_table::{
     exactly_one_stack_list, exactly_one_stack_table, one_list_by_rank, one_table_by_rank,
+};
+pub use worked::{
+    a_chain_of_three, accepted_schedules, refused_schedules, the_pairs_of_stack,
+    worked_grammars_are_lawful,
 };
