@@ -23,7 +23,7 @@ in_tail y x ys differ h = go h.0 h.1 h.2
     go zero below e = absurd (differ (sym e))
     go (suc k) below e = (k, let z : k < length ys = omega (arith, below) in z, e)
 
-place_within : (xs : List ℕ) (x : ℕ) → Contains xs x → place_in xs x < length xs
+pub place_within : (xs : List ℕ) (x : ℕ) → Contains xs x → place_in xs x < length xs
 place_within [] x h = absurd (let b = h.1 in let z : ⊥ = omega (arith, b) in z)
 place_within (y ∷ ys) x h =
     elim (x == y) as (λ b. (x == y ≡ b) → (if b then 0 else suc (place_in ys x)) < suc (length ys)) [
@@ -34,7 +34,7 @@ place_within (y ∷ ys) x h =
     ]
     refl
 
-place_is : (xs : List ℕ) (x d : ℕ) → Contains xs x → get_or xs (place_in xs x) d ≡ x
+pub place_is : (xs : List ℕ) (x d : ℕ) → Contains xs x → get_or xs (place_in xs x) d ≡ x
 place_is [] x d h = absurd (let b = h.1 in let z : ⊥ = omega (arith, b) in z)
 place_is (y ∷ ys) x d h =
     elim (x == y) as (λ b. (x == y ≡ b) → get_or (y ∷ ys) (if b then 0 else suc (place_in ys x)) d ≡ x) [

@@ -11,9 +11,10 @@ use Rattle.ftl_order.specs.Lawful.{IsLawful}
 use Rattle.ftl_order.specs.Reads.{Reads}
 use Rattle.ftl_order.specs.Schedule.{Schedule, Placing, HasOneKind, spot_of, pass_at}
 use Rattle.ftl_order.specs.Ordered.{EachPairOrdered}
+use Rattle.ftl_order.specs.Sequence.{sorted_by}
 use Rattle.ftl_order.specs.LegalOrder.{IsStep, MustPrecede, IsLegalOrder, StandsBefore}
 use Rattle.ftl_order.proofs.Instances.{length-instances, instance_here}
-use Rattle.ftl_order.proofs.Lists.{distinct_by_number, in_filter, filter_has, distinct-filter, sorted_by, in_sorted, sorted_has, distinct-sorted, sorted_rises}
+use Rattle.ftl_order.proofs.Lists.{distinct_by_number, in_filter, filter_has, distinct-filter, in_sorted, sorted_has, distinct-sorted, sorted_rises}
 use Rattle.ftl_order.proofs.TreeEquations.{inside_by}
 use Rattle.ftl_order.proofs.Near.{reads_near}
 use Rattle.ftl_order.proofs.Rows.{near_precedes}

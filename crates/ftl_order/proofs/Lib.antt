@@ -8,9 +8,13 @@ pub mod Near
 pub mod OneList
 pub mod OrderRank
 pub mod Ranges
+pub mod Rising
 pub mod Rows
 pub mod Runs
 pub mod Scheduled
+pub mod SequenceHas
+pub mod SequenceRises
+pub mod Spots
 pub mod StackLawful
 pub mod StackPairs
 pub mod StackRank

@@ -1,6 +1,7 @@
 -- Lists without repetition, and lists put in order by a number.
 use Rattle.std.proofs.Common.{◌≡◌, ◌⊎◌, ℕ, zero, suc, ◌+◌, ◌<◌, ◌≤◌, Bool, true, false, leb, cond, if◌then◌else◌, refl, sym, ◌∙◌, ap, subst, inl, inr, ⊎_elim, arith, leb-true, leb-false, List, [], ◌∷◌, length, get_or, filter, Contains}
 use Rattle.std.proofs.lemmas.List.{get_or_default}
+use Rattle.ftl_order.specs.Sequence.{insert_by, sorted_by}
 use Rattle.ftl_order.specs.Lawful.{AreDistinct}
 
 pub nothing_in : {X : Type 0} (x : X) → Contains [] x → ⊥
@@ -63,15 +64,6 @@ distinct-filter p (x ∷ xs) h =
     elim (p x) as (λ b. AreDistinct (cond b (x ∷ filter p xs) (filter p xs)))
     [ true ↦ ((λ again. h.0 (in_filter p xs x again).0), distinct-filter p xs h.1) | false ↦ distinct-filter p xs h.1 ]
 
--- put where the number is not smaller than those before
-abbrev insert_by : {X : Type 0} → (X → ℕ) → X → List X → List X
-insert_by f x [] = x ∷ []
-insert_by f x (y ∷ ys) = if leb (f x) (f y) then x ∷ (y ∷ ys) else y ∷ insert_by f x ys
-
-abbrev pub sorted_by : {X : Type 0} → (X → ℕ) → List X → List X
-sorted_by f [] = []
-sorted_by f (x ∷ xs) = insert_by f x (sorted_by f xs)
-
 in_insert : {X : Type 0} (f : X → ℕ) (x : X) (ys : List X) (z : X) → Contains (insert_by f x ys) z → (x ≡ z) ⊎ Contains ys z
 in_insert f x [] z h = in_cases x z [] h
 in_insert f x (y ∷ ys) z h =
@@ -125,7 +117,7 @@ distinct-sorted f (x ∷ xs) h =
     distinct-insert f x (sorted_by f xs) (λ old. h.0 (in_sorted f xs x old)) (distinct-sorted f xs h.1)
 
 -- no entry has a smaller number than one before it
-abbrev Rises : {X : Type 0} → (X → ℕ) → List X → Type 0
+abbrev pub Rises : {X : Type 0} → (X → ℕ) → List X → Type 0
 Rises f [] = Unit {0}
 Rises {X} f (x ∷ xs) = ((y : X) → Contains xs y → f x ≤ f y) × Rises f xs
 
@@ -148,7 +140,7 @@ rises-insert f x (y ∷ ys) h = go (leb (f x) (f y)) refl (rises-insert f x ys h
           i,
         )
 
-rises-sorted : {X : Type 0} (f : X → ℕ) (xs : List X) → Rises f (sorted_by f xs)
+pub rises-sorted : {X : Type 0} (f : X → ℕ) (xs : List X) → Rises f (sorted_by f xs)
 rises-sorted f [] = tt
 rises-sorted f (x ∷ xs) = rises-insert f x (sorted_by f xs) (rises-sorted f xs)
 

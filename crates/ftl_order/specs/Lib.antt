@@ -8,4 +8,5 @@ pub mod Ordered
 pub mod Pairs
 pub mod Reads
 pub mod Schedule
+pub mod Sequence
 pub mod WorkedSchedules

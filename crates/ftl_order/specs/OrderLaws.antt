@@ -1,6 +1,6 @@
 -- What an ordered schedule gives: the writer of each read stands before the reader, a legal order exists, exactly one
 -- table solves, and a run along any legal order ends in it. It speaks of the project's values.
-use Rattle.std.specs.Prelude.{◌≡◌, ◌≢◌, List, length}
+use Rattle.std.specs.Prelude.{◌≡◌, ◌≢◌, ◌↔◌, List, length}
 use Rattle.ftl_model.specs.Values.{Value, overflow}
 use Rattle.ftl_model.specs.Tree.{Forest}
 use Rattle.ftl_model.specs.AttributeGrammar.{AttributeGrammar, input}
@@ -9,9 +9,10 @@ use Rattle.ftl_model.specs.Solves.{Instance}
 use Rattle.ftl_model.specs.Table.{instance_count, SolvesList}
 use Rattle.ftl_order.specs.Lawful.{IsLawful}
 use Rattle.ftl_order.specs.Reads.{Reads}
-use Rattle.ftl_order.specs.Schedule.{Schedule, spot_of}
+use Rattle.ftl_order.specs.Schedule.{inorder, Schedule, IsOnePass, spot_of}
 use Rattle.ftl_order.specs.Ordered.{IsOrdered}
 use Rattle.ftl_order.specs.LegalOrder.{IsStep, IsNearBefore, MustPrecede, IsLegalOrder, StandsBefore, HoldsInputs, run}
+use Rattle.ftl_order.specs.Sequence.{sequence}
 use Rattle.ftl_order.specs.OneTable.{ExactlyOneTable, ExactlyOneList}
 
 -- of each tree of a lawful grammar, under each schedule that is ordered for it
@@ -51,3 +52,10 @@ RunsEndInTheTable g s t =
     (order : List Instance) → IsLegalOrder g (spot_of s) t order
     → (values : List Value) → length values ≡ instance_count g t → HoldsInputs g t overflow values
     → SolvesList g t overflow (run g t overflow order values)
+
+-- of two steps of an inorder pass one must precede the other exactly where it stands before it in the pass's sequence
+abbrev pub InorderStepsStandInSequence : AttributeGrammar Value → Schedule → Forest → Type 0
+InorderStepsStandInSequence g s t =
+    (i j : Instance) → IsStep g t i → IsStep g t j
+    → IsOnePass (spot_of s i.attribute) (spot_of s j.attribute) → (spot_of s j.attribute).kind ≡ inorder
+    → MustPrecede g (spot_of s) i j ↔ StandsBefore (sequence g (spot_of s) (spot_of s j.attribute) t) i j

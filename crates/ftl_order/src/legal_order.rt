@@ -1,4 +1,4 @@
-ghost use Rattle.ftl_order.specs.OrderLaws.{UnderOrderedSchedules, WritersStandNear, WritersPrecede, WritersStandBefore, LegalOrderExists, OneTableSolves, OneListSolves, RunsEndInTheTable};
+ghost use Rattle.ftl_order.specs.OrderLaws.{UnderOrderedSchedules, WritersStandNear, WritersPrecede, WritersStandBefore, LegalOrderExists, OneTableSolves, OneListSolves, InorderStepsStandInSequence, RunsEndInTheTable};
 
 /// A law: under an ordered schedule what a step reads is an input, or its writer stands near before
 /// it and must precede it, on every tree.
@@ -23,4 +23,9 @@ pub fn exactly_one_table()
 /// A law: computing the steps in any legal order ends in the values that solve.
 pub fn runs_end_in_the_table()
     ensures solves { UnderOrderedSchedules RunsEndInTheTable }
+{}
+
+/// A law: the order of the steps of an inorder pass is that of its sequence.
+pub fn inorder_sequences()
+    ensures sequence { UnderOrderedSchedules InorderStepsStandInSequence }
 {}

@@ -8,7 +8,9 @@ mod numbers;
 mod one_table;
 mod worked;
 
-pub use legal_order::{exactly_one_table, legal_orders, ordered_reads, runs_end_in_the_table};
+pub use legal_order::{
+    exactly_one_table, inorder_sequences, legal_orders, ordered_reads, runs_end_in_the_table,
+};
 pub use numbers::{instance_numbers, preorder_numbers, subtree_ranges};
 pub use one_table::{
     exactly_one_stack_list, exactly_one_stack_table, one_list_by_rank, one_table_by_rank,

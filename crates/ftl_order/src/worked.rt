@@ -4,7 +4,8 @@ ghost use Rattle.ftl_model.specs.Stack.{stack, column, box_h};
 ghost use Rattle.ftl_model.specs.TreeOf.{IsTreeOf};
 ghost use Rattle.ftl_model.specs.Worked.{numbers};
 ghost use Rattle.ftl_order.specs.Lawful.{IsLawful};
-ghost use Rattle.ftl_order.specs.Schedule.{EachStandsOnce};
+ghost use Rattle.ftl_order.specs.Schedule.{EachStandsOnce, spot_of};
+ghost use Rattle.ftl_order.specs.Sequence.{sequence};
 ghost use Rattle.ftl_order.specs.Pairs.{for_self, Pair, IsPair};
 ghost use Rattle.ftl_order.specs.Ordered.{IsOrdered};
 ghost use Rattle.ftl_order.specs.LegalOrder.{run};
@@ -44,6 +45,7 @@ pub fn refused_schedules()
 /// A law: the chain's steps, kid by kid, compute its table.
 pub fn a_chain_of_three()
     ensures tree { IsTreeOf chain three_kids }
+    ensures sequence { sequence chain (spot_of chain_inorder) (spot_of chain_inorder 0) three_kids ≡ chain_order }
     ensures values { run chain three_kids overflow chain_order (numbers (0 ∷ (0 ∷ (0 ∷ (0 ∷ (0 ∷ (0 ∷ [])))))))
         ≡ numbers (1 ∷ (2 ∷ (2 ∷ (3 ∷ (3 ∷ (5 ∷ [])))))) }
 {}
