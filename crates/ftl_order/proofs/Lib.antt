@@ -21,3 +21,4 @@ pub mod StackRank
 pub mod TreeEquations
 pub mod Weights
 pub mod WorkedPairs
+pub mod WorkedReads

@@ -3,7 +3,7 @@ use Rattle.std.proofs.Common.{refl, inl, inr, ⊎_elim, lit<, arith}
 use Rattle.ftl_model.specs.Stack.{stack, column, box_h}
 use Rattle.ftl_order.specs.Schedule.{EachStandsOnce}
 use Rattle.ftl_order.specs.Pairs.{for_self, IsPair}
-use Rattle.ftl_order.specs.WorkedSchedules.{heights_topdown, places_beside, width_twice, y_missing, sheet_reads_height, column_reads_height, slanted, slanted_pair, Orders, LeavesUnordered}
+use Rattle.ftl_order.specs.WorkedSchedules.{heights_topdown, places_beside, places_first, width_twice, y_missing, sheet_reads_height, column_reads_height, kids_read_prev_h, slanted, slanted_pair, Orders, LeavesUnordered}
 use Rattle.ftl_order.specs.Chain.{chain, chain_topdown, chain_inorder, a_reads_b}
 use Rattle.ftl_order.proofs.StackPairs.{listed_pairs}
 
@@ -15,6 +15,12 @@ heights_unordered = (
 
 pub sheet_ordered : Orders stack heights_topdown (sheet_reads_height (for_self column box_h))
 sheet_ordered = (listed_pairs (sheet_reads_height (for_self column box_h)) (0, lit< tt, refl), inl (lit< tt))
+
+pub places_first_unordered : LeavesUnordered stack places_first (kids_read_prev_h (for_self column box_h))
+places_first_unordered = (
+  listed_pairs (kids_read_prev_h (for_self column box_h)) (11, lit< tt, refl),
+  λ h. ⊎_elim (λ stage. (let z : ⊥ = omega (arith, stage) in z)) (λ row. let one = row.0.0 in omega (arith, one)) h,
+)
 
 pub slanted_unordered : LeavesUnordered slanted places_beside slanted_pair
 slanted_unordered = (

@@ -9,4 +9,6 @@ pub mod Pairs
 pub mod Reads
 pub mod Schedule
 pub mod Sequence
+pub mod WorkedRows
 pub mod WorkedSchedules
+pub mod WorkedSteps

@@ -38,6 +38,10 @@ width_twice = stage bottomup (page_h ∷ (box_w ∷ (box_h ∷ (box_w ∷ []))))
 abbrev pub y_missing : Schedule
 y_missing = stage bottomup (page_h ∷ (box_w ∷ (box_h ∷ []))) ∷ (stage topdown (box_x ∷ []) ∷ [])
 
+-- topdown { Box.x Box.y } ; bottomup { Page.h Box.w Box.h }
+abbrev pub places_first : Schedule
+places_first = stage topdown (box_x ∷ (box_y ∷ [])) ∷ (stage bottomup (page_h ∷ (box_w ∷ (box_h ∷ []))) ∷ [])
+
 abbrev pub pair_of : RuleName → Where → RuleName → Read → Pair
 pair_of reader place writer read = record { reader = reader; read = read; writer = writer; place = place }
 
