@@ -22,3 +22,4 @@ pub mod TreeEquations
 pub mod Weights
 pub mod WorkedPairs
 pub mod WorkedReads
+pub mod WorkedOrders

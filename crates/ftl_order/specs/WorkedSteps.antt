@@ -72,3 +72,30 @@ two_words_order =
     ∷ (instance_of first_word box_y
     ∷ (instance_of second_word box_y
     ∷ []))))))))))))
+
+-- A sheet over an empty column has five steps. Under bottomup { Page.h Box.w Box.h } ; topdown { Box.x } || topdown
+-- { Box.y } the two positions stand beside each other.
+abbrev pub x_first : List Instance
+x_first =
+    instance_of the_column box_w
+    ∷ (instance_of the_column box_h
+    ∷ (instance_of the_sheet page_h ∷ (instance_of the_column box_x ∷ (instance_of the_column box_y ∷ []))))
+
+abbrev pub y_first : List Instance
+y_first =
+    instance_of the_column box_w
+    ∷ (instance_of the_column box_h
+    ∷ (instance_of the_sheet page_h ∷ (instance_of the_column box_y ∷ (instance_of the_column box_x ∷ []))))
+
+-- the sheet's height before the column's, which it reads
+abbrev pub sheet_first : List Instance
+sheet_first =
+    instance_of the_column box_w
+    ∷ (instance_of the_sheet page_h
+    ∷ (instance_of the_column box_h ∷ (instance_of the_column box_x ∷ (instance_of the_column box_y ∷ []))))
+
+-- one step is missing
+abbrev pub without_y : List Instance
+without_y =
+    instance_of the_column box_w
+    ∷ (instance_of the_column box_h ∷ (instance_of the_sheet page_h ∷ (instance_of the_column box_x ∷ [])))

@@ -16,6 +16,6 @@ pub use one_table::{
     exactly_one_stack_list, exactly_one_stack_table, one_list_by_rank, one_table_by_rank,
 };
 pub use worked::{
-    a_chain_of_three, accepted_schedules, refused_schedules, rows_of_ordered_reads,
-    steps_of_two_words, the_pairs_of_stack, worked_grammars_are_lawful,
+    a_chain_of_three, accepted_schedules, legal_orders_of_an_empty_column, refused_schedules,
+    rows_of_ordered_reads, steps_of_two_words, the_pairs_of_stack, worked_grammars_are_lawful,
 };

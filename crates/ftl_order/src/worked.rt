@@ -5,17 +5,17 @@ ghost use Rattle.ftl_model.specs.Solves.{Instance, instance_of};
 ghost use Rattle.ftl_model.specs.Stack.{stack, column, word, box_y, box_h, word_iw};
 ghost use Rattle.ftl_model.specs.TreeOf.{IsTreeOf};
 ghost use Rattle.ftl_model.specs.AttributeGrammar.{self_read};
-ghost use Rattle.ftl_model.specs.Worked.{numbers, two_words, two_words_values};
+ghost use Rattle.ftl_model.specs.Worked.{numbers, empty_column, two_words, two_words_values};
 ghost use Rattle.ftl_order.specs.Lawful.{IsLawful};
 ghost use Rattle.ftl_order.specs.Schedule.{EachStandsOnce, spot_of};
 ghost use Rattle.ftl_order.specs.Sequence.{sequence};
 ghost use Rattle.ftl_order.specs.Reads.{Reads};
 ghost use Rattle.ftl_order.specs.Pairs.{for_self, Where, RuleName, Writes, Pair, IsPair};
 ghost use Rattle.ftl_order.specs.Ordered.{IsOrdered};
-ghost use Rattle.ftl_order.specs.LegalOrder.{run};
+ghost use Rattle.ftl_order.specs.LegalOrder.{IsLegalOrder, run};
 ghost use Rattle.ftl_order.specs.WorkedSchedules.{sizes_then_places, places_beside, heights_topdown, places_first, width_twice, y_missing, kids_read_prev_h, sheet_reads_height, column_reads_height, stack_pairs, slanted, slanted_pair, Orders, LeavesUnordered};
 ghost use Rattle.ftl_order.specs.WorkedRows.{IsOrderedCase, ordered_rows, refused_rows};
-ghost use Rattle.ftl_order.specs.WorkedSteps.{the_column, first_word, second_word, MustBe, IsFree, in_order, in_no_order, two_words_order};
+ghost use Rattle.ftl_order.specs.WorkedSteps.{the_column, first_word, second_word, MustBe, IsFree, in_order, in_no_order, two_words_order, x_first, y_first, sheet_first, without_y};
 ghost use Rattle.ftl_order.specs.Chain.{chain, chain_topdown, chain_inorder, a_reads_b, three_kids, chain_order};
 
 /// A law: the stack grammar and the chain grammar are lawful.
@@ -77,4 +77,13 @@ pub fn steps_of_two_words()
     ensures values { run stack two_words overflow two_words_order
         (numbers (0 ∷ (0 ∷ (0 ∷ (0 ∷ (0 ∷ (0 ∷ (0 ∷ (0 ∷ (0 ∷ (20 ∷ (10 ∷ (0 ∷ (0 ∷ (0 ∷ (0 ∷ (30 ∷ (15 ∷ []))))))))))))))))))
         ≡ two_words_values }
+{}
+
+/// A law: passes beside each other may be done in either order; what reads comes last, and no step
+/// is left out.
+pub fn legal_orders_of_an_empty_column()
+    ensures x_first { IsLegalOrder stack (spot_of places_beside) empty_column x_first }
+    ensures y_first { IsLegalOrder stack (spot_of places_beside) empty_column y_first }
+    ensures sheet_first { IsLegalOrder stack (spot_of places_beside) empty_column sheet_first → ⊥ }
+    ensures without_y { IsLegalOrder stack (spot_of places_beside) empty_column without_y → ⊥ }
 {}
