@@ -21,8 +21,11 @@ chain_rules_have P p q a zero =
     elim (a == 0) as (λ b. (r : Read) → Contains (reads_for (if b then chain_a else chain_b) 0) r → P r)
     [ true ↦ each_in P [] tt | false ↦ each_in P [] tt ]
 chain_rules_have P p q a (suc place) =
-    elim (a == 0) as (λ b. (r : Read) → Contains (reads_for (if b then chain_a else chain_b) (suc place)) r → P r)
-    [ true ↦ each_in P (prev_read 0 1 ∷ []) (q, tt) | false ↦ each_in P (prev_read 0 0 ∷ (prev_read 0 1 ∷ [])) (p, (q, tt)) ]
+    elim (a == 0) as (λ b. (r : Read) → Contains (reads_for (if b then chain_a else chain_b) (suc place)) r → P r) [
+      | true ↦ each_in P (prev_read 0 1 ∷ []) (q, tt)
+      | false ↦ each_in P (prev_read 0 0 ∷ (prev_read 0 1 ∷ []))
+          (p, (q, tt))
+    ]
 
 no_children : (k c : ℕ) → c < chain.child_count (suc k) → ⊥
 no_children k c h =
@@ -77,7 +80,8 @@ chain_once a (inl shared) computed = by_interface shared.0 shared.1
   where
     by_interface : (i : ℕ) → Contains (chain.shared i) a → count_by (λ b. b == a) (entries chain_inorder) ≡ 1
     by_interface i =
-        elim (i == 1) as (λ b. Contains (if b then 0 ∷ (1 ∷ []) else []) a → count_by (λ b. b == a) (entries chain_inorder) ≡ 1) [
+        elim (i == 1) as
+        (λ b. Contains (if b then 0 ∷ (1 ∷ []) else []) a → count_by (λ b. b == a) (entries chain_inorder) ≡ 1) [
           | true ↦ each_in (λ a. count_by (λ b. b == a) (entries chain_inorder) ≡ 1) (0 ∷ (1 ∷ [])) (refl, (refl, tt)) a
           | false ↦ each_in (λ a. count_by (λ b. b == a) (entries chain_inorder) ≡ 1) [] tt a
         ]
@@ -89,16 +93,20 @@ WritersOrdered b r =
     (place : Where) (w : RuleName) → Writes chain 0 r place w
     → IsOrderedRead (spot_of chain_inorder) place r (place_of chain w) (place_of chain (for_child 0 0 b))
 
-prev_ordered : (b a : ℕ) → IsOrderedRead (spot_of chain_inorder) same_class (prev_read 0 a) (place_of chain (for_child 0 0 a)) (place_of chain (for_child 0 0 b))
+prev_ordered : (b a : ℕ)
+    → IsOrderedRead (spot_of chain_inorder) same_class (prev_read 0 a) (place_of chain (for_child 0 0 a))
+    (place_of chain (for_child 0 0 b))
     → WritersOrdered b (prev_read 0 a)
 prev_ordered b a h place w writes =
-    subst₂ (λ p x. IsOrderedRead (spot_of chain_inorder) p (prev_read 0 a) (place_of chain x) (place_of chain (for_child 0 0 b)))
+    subst₂ (λ p x. IsOrderedRead (spot_of chain_inorder) p (prev_read 0 a) (place_of chain x)
+    (place_of chain (for_child 0 0 b)))
     (sym writes.0) (sym writes.1) h
 
 a_ordered : (r : Read) → Contains [] r ⊎ Contains (prev_read 0 1 ∷ []) r → WritersOrdered 0 r
 a_ordered r h =
     ⊎_elim (each_in (WritersOrdered 0) [] tt r)
-    (each_in (WritersOrdered 0) (prev_read 0 1 ∷ []) (prev_ordered 0 1 (inr ((refl, refl), inr ((refl, refl), inr refl))), tt) r) h
+    (each_in (WritersOrdered 0) (prev_read 0 1 ∷ [])
+    (prev_ordered 0 1 (inr ((refl, refl), inr ((refl, refl), inr refl))), tt) r) h
 
 b_ordered : (r : Read) → Contains [] r ⊎ Contains (prev_read 0 0 ∷ (prev_read 0 1 ∷ [])) r → WritersOrdered 1 r
 b_ordered r h =
@@ -114,7 +122,8 @@ child_pairs : (k c b : ℕ) → c < chain.child_count k → OfChild chain k c b 
     → IsOrderedRead (spot_of chain_inorder) place r (place_of chain w) (place_of chain (for_child k c b))
 child_pairs zero zero b declared of =
     each_in
-    (λ b. (r : Read) → Contains (chain.child_rule 0 0 b).first r ⊎ Contains (chain.child_rule 0 0 b).later r → WritersOrdered b r)
+    (λ b. (r : Read) → Contains (chain.child_rule 0 0 b).first r ⊎ Contains (chain.child_rule 0 0 b).later r
+    → WritersOrdered b r)
     (0 ∷ (1 ∷ [])) (a_ordered, (b_ordered, tt)) b of
 child_pairs zero (suc c) b declared of = absurd (let z : ⊥ = omega (arith, declared) in z)
 child_pairs (suc k) c b declared of = absurd (no_children k c declared)

@@ -16,12 +16,14 @@ abbrev pub Falls : {I V : Type 0} → System I V → (I → ℕ) → Type 0
 Falls {I} e rank = (i j : I) → e.Valid i → e.Reads i j → rank j < rank i
 
 -- by induction on a bound of the rank
-agree_below : {I V : Type 0} (e : System I V) (rank : I → ℕ) → Falls e rank → (s t : I → V) → Solution e s → Solution e t
+agree_below : {I V : Type 0} (e : System I V) (rank : I → ℕ) → Falls e rank → (s t : I → V) → Solution e s
+    → Solution e t
     → (n : ℕ) (i : I) → e.Valid i → rank i < n → s i ≡ t i
 agree_below e rank falls s t ss st zero i v below = absurd (let z : ⊥ = omega (arith, below) in z)
 agree_below e rank falls s t ss st (suc n) i v below =
     ss i v
-    ∙ e.alone s t i v (λ j r. agree_below e rank falls s t ss st n j (e.inside i j v r) (let f = falls i j v r in omega arith))
+    ∙ e.alone s t i v
+    (λ j r. agree_below e rank falls s t ss st n j (e.inside i j v r) (let f = falls i j v r in omega arith))
     ∙ sym (st i v)
 
 pub solutions_agree : {I V : Type 0} (e : System I V) (rank : I → ℕ) → Falls e rank
@@ -56,4 +58,5 @@ solution_solves e rank falls start i v =
     e.alone (rounds e start (rank i)) (solution e rank start) i v
     (λ j r.
     let f = falls i j v r in
-    settled e rank falls start (suc (rank j)) (rank i) (suc (rank j)) j (e.inside i j v r) (omega arith) f (omega arith))
+    settled e rank falls start (suc (rank j)) (rank i) (suc (rank j)) j (e.inside i j v r) (omega arith) f
+    (omega arith))

@@ -62,7 +62,8 @@ record Piece {X A : Type 0} (f : X → List A) (d : X) (xs : List X) (n : ℕ) :
   pub within : place < length (f (get_or xs piece d))
   pub is : length (flat_map f (take piece xs)) + place ≡ n
 
-next_piece : {X A : Type 0} (f : X → List A) (d x : X) (xs : List X) (n : ℕ) → length (f x) ≤ n → Piece f d xs (n - length (f x))
+next_piece : {X A : Type 0} (f : X → List A) (d x : X) (xs : List X) (n : ℕ) → length (f x) ≤ n
+    → Piece f d xs (n - length (f x))
     → Piece f d (x ∷ xs) n
 next_piece f d x xs n late later =
     record {
@@ -77,11 +78,13 @@ piece_of : {X A : Type 0} (f : X → List A) (d : X) (xs : List X) (n : ℕ) →
 piece_of f d [] n below = absurd (let z : ⊥ = omega (arith, below) in z)
 piece_of f d (x ∷ xs) n below =
     ⊎_elim (λ early. record { piece = 0; place = n; known = omega arith; within = early; is = omega arith })
-    (λ late. next_piece f d x xs n late (piece_of f d xs (n - length (f x)) (omega (arith, below, late, length-append (f x) (flat_map f xs)))))
+    (λ late. next_piece f d x xs n late
+    (piece_of f d xs (n - length (f x)) (omega (arith, below, late, length-append (f x) (flat_map f xs)))))
     (cases_lt n (length (f x)))
 
 -- a place in a piece is a place in the whole
-piece_within : {X A : Type 0} (f : X → List A) (d : X) (xs : List X) (i j : ℕ) → i < length xs → j < length (f (get_or xs i d))
+piece_within : {X A : Type 0} (f : X → List A) (d : X) (xs : List X) (i j : ℕ) → i < length xs
+    → j < length (f (get_or xs i d))
     → length (flat_map f (take i xs)) + j < length (flat_map f xs)
 piece_within f d [] i j known within = absurd (let z : ⊥ = omega (arith, known) in z)
 piece_within f d (x ∷ xs) zero j known within = omega (arith, within, length-append (f x) (flat_map f xs))
@@ -121,7 +124,8 @@ module _ {V : Type 0} (g : AttributeGrammar V) (t : Forest) where
       let known : n < length (preorder t) = omega (arith, number_of-lt t p h, length-preorder t) in
       subst
       (λ q.
-      place_in these a < width_at g t q → get_or (instances g t) (sum_by (width_at g t) (take n (preorder t)) + place_in these a) d
+      place_in these a < width_at g t q
+      → get_or (instances g t) (sum_by (width_at g t) (take n (preorder t)) + place_in these a) d
       ≡ instance_of q (get_or (attributes_of g (class_at t q)) (place_in these a) 0))
       there (instance_in_row n (place_in these a) d known) (place_within these a of)
       ∙ ap (instance_of p) (place_is these a 0 of)
@@ -160,7 +164,8 @@ module _ {V : Type 0} (g : AttributeGrammar V) (t : Forest) where
         instance = instance_of p (get_or these j 0);
         valid = (there, Contains-get_or these j 0 within);
         number =
-            ap (λ m. sum_by (width_at g t) (take m (preorder t)) + place_in these (get_or these j 0)) (number_of-node_at t i known)
+            ap (λ m. sum_by (width_at g t) (take m (preorder t)) + place_in these (get_or these j 0))
+            (number_of-node_at t i known)
             ∙ ap (λ m. sum_by (width_at g t) (take i (preorder t)) + m)
             (place_of_entry these (law.distinct (class_at t p) (class_known g t fits p there)) j 0 within)
             ∙ ap (λ m. m + j) (sym (before_row (take i (preorder t))))

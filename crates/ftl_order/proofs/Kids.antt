@@ -28,15 +28,19 @@ kid_counted c zero (tree class child inputs below beside) h =
 kid_counted c (suc k) (tree class child inputs below beside) h =
     (elim (child == c) as
     (λ b. IsTree (if b then from_kid c k beside else from_kid c (suc k) beside)
-    → suc k < (if b then suc (count_in c beside) else count_in c beside))
-    [ true ↦ λ h. let i = kid_counted c k beside h in omega (arith, i) | false ↦ λ h. kid_counted c (suc k) beside h ]) h
+    → suc k < (if b then suc (count_in c beside) else count_in c beside)) [
+      | true ↦ λ h. let i = kid_counted c k beside h in omega (arith, i)
+      | false ↦ λ h. kid_counted c
+          (suc k) beside h
+    ]) h
 
 -- the trees from a kid on are no more than all
 pub kid_size : (c k : ℕ) (f : Forest) → size (from_kid c k f) ≤ size f
 kid_size c k none = omega arith
 kid_size c zero (tree class child inputs below beside) =
     elim (child == c) as
-    (λ b. size (if b then tree class child inputs below beside else from_kid c zero beside) ≤ suc (size below + size beside))
+    (λ b. size (if b then tree class child inputs below beside else from_kid c zero beside) ≤ suc
+    (size below + size beside))
     [ true ↦ omega arith | false ↦ let i = kid_size c zero beside in omega arith ]
 kid_size c (suc k) (tree class child inputs below beside) =
     elim (child == c) as
@@ -64,7 +68,8 @@ pub record FitsKid {V : Type 0} (g : AttributeGrammar V) (above c : ℕ) (f : Fo
   pub child : FitsChild g above c (class_of f)
   pub node : FitsNode g f
 
-pub kid_fits : {V : Type 0} (g : AttributeGrammar V) (above c k : ℕ) (f : Forest) → FitBelow g above f → IsTree (from_kid c k f)
+pub kid_fits : {V : Type 0} (g : AttributeGrammar V) (above c k : ℕ) (f : Forest) → FitBelow g above f
+    → IsTree (from_kid c k f)
     → FitsKid g above c (from_kid c k f)
 kid_fits g above c k none fit h = absurd h
 kid_fits g above c zero (tree class child inputs below beside) fit h =
@@ -89,12 +94,14 @@ root_fits g none h = absurd h
 root_fits g (tree class child inputs below beside) h = record { itself = h.1; below = h.2 }
 
 -- each node of a tree of the grammar fits
-pub node_fits : {V : Type 0} (g : AttributeGrammar V) (t : Forest) → IsTreeOf g t → (p : Path) → Has t p → FitsNode g (at t p)
+pub node_fits : {V : Type 0} (g : AttributeGrammar V) (t : Forest) → IsTreeOf g t → (p : Path) → Has t p
+    → FitsNode g (at t p)
 node_fits g t fits top h = root_fits g t fits
 node_fits g t fits (down c k p) h =
     (kid_fits g (class_at t p) c k (below_of (at t p)) (node_fits g t fits p (has_above t c k p h)).below h).node
 
-pub child_fits : {V : Type 0} (g : AttributeGrammar V) (t : Forest) → IsTreeOf g t → (c k : ℕ) (p : Path) → Has t (down c k p)
+pub child_fits : {V : Type 0} (g : AttributeGrammar V) (t : Forest) → IsTreeOf g t → (c k : ℕ) (p : Path)
+    → Has t (down c k p)
     → FitsChild g (class_at t p) c (class_at t (down c k p))
 child_fits g t fits c k p h =
     (kid_fits g (class_at t p) c k (below_of (at t p)) (node_fits g t fits p (has_above t c k p h)).below h).child
@@ -103,7 +110,8 @@ pub class_known : {V : Type 0} (g : AttributeGrammar V) (t : Forest) → IsTreeO
     → class_at t p < g.class_count
 class_known g t fits p h = (node_fits g t fits p h).itself.known
 
-pub root_interface : {V : Type 0} (g : AttributeGrammar V) (t : Forest) → IsTreeOf g t → g.interface (class_of t) ≡ g.root
+pub root_interface : {V : Type 0} (g : AttributeGrammar V) (t : Forest) → IsTreeOf g t
+    → g.interface (class_of t) ≡ g.root
 root_interface g none h = absurd h
 root_interface g (tree class child inputs below beside) h = h.0
 

@@ -55,13 +55,16 @@ module _ {V : Type 0} (g : AttributeGrammar V) (at : Placing) (t : Forest) (one_
       → IsStep g t j × MustPrecede g at j i
   writer_precedes i j valid reads computed = (
     (inside_by g law t fits (g.sort i.attribute) i.node i.attribute refl valid.0 valid.1 j reads, computed),
-    ⊎_elim (λ e. absurd (computed e)) (λ near. near_precedes g at j i near) (reads_near g law at t fits pairs i j valid reads),
+    ⊎_elim (λ e. absurd (computed e)) (λ near. near_precedes g at j i near)
+        (reads_near g law at t fits pairs i j valid reads),
   )
 
   -- two places of an order, the second of a step that the first must precede
-  pub places_rise : (order : List Instance) → IsLegalOrder g at t order → (i j : Instance) → IsStep g t i → MustPrecede g at i j
+  pub places_rise : (order : List Instance) → IsLegalOrder g at t order → (i j : Instance) → IsStep g t i
+      → MustPrecede g at i j
       → (m n : ℕ) → m < length order → n < length order → get_or order m i ≡ i → get_or order n j ≡ j → m < n
-  places_rise order legal i j step first m n bm bn em en = ⊎_elim (λ less. less) (λ more. absurd (late more)) (cases_lt m n)
+  places_rise order legal i j step first m n bm bn em en =
+      ⊎_elim (λ less. less) (λ more. absurd (late more)) (cases_lt m n)
     where
       late : n ≤ m → ⊥
       late more =
@@ -79,7 +82,8 @@ module _ {V : Type 0} (g : AttributeGrammar V) (at : Placing) (t : Forest) (one_
           (cases_lt n m)
 
   -- the writer of each read stands before the reader
-  pub writer_before : (order : List Instance) → IsLegalOrder g at t order → (i j : Instance) → IsStep g t i → Reads g t i j
+  pub writer_before : (order : List Instance) → IsLegalOrder g at t order → (i j : Instance) → IsStep g t i
+      → Reads g t i j
       → g.sort j.attribute ≢ input → StandsBefore order j i
   writer_before order legal i j step reads computed =
       let first = writer_precedes i j step.0 reads computed in
@@ -100,11 +104,13 @@ module _ {V : Type 0} (g : AttributeGrammar V) (at : Placing) (t : Forest) (one_
   order_by_rank = sorted_by (step_rank g at t) steps
 
   listed_valid : (i : Instance) → Contains (instances g t) i → IsInstance g t i
-  listed_valid i h = subst (IsInstance g t) h.2 (instance_here g t law fits h.0 i (let b = h.1 in let e = length-instances g t in omega (arith, e, b))).0
+  listed_valid i h = subst (IsInstance g t) h.2
+      (instance_here g t law fits h.0 i (let b = h.1 in let e = length-instances g t in omega (arith, e, b))).0
 
   order_steps : (i : Instance) → Contains order_by_rank i → IsStep g t i
   order_steps i h =
-      let among = in_filter (λ x. is_computed (g.sort x.attribute)) (instances g t) i (in_sorted (step_rank g at t) steps i h) in
+      let among = in_filter (λ x. is_computed (g.sort x.attribute)) (instances g t) i
+      (in_sorted (step_rank g at t) steps i h) in
       (listed_valid i among.0, not_input (g.sort i.attribute) among.1)
 
   -- the steps in the order of their rank
@@ -120,9 +126,11 @@ module _ {V : Type 0} (g : AttributeGrammar V) (at : Placing) (t : Forest) (one_
             distinct-sorted (step_rank g at t) steps
             (distinct-filter (λ x. is_computed (g.sort x.attribute)) (instances g t)
             (distinct_by_number (instance_number g t) (instances g t) 0
-            (λ n d below. (instance_here g t law fits n d (let e = length-instances g t in omega (arith, e, below))).1 ∙ (let z : n ≡ 0 + n = omega arith in z))));
+            (λ n d below. (instance_here g t law fits n d (let e = length-instances g t in omega (arith, e, below))).1
+            ∙ (let z : n ≡ 0 + n = omega arith in z))));
         legal = λ m n d less below first.
-            let there = order_steps (get_or order_by_rank n d) (n, below, get_or_default order_by_rank n (get_or order_by_rank n d) d below) in
+            let there = order_steps (get_or order_by_rank n d)
+            (n, below, get_or_default order_by_rank n (get_or order_by_rank n d) d below) in
             let up = step_rises g at t one_kind (get_or order_by_rank n d) (get_or order_by_rank m d) there.0 first in
             let down = sorted_rises (step_rank g at t) steps m n d less below in
             omega (arith, up, down);

@@ -31,13 +31,16 @@ distinct_by_number f (x ∷ xs) from number = (
       let again = number (suc h.0) x (omega (arith, b)) in
       let same : f (get_or xs h.0 x) ≡ f x = ap f h.2 in
       let z : ⊥ = omega (arith, first, again, same) in z),
-  distinct_by_number f xs (suc from) (λ k d b. number (suc k) d (omega (arith, b)) ∙ (let z : from + suc k ≡ suc from + k = omega arith in z)),
+  distinct_by_number f xs (suc from)
+      (λ k d b. number (suc k) d (omega (arith, b)) ∙ (let z : from + suc k ≡ suc from + k = omega arith in z)),
 )
 
-pub in_filter : {X : Type 0} (p : X → Bool) (xs : List X) (z : X) → Contains (filter p xs) z → Contains xs z × (p z ≡ true)
+pub in_filter : {X : Type 0} (p : X → Bool) (xs : List X) (z : X) → Contains (filter p xs) z
+    → Contains xs z × (p z ≡ true)
 in_filter p [] z h = absurd (nothing_in z h)
 in_filter p (x ∷ xs) z h =
-    elim (p x) as (λ b. (p x ≡ b) → Contains (cond b (x ∷ filter p xs) (filter p xs)) z → Contains (x ∷ xs) z × (p z ≡ true)) [
+    elim (p x) as
+    (λ b. (p x ≡ b) → Contains (cond b (x ∷ filter p xs) (filter p xs)) z → Contains (x ∷ xs) z × (p z ≡ true)) [
       | true ↦ λ e h.
           ⊎_elim (λ same. (subst (Contains (x ∷ xs)) same (here_in x xs), subst (λ y. p y ≡ true) same e))
           (λ later. let i = in_filter p xs z later in (later_in x z xs i.0, i.1)) (in_cases x z (filter p xs) h)
@@ -45,7 +48,8 @@ in_filter p (x ∷ xs) z h =
     ]
     refl h
 
-pub filter_has : {X : Type 0} (p : X → Bool) (xs : List X) (z : X) → Contains xs z → p z ≡ true → Contains (filter p xs) z
+pub filter_has : {X : Type 0} (p : X → Bool) (xs : List X) (z : X) → Contains xs z → p z ≡ true
+    → Contains (filter p xs) z
 filter_has p [] z h passes = absurd (nothing_in z h)
 filter_has p (x ∷ xs) z h passes =
     elim (p x) as (λ b. (p x ≡ b) → Contains (cond b (x ∷ filter p xs) (filter p xs)) z) [
@@ -53,7 +57,8 @@ filter_has p (x ∷ xs) z h passes =
           ⊎_elim (λ same. subst (Contains (x ∷ filter p xs)) same (here_in x (filter p xs)))
           (λ later. later_in x z (filter p xs) (filter_has p xs z later passes)) (in_cases x z xs h)
       | false ↦ λ e.
-          ⊎_elim (λ same. absurd (let f : p z ≡ false = subst (λ y. p y ≡ false) same e in let z : ⊥ = grind arith in z))
+          ⊎_elim (λ same. absurd
+          (let f : p z ≡ false = subst (λ y. p y ≡ false) same e in let z : ⊥ = grind arith in z))
           (λ later. filter_has p xs z later passes) (in_cases x z xs h)
     ]
     refl
@@ -64,10 +69,12 @@ distinct-filter p (x ∷ xs) h =
     elim (p x) as (λ b. AreDistinct (cond b (x ∷ filter p xs) (filter p xs)))
     [ true ↦ ((λ again. h.0 (in_filter p xs x again).0), distinct-filter p xs h.1) | false ↦ distinct-filter p xs h.1 ]
 
-in_insert : {X : Type 0} (f : X → ℕ) (x : X) (ys : List X) (z : X) → Contains (insert_by f x ys) z → (x ≡ z) ⊎ Contains ys z
+in_insert : {X : Type 0} (f : X → ℕ) (x : X) (ys : List X) (z : X) → Contains (insert_by f x ys) z
+    → (x ≡ z) ⊎ Contains ys z
 in_insert f x [] z h = in_cases x z [] h
 in_insert f x (y ∷ ys) z h =
-    elim (leb (f x) (f y)) as (λ b. Contains (if b then x ∷ (y ∷ ys) else y ∷ insert_by f x ys) z → (x ≡ z) ⊎ Contains (y ∷ ys) z) [
+    elim (leb (f x) (f y)) as
+    (λ b. Contains (if b then x ∷ (y ∷ ys) else y ∷ insert_by f x ys) z → (x ≡ z) ⊎ Contains (y ∷ ys) z) [
       | true ↦ λ h. in_cases x z (y ∷ ys) h
       | false ↦ λ h.
           ⊎_elim (λ same. inr (subst (Contains (y ∷ ys)) same (here_in y ys)))
@@ -75,11 +82,14 @@ in_insert f x (y ∷ ys) z h =
           (in_cases y z (insert_by f x ys) h)
     ] h
 
-insert_has : {X : Type 0} (f : X → ℕ) (x : X) (ys : List X) (z : X) → (x ≡ z) ⊎ Contains ys z → Contains (insert_by f x ys) z
-insert_has f x [] z h = ⊎_elim (λ same. subst (Contains (x ∷ [])) same (here_in x [])) (λ none. absurd (nothing_in z none)) h
+insert_has : {X : Type 0} (f : X → ℕ) (x : X) (ys : List X) (z : X) → (x ≡ z) ⊎ Contains ys z
+    → Contains (insert_by f x ys) z
+insert_has f x [] z h =
+    ⊎_elim (λ same. subst (Contains (x ∷ [])) same (here_in x [])) (λ none. absurd (nothing_in z none)) h
 insert_has f x (y ∷ ys) z h =
     elim (leb (f x) (f y)) as (λ b. Contains (if b then x ∷ (y ∷ ys) else y ∷ insert_by f x ys) z) [
-      | true ↦ ⊎_elim (λ same. subst (Contains (x ∷ (y ∷ ys))) same (here_in x (y ∷ ys))) (λ old. later_in x z (y ∷ ys) old) h
+      | true ↦ ⊎_elim (λ same. subst (Contains (x ∷ (y ∷ ys))) same (here_in x (y ∷ ys)))
+          (λ old. later_in x z (y ∷ ys) old) h
       | false ↦
           ⊎_elim (λ same. later_in y z (insert_by f x ys) (insert_has f x ys z (inl same)))
           (λ old.
@@ -99,14 +109,16 @@ sorted_has f (x ∷ xs) z h =
     insert_has f x (sorted_by f xs) z
     (⊎_elim (λ same. inl same) (λ later. inr (sorted_has f xs z later)) (in_cases x z xs h))
 
-distinct-insert : {X : Type 0} (f : X → ℕ) (x : X) (ys : List X) → (Contains ys x → ⊥) → AreDistinct ys → AreDistinct (insert_by f x ys)
+distinct-insert : {X : Type 0} (f : X → ℕ) (x : X) (ys : List X) → (Contains ys x → ⊥) → AreDistinct ys
+    → AreDistinct (insert_by f x ys)
 distinct-insert f x [] new h = (new, tt)
 distinct-insert f x (y ∷ ys) new h =
     elim (leb (f x) (f y)) as (λ b. AreDistinct (if b then x ∷ (y ∷ ys) else y ∷ insert_by f x ys)) [
       | true ↦ (new, h)
       | false ↦ (
         (λ again.
-            ⊎_elim (λ same. new (subst (λ z. Contains (y ∷ ys) z) (sym same) (here_in y ys))) h.0 (in_insert f x ys y again)),
+            ⊎_elim (λ same. new (subst (λ z. Contains (y ∷ ys) z) (sym same) (here_in y ys))) h.0
+            (in_insert f x ys y again)),
         distinct-insert f x ys (λ old. new (later_in y x ys old)) h.1,
       )
     ]
@@ -125,7 +137,8 @@ rises-insert : {X : Type 0} (f : X → ℕ) (x : X) (ys : List X) → Rises f ys
 rises-insert f x [] h = ((λ y none. absurd (nothing_in y none)), tt)
 rises-insert f x (y ∷ ys) h = go (leb (f x) (f y)) refl (rises-insert f x ys h.1)
   where
-    go : (b : Bool) → leb (f x) (f y) ≡ b → Rises f (insert_by f x ys) → Rises f (if b then x ∷ (y ∷ ys) else y ∷ insert_by f x ys)
+    go : (b : Bool) → leb (f x) (f y) ≡ b → Rises f (insert_by f x ys)
+        → Rises f (if b then x ∷ (y ∷ ys) else y ∷ insert_by f x ys)
     go true e i =
         let less : f x ≤ f y = leb-true (f x) (f y) e in (
           (λ z old.
@@ -136,7 +149,8 @@ rises-insert f x (y ∷ ys) h = go (leb (f x) (f y)) refl (rises-insert f x ys h
     go false e i =
         let more : f y < f x = leb-false (f x) (f y) e in (
           (λ z old.
-              ⊎_elim (λ same. let q : f x ≡ f z = ap f same in omega (arith, more, q)) (λ later. h.0 z later) (in_insert f x ys z old)),
+              ⊎_elim (λ same. let q : f x ≡ f z = ap f same in omega (arith, more, q)) (λ later. h.0 z later)
+              (in_insert f x ys z old)),
           i,
         )
 
@@ -151,7 +165,8 @@ rises_at f (x ∷ xs) h m zero d less below = absurd (let z : ⊥ = omega (arith
 rises_at f (x ∷ xs) h zero (suc n) d less below =
     let within : n < length xs = omega (arith, below) in
     h.0 (get_or xs n d) (n, within, get_or_default xs n (get_or xs n d) d within)
-rises_at f (x ∷ xs) h (suc m) (suc n) d less below = rises_at f xs h.1 m n d (omega (arith, less)) (omega (arith, below))
+rises_at f (x ∷ xs) h (suc m) (suc n) d less below = rises_at f xs h.1 m n d (omega (arith, less))
+    (omega (arith, below))
 
 pub sorted_rises : {X : Type 0} (f : X → ℕ) (xs : List X) (m n : ℕ) (d : X) → m < n → n < length (sorted_by f xs)
     → f (get_or (sorted_by f xs) m d) ≤ f (get_or (sorted_by f xs) n d)

@@ -24,20 +24,27 @@ module _ {V : Type 0} (g : AttributeGrammar V) (law : IsLawful g) (t : Forest) (
   pub value_in-listed : (s : Instance → V) (i : Instance) → IsInstance g t i → value_in g t missing (listed s) i ≡ s i
   value_in-listed s i valid =
       get_or-map s (instances g t) (instance_number g t i) (instance_of top 0) missing
-      (let w = number_within g t i.node i.attribute valid.0 valid.1 in let e = length-instances g t in omega (arith, w, e))
+      (let w = number_within g t i.node i.attribute valid.0 valid.1 in let e = length-instances g t in omega
+      (arith, w, e))
       ∙ ap s (instance_at_number g t i.node i.attribute (instance_of top 0) valid.0 valid.1)
 
   -- two tables that agree at the instances solve alike
-  pub solves_alike : (r s : Instance → V) → ((i : Instance) → IsInstance g t i → r i ≡ s i) → Solves g t s → Solves g t r
+  pub solves_alike : (r s : Instance → V) → ((i : Instance) → IsInstance g t i → r i ≡ s i) → Solves g t s
+      → Solves g t r
   solves_alike r s same solves i valid =
       same i valid
       ∙ solves i valid
       ∙ alone_by g law t fits s r (g.sort i.attribute) i.node i.attribute refl valid.0 valid.1
-      (λ j reads. sym (same j (inside_by g law t fits (g.sort i.attribute) i.node i.attribute refl valid.0 valid.1 j reads)))
+      (λ j reads. sym
+      (same j (inside_by g law t fits (g.sort i.attribute) i.node i.attribute refl valid.0 valid.1 j reads)))
 
   pub listed_solves : (s : Instance → V) → Solves g t s → SolvesList g t missing (listed s)
   listed_solves s solves =
-      record { count = length-listed s; solves = solves_alike (value_in g t missing (listed s)) s (value_in-listed s) solves }
+      record {
+        count = length-listed s;
+        solves = solves_alike (value_in g t missing (listed s)) s
+            (value_in-listed s) solves;
+      }
 
   pub lists_equal : (xs ys : List V) → length xs ≡ instance_count g t → length ys ≡ instance_count g t
       → ((i : Instance) → IsInstance g t i → value_in g t missing xs i ≡ value_in g t missing ys i) → xs ≡ ys

@@ -58,10 +58,13 @@ key_digits at x y first =
 first_digits : (kind : PassKind) (at : Placing) (n : ℕ) (x y : Turn) → depth_of x.visit ≤ n → FirstInPass kind at x y
     → Before (digits_in_pass kind at n x) (digits_in_pass kind at n y)
 first_digits topdown at n x y deep first =
-    ⊎_elim (λ here. inr (ap depth_of here.0, key_digits at x y here.1)) (λ above. inl (above_depth x.visit y.visit above)) first
+    ⊎_elim (λ here. inr (ap depth_of here.0, key_digits at x y here.1))
+    (λ above. inl (above_depth x.visit y.visit above)) first
 first_digits bottomup at n x y deep first =
     ⊎_elim (λ here. inr (ap (λ p. n - depth_of p) here.0, key_digits at x y here.1))
-    (λ above. inl (let d = above_depth y.visit x.visit above in let z : n - depth_of x.visit < n - depth_of y.visit = omega (arith, d, deep) in z))
+    (λ above. inl
+    (let d = above_depth y.visit x.visit above in let z : n - depth_of x.visit < n - depth_of y.visit = omega
+    (arith, d, deep) in z))
     first
 first_digits inorder at n x y deep first = first
 
@@ -110,7 +113,8 @@ module _ {V : Type 0} (g : AttributeGrammar V) (at : Placing) (t : Forest) where
     instance_at_number g t i.node i.attribute i valid.0 valid.1,
   )
 
-  pub step_rises : HasOneKind at → (i j : Instance) → IsInstance g t i → MustPrecede g at i j → step_rank i < step_rank j
+  pub step_rises : HasOneKind at → (i j : Instance) → IsInstance g t i → MustPrecede g at i j
+      → step_rank i < step_rank j
   step_rises one_kind i j valid first =
       let listed = is_listed_instance i valid in
       let deep = depth_within t (turn_of g i).visit (visit_there t (g.sort i.attribute) i.node valid.0) in
@@ -136,7 +140,8 @@ module _ {V : Type 0} (g : AttributeGrammar V) (at : Placing) (t : Forest) where
   below_step synthesized j n h = ⊎_elim (λ e. absurd (let z : ⊥ = grind arith in z)) (λ less. omega (arith, less)) h
   below_step local j n h = ⊎_elim (λ e. absurd (let z : ⊥ = grind arith in z)) (λ less. omega (arith, less)) h
 
-  step_or_nothing : (sort : Sort) (i j : Instance) → g.sort i.attribute ≡ sort → Reads g t i j → rank_by sort i ≡ suc (step_rank i)
+  step_or_nothing : (sort : Sort) (i j : Instance) → g.sort i.attribute ≡ sort → Reads g t i j
+      → rank_by sort i ≡ suc (step_rank i)
   step_or_nothing input i j e reads =
       absurd (subst (λ s. EquationReads g t s i.node i.attribute j) e reads)
   step_or_nothing inherited i j e reads = refl

@@ -44,13 +44,16 @@ above_range t p (down c k q) h above =
     let one = kid_range t c k q h in
     let less = one.0 in
     let within = one.1 in
-    ⊎_elim (λ e. subst (λ r. (number_of t r < number_of t (down c k q)) × (number_of t (down c k q) + size_at t (down c k q) ≤ number_of t r + size_at t r)) (sym e) one)
+    ⊎_elim (λ e. subst
+    (λ r. (number_of t r < number_of t (down c k q))
+    × (number_of t (down c k q) + size_at t (down c k q) ≤ number_of t r + size_at t r)) (sym e) one)
     (λ far.
     let i = above_range t p q (has_above t c k q h) far in
     let first = i.0 in
     let last = i.1 in (
       (let z : number_of t p < number_of t (down c k q) = omega (arith, first, less) in z),
-      (let z : number_of t (down c k q) + size_at t (down c k q) ≤ number_of t p + size_at t p = omega (arith, last, within) in z),
+      (let z : number_of t (down c k q) + size_at t (down c k q) ≤ number_of t p + size_at t p = omega
+          (arith, last, within) in z),
     ))
     above
 

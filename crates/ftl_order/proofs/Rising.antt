@@ -15,14 +15,16 @@ Rising {X} R (x ∷ xs) = ((y : X) → Contains xs y → R x y) × Rising R xs
 abbrev pub Across : {X : Type 0} → (X → X → Type 0) → List X → List X → Type 0
 Across {X} R xs ys = (x y : X) → Contains xs x → Contains ys y → R x y
 
-pub rising-append : {X : Type 0} (R : X → X → Type 0) (xs ys : List X) → Rising R xs → Rising R ys → Across R xs ys → Rising R (xs ++ ys)
+pub rising-append : {X : Type 0} (R : X → X → Type 0) (xs ys : List X) → Rising R xs → Rising R ys → Across R xs ys
+    → Rising R (xs ++ ys)
 rising-append R [] ys rx ry across = ry
 rising-append R (x ∷ xs) ys rx ry across = (
   (λ y h. ⊎_elim (λ front. rx.0 y front) (λ back. across x y (here_in x xs) back) (Contains-append_cases xs ys y h)),
   rising-append R xs ys rx.1 ry (λ z y hz hy. across z y (later_in x z xs hz) hy),
 )
 
-pub across-append : {X : Type 0} (R : X → X → Type 0) (xs ys zs : List X) → Across R xs ys → Across R xs zs → Across R xs (ys ++ zs)
+pub across-append : {X : Type 0} (R : X → X → Type 0) (xs ys zs : List X) → Across R xs ys → Across R xs zs
+    → Across R xs (ys ++ zs)
 across-append R xs ys zs a b x y hx h =
     ⊎_elim (λ front. a x y hx front) (λ back. b x y hx back) (Contains-append_cases ys zs y h)
 
@@ -41,7 +43,8 @@ in_map h (x ∷ xs) y c =
     record { from = m.from; there = later_in x m.from xs m.there; is = m.is })
     (in_cases (h x) y (map h xs) c)
 
-pub rising-map : {X Y : Type 0} (R : Y → Y → Type 0) (h : X → Y) (xs : List X) → Rising (λ a b. R (h a) (h b)) xs → Rising R (map h xs)
+pub rising-map : {X Y : Type 0} (R : Y → Y → Type 0) (h : X → Y) (xs : List X) → Rising (λ a b. R (h a) (h b)) xs
+    → Rising R (map h xs)
 rising-map R h [] r = tt
 rising-map R h (x ∷ xs) r =
     ((λ y c. let m = in_map h xs y c in subst (R (h x)) m.is (r.0 m.from m.there)), rising-map R h xs r.1)
@@ -60,7 +63,8 @@ strictly f (x ∷ xs) r d own = (
   strictly f xs r.1 d.1 (λ a b ha hb. own a b (later_in x a xs ha) (later_in x b xs hb)),
 )
 
-pub rising_more : {X : Type 0} (R Q : X → X → Type 0) (xs : List X) → ((a b : X) → Contains xs a → Contains xs b → R a b → Q a b)
+pub rising_more : {X : Type 0} (R Q : X → X → Type 0) (xs : List X)
+    → ((a b : X) → Contains xs a → Contains xs b → R a b → Q a b)
     → Rising R xs → Rising Q xs
 rising_more R Q [] more r = tt
 rising_more R Q (y ∷ ys) more r = (
@@ -79,14 +83,16 @@ before_once (x ∷ xs) (y ∷ ys) h k =
     h
 
 -- what rises stands so by places
-pub rising_at : {X : Type 0} (R : X → X → Type 0) (xs : List X) → Rising R xs → (m n : ℕ) (d : X) → m < n → n < length xs
+pub rising_at : {X : Type 0} (R : X → X → Type 0) (xs : List X) → Rising R xs → (m n : ℕ) (d : X) → m < n
+    → n < length xs
     → R (get_or xs m d) (get_or xs n d)
 rising_at R [] r m n d less below = absurd (let z : ⊥ = omega (arith, below) in z)
 rising_at R (y ∷ ys) r m zero d less below = absurd (let z : ⊥ = omega (arith, less) in z)
 rising_at R (y ∷ ys) r zero (suc n) d less below =
     let within : n < length ys = omega (arith, below) in
     r.0 (get_or ys n d) (n, within, get_or_default ys n (get_or ys n d) d within)
-rising_at R (y ∷ ys) r (suc m) (suc n) d less below = rising_at R ys r.1 m n d (omega (arith, less)) (omega (arith, below))
+rising_at R (y ∷ ys) r (suc m) (suc n) d less below = rising_at R ys r.1 m n d (omega (arith, less))
+    (omega (arith, below))
 
 pub map_has : {X Y : Type 0} (h : X → Y) (xs : List X) (a : X) → Contains xs a → Contains (map h xs) (h a)
 map_has h [] a c = absurd (let b = c.1 in let z : ⊥ = omega (arith, b) in z)

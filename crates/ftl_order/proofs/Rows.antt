@@ -17,18 +17,22 @@ turn p x k = record { visit = p; rule = x; kid = k }
 pub way_before : (p : Path) (xs ys : List ℕ) → Before xs ys → Before (way_to p xs) (way_to p ys)
 way_before top xs ys h = h
 way_before (down c k p) xs ys h =
-    way_before p (1 ∷ (c ∷ (k ∷ (1 ∷ xs)))) (1 ∷ (c ∷ (k ∷ (1 ∷ ys)))) (inr (refl, inr (refl, inr (refl, inr (refl, h)))))
+    way_before p (1 ∷ (c ∷ (k ∷ (1 ∷ xs)))) (1 ∷ (c ∷ (k ∷ (1 ∷ ys))))
+    (inr (refl, inr (refl, inr (refl, inr (refl, h)))))
 
 inorder_places : (at : Placing) (by_prev : Bool) (x y : VisitPlace) (kx ky : ℕ) → SameClassRow inorder at by_prev x y
     → (IsSameBlock x y → kx ≤ ky) → (IsTrue by_prev → kx < ky)
-    → Before (x.block ∷ (x.child ∷ (kx ∷ (0 ∷ ((at x.attribute).index ∷ []))))) (y.block ∷ (y.child ∷ (ky ∷ (0 ∷ ((at y.attribute).index ∷ [])))))
+    → Before (x.block ∷ (x.child ∷ (kx ∷ (0 ∷ ((at x.attribute).index ∷ [])))))
+    (y.block ∷ (y.child ∷ (ky ∷ (0 ∷ ((at y.attribute).index ∷ [])))))
 inorder_places at by_prev x y kx ky row no_later earlier =
     ⊎_elim (λ block. ⊎_elim (λ b. inl b) (λ b. inr (b.0, inl b.1)) block)
     (λ same. ⊎_elim (λ key. by_key same.0 key) (λ prev. inr (same.0.0, inr (same.0.1, inl (earlier prev)))) same.1) row
   where
     by_key : IsSameBlock x y
-        → ((at x.attribute).index < (at y.attribute).index) ⊎ (((at x.attribute).index ≡ (at y.attribute).index) × (x.child < y.child))
-        → Before (x.block ∷ (x.child ∷ (kx ∷ (0 ∷ ((at x.attribute).index ∷ []))))) (y.block ∷ (y.child ∷ (ky ∷ (0 ∷ ((at y.attribute).index ∷ [])))))
+        → ((at x.attribute).index < (at y.attribute).index)
+        ⊎ (((at x.attribute).index ≡ (at y.attribute).index) × (x.child < y.child))
+        → Before (x.block ∷ (x.child ∷ (kx ∷ (0 ∷ ((at x.attribute).index ∷ [])))))
+        (y.block ∷ (y.child ∷ (ky ∷ (0 ∷ ((at y.attribute).index ∷ [])))))
     by_key same key =
         let within = no_later same in
         inr (
@@ -38,7 +42,12 @@ inorder_places at by_prev x y kx ky row no_later earlier =
             ⊎_elim (λ less. inl less)
                 (λ more. inr (
                   (let e : kx ≡ ky = omega (arith, within, more) in e),
-                  inr (refl, ⊎_elim (λ less. inl less) (λ child. absurd (let s = same.1 in let c = child.1 in let z : ⊥ = omega (arith, s, c) in z)) key),
+                  inr (
+                    refl,
+                    ⊎_elim (λ less. inl less)
+                        (λ child. absurd
+                        (let s = same.1 in let c = child.1 in let z : ⊥ = omega (arith, s, c) in z)) key,
+                  ),
                 ))
                 (cases_lt kx ky),
           ),
@@ -62,7 +71,8 @@ parent_near topdown at row q c k x y ky block child = inr refl
 parent_near bottomup at row q c k x y ky block child = absurd row
 parent_near inorder at row q c k x y ky block child =
     way_before q (x.block ∷ (x.child ∷ (k ∷ (0 ∷ ((at x.attribute).index ∷ [])))))
-    (1 ∷ (c ∷ (k ∷ (1 ∷ (y.block ∷ (y.child ∷ (ky ∷ (0 ∷ ((at y.attribute).index ∷ []))))))))) (inr (block, inr (child, inr (refl, inl (omega arith)))))
+    (1 ∷ (c ∷ (k ∷ (1 ∷ (y.block ∷ (y.child ∷ (ky ∷ (0 ∷ ((at y.attribute).index ∷ [])))))))))
+    (inr (block, inr (child, inr (refl, inl (omega arith)))))
 
 pub child_near : (kind : PassKind) (at : Placing) (by_prev : Bool) (p : Path) (d n : ℕ) (x y : VisitPlace) (kx ky : ℕ)
     → ChildRow kind by_prev d y → (IsTrue by_prev → (d ≡ y.child) × (n < ky))
@@ -81,7 +91,8 @@ child_near inorder at by_prev p d n x y kx ky row earlier =
     row)
 
 -- an earlier stage, or the same pass with its row
-pub lift_row : (at : Placing) (place : Where) (r : Read) (x y : VisitPlace) (px py : Path) (kx ky : ℕ) → IsOrderedRead at place r x y
+pub lift_row : (at : Placing) (place : Where) (r : Read) (x y : VisitPlace) (px py : Path) (kx ky : ℕ)
+    → IsOrderedRead at place r x y
     → (Row place (at y.attribute).kind at r x y → NearInPass (at y.attribute).kind at (turn px x kx) (turn py y ky))
     → TurnNear at (turn px x kx) (turn py y ky)
 lift_row at place r x y px py kx ky ordered near =
@@ -110,7 +121,8 @@ near_in_pass bottomup at x y near = ⊎_elim (λ here. inl here) (λ parent. inr
     above (down c k q) p e = inl (sym (parent_above p q e))
 near_in_pass inorder at x y near = near
 
-pub near_precedes : {V : Type 0} (g : AttributeGrammar V) (at : Placing) (i j : Instance) → IsNearBefore g at i j → MustPrecede g at i j
+pub near_precedes : {V : Type 0} (g : AttributeGrammar V) (at : Placing) (i j : Instance) → IsNearBefore g at i j
+    → MustPrecede g at i j
 near_precedes g at i j near =
     ⊎_elim (λ stage. inl stage)
     (λ here. inr (here.0, near_in_pass (at j.attribute).kind at (turn_of g i) (turn_of g j) here.1)) near

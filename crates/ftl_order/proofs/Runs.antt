@@ -23,7 +23,8 @@ use Rattle.ftl_order.proofs.LegalOrders.{input_or_computed, writer_precedes, pla
 module _ {V : Type 0} (g : AttributeGrammar V) (at : Placing) (t : Forest) (one_kind : HasOneKind at) (law : IsLawful g)
     (pairs : EachPairOrdered g at) (fits : IsTreeOf g t) (missing : V) (s : Instance → V) (solves : Solves g t s)
     (order : List Instance) (legal : IsLegalOrder g at t order) where
-  same_number : (i j : Instance) → IsInstance g t i → IsInstance g t j → instance_number g t i ≡ instance_number g t j → i ≡ j
+  same_number : (i j : Instance) → IsInstance g t i → IsInstance g t j → instance_number g t i ≡ instance_number g t j
+      → i ≡ j
   same_number i j vi vj e =
       sym (instance_at_number g t i.node i.attribute i vi.0 vi.1)
       ∙ ap (λ n. get_or (instances g t) n i) e
@@ -36,7 +37,8 @@ module _ {V : Type 0} (g : AttributeGrammar V) (at : Placing) (t : Forest) (one_
     pub steps : (i : Instance) → Contains done i → value_in g t missing values i ≡ s i
 
   -- a step that must precede the next one is done
-  precedes_done : (done rest : List Instance) (i j : Instance) → order ≡ done ++ (i ∷ rest) → IsStep g t i → IsStep g t j
+  precedes_done : (done rest : List Instance) (i j : Instance) → order ≡ done ++ (i ∷ rest) → IsStep g t i
+      → IsStep g t j
       → MustPrecede g at j i → Contains done j
   precedes_done done rest i j e step before first =
       ⊎_elim (λ h. h) (λ h. absurd (late h))
@@ -57,7 +59,8 @@ module _ {V : Type 0} (g : AttributeGrammar V) (at : Placing) (t : Forest) (one_
           (let f = ap length e in let b = h.1 in omega (arith, f, b, length-append done (i ∷ rest))) in
           let is : get_or order (length done + h.0) j ≡ j =
           ap (λ l. get_or l (length done + h.0) j) e ∙ get_or-append-add done (i ∷ rest) h.0 j ∙ h.2 in
-          let less = places_rise g at t one_kind law pairs fits order legal j i before first (length done + h.0) (length done) there place is here in
+          let less = places_rise g at t one_kind law pairs fits order legal j i before first (length done + h.0)
+          (length done) there place is here in
           omega (arith, less)
 
   -- the value that a step computes is the solution's
@@ -65,7 +68,8 @@ module _ {V : Type 0} (g : AttributeGrammar V) (at : Placing) (t : Forest) (one_
       → Done done values
       → equation_value g t (value_in g t missing values) (g.sort i.attribute) i.node i.attribute ≡ s i
   step_value done rest i values e step good =
-      alone_by g law t fits (value_in g t missing values) s (g.sort i.attribute) i.node i.attribute refl step.0.0 step.0.1
+      alone_by g law t fits (value_in g t missing values) s
+      (g.sort i.attribute) i.node i.attribute refl step.0.0 step.0.1
       (λ j reads. read_value j reads (input_or_computed (g.sort j.attribute)))
       ∙ sym (solves i step.0)
     where
@@ -80,7 +84,8 @@ module _ {V : Type 0} (g : AttributeGrammar V) (at : Placing) (t : Forest) (one_
           good.steps j (precedes_done done rest i j e step first.0 first.1)
 
   -- after a step the other values stay
-  after_step : (i j : Instance) (values : List V) (v : V) → length values ≡ instance_count g t → IsInstance g t i → IsInstance g t j
+  after_step : (i j : Instance) (values : List V) (v : V) → length values ≡ instance_count g t → IsInstance g t i
+      → IsInstance g t j
       → v ≡ s i → (value_in g t missing values j ≡ s j) ⊎ (i ≡ j)
       → value_in g t missing (set values (instance_number g t i) v) j ≡ s j
   after_step i j values v count vi vj is old = go (ℕ_discrete (instance_number g t i) (instance_number g t j))
@@ -101,20 +106,24 @@ module _ {V : Type 0} (g : AttributeGrammar V) (at : Placing) (t : Forest) (one_
       → Done order (run g t missing rest values)
   run_done [] done values e good = subst (λ l. Done l values) (sym (e ∙ append-nil done)) good
   run_done (i ∷ rest) done values e good =
-      let step = legal.steps i (subst (λ l. Contains l i) (sym e) (Contains-append_right done (i ∷ rest) i (here_in i rest))) in
+      let step = legal.steps i
+      (subst (λ l. Contains l i) (sym e) (Contains-append_right done (i ∷ rest) i (here_in i rest))) in
       let v = equation_value g t (value_in g t missing values) (g.sort i.attribute) i.node i.attribute in
       let is : v ≡ s i = step_value done rest i values e step good in
-      run_done rest (done ++ (i ∷ [])) (set values (instance_number g t i) v) (e ∙ sym (append_assoc done (i ∷ []) rest))
+      run_done rest (done ++ (i ∷ [])) (set values (instance_number g t i) v)
+      (e ∙ sym (append_assoc done (i ∷ []) rest))
       (record {
         count = length-set values (instance_number g t i) v ∙ good.count;
-        inputs = λ j valid is_input. after_step i j values v good.count step.0 valid is (inl (good.inputs j valid is_input));
+        inputs = λ j valid is_input. after_step i j values v good.count step.0 valid is
+            (inl (good.inputs j valid is_input));
         steps = λ j h.
             let cases = Contains-append_cases done (i ∷ []) j h in
             let valid = (legal.steps j
             (subst (λ l. Contains l j) (sym e)
             (⊎_elim (λ d. Contains-append_left done (i ∷ rest) j d)
             (λ last. Contains-append_right done (i ∷ rest) j
-            (⊎_elim (λ same. subst (Contains (i ∷ rest)) same (here_in i rest)) (λ none. absurd (nothing_in j none)) (in_cases i j [] last)))
+            (⊎_elim (λ same. subst (Contains (i ∷ rest)) same (here_in i rest)) (λ none. absurd (nothing_in j none))
+            (in_cases i j [] last)))
             cases))).0 in
             after_step i j values v good.count step.0 valid is
             (⊎_elim (λ d. inl (good.steps j d))
@@ -133,7 +142,8 @@ module _ {V : Type 0} (g : AttributeGrammar V) (at : Placing) (t : Forest) (one_
       let good = run_done order [] values refl
       (record {
         count = count;
-        inputs = λ i valid is_input. holds i valid is_input ∙ sym (given_value (g.sort i.attribute) i refl is_input valid);
+        inputs = λ i valid is_input. holds i valid is_input
+            ∙ sym (given_value (g.sort i.attribute) i refl is_input valid);
         steps = λ i none. absurd (nothing_in i none);
       }) in
       record {

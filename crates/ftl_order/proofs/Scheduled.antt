@@ -16,11 +16,13 @@ use Rattle.ftl_order.proofs.OrderRank.{read_rank, rank_falls}
 use Rattle.ftl_order.proofs.LegalOrders.{spot_of-one_kind}
 use Rattle.ftl_order.proofs.Runs.{run_solves}
 
-module _ {V : Type 0} (g : AttributeGrammar V) (s : Schedule) (t : Forest) (law : IsLawful g) (pairs : EachPairOrdered g (spot_of s))
+module _ {V : Type 0} (g : AttributeGrammar V) (s : Schedule) (t : Forest) (law : IsLawful g)
+    (pairs : EachPairOrdered g (spot_of s))
     (fits : IsTreeOf g t) (missing : V) where
   pub one_table_under : ExactlyOneTable g t
   one_table_under =
-      one_table_by g law t fits (read_rank g (spot_of s) t) (rank_falls g (spot_of s) t (spot_of-one_kind s) law pairs fits) missing
+      one_table_by g law t fits (read_rank g (spot_of s) t)
+      (rank_falls g (spot_of s) t (spot_of-one_kind s) law pairs fits) missing
 
   pub one_list_under : ExactlyOneList g t missing
   one_list_under = one_list_by g law t fits missing one_table_under
@@ -29,5 +31,6 @@ module _ {V : Type 0} (g : AttributeGrammar V) (s : Schedule) (t : Forest) (law 
       → (values : List V) → length values ≡ instance_count g t → HoldsInputs g t missing values
       → SolvesList g t missing (run g t missing order values)
   run_under order legal =
-      run_solves g (spot_of s) t (spot_of-one_kind s) law pairs fits missing one_table_under.some_solves.0 one_table_under.some_solves.1
+      run_solves g (spot_of s) t
+      (spot_of-one_kind s) law pairs fits missing one_table_under.some_solves.0 one_table_under.some_solves.1
       order legal

@@ -30,19 +30,23 @@ itself synthesized = refl
 itself local = refl
 
 module _ {V : Type 0} (g : AttributeGrammar V) (at : Placing) (x : Spot) where
-  keyed_has : (sort : Sort) (k a : ℕ) → g.sort a ≡ sort → OfClass g k a → IsOnePass (at a) x → Contains (keyed g at x sort k) a
+  keyed_has : (sort : Sort) (k a : ℕ) → g.sort a ≡ sort → OfClass g k a → IsOnePass (at a) x
+      → Contains (keyed g at x sort k) a
   keyed_has sort k a e of pass =
-      sorted_has (λ a. (at a).index) (filter (λ a. is_same_sort (g.sort a) sort && is_in_pass at x a) (attributes_of g k)) a
+      sorted_has (λ a. (at a).index)
+      (filter (λ a. is_same_sort (g.sort a) sort && is_in_pass at x a) (attributes_of g k)) a
       (filter_has (λ a. is_same_sort (g.sort a) sort && is_in_pass at x a) (attributes_of g k) a of
       (both_pass (is_same_sort (g.sort a) sort) (is_in_pass at x a)
       (subst (λ s. is_same_sort s sort ≡ true) (sym e) (itself sort))
-      (both_pass ((at a).stage == x.stage) ((at a).pass == x.pass) (eq-eqb (at a).stage x.stage pass.0) (eq-eqb (at a).pass x.pass pass.1))))
+      (both_pass ((at a).stage == x.stage) ((at a).pass == x.pass) (eq-eqb (at a).stage x.stage pass.0)
+      (eq-eqb (at a).pass x.pass pass.1))))
 
   -- the sequence of a node has this instance, and with what comes before its visit
   abbrev InVisit : Path → Forest → Instance → Type 0
   InVisit q f i =
       Contains (steps_at g at x local (class_of f) q) i
-      ⊎ (Contains (sequence_below g at x q (λ c. 0) (below_of f)) i ⊎ Contains (steps_at g at x synthesized (class_of f) q) i)
+      ⊎ (Contains (sequence_below g at x q (λ c. 0) (below_of f)) i
+      ⊎ Contains (steps_at g at x synthesized (class_of f) q) i)
 
   abbrev InKid : Path → Forest → Instance → Type 0
   InKid q f i = Contains (steps_at g at x inherited (class_of f) q) i ⊎ InVisit q f i
@@ -78,7 +82,8 @@ module _ {V : Type 0} (g : AttributeGrammar V) (at : Placing) (x : Spot) where
       (Contains-append_right ls (bs ++ (ss ++ rs)) i
       (Contains-append_right bs (ss ++ rs) i (Contains-append_right ss rs i a)))
 
-  kid_in : (f : Forest) (p : Path) (seen : ℕ → ℕ) (c k n : ℕ) → n ≡ seen c + k → IsTree (from_kid c k f) → (i : Instance)
+  kid_in : (f : Forest) (p : Path) (seen : ℕ → ℕ) (c k n : ℕ) → n ≡ seen c + k → IsTree (from_kid c k f)
+      → (i : Instance)
       → InKid (down c n p) (from_kid c k f) i → Contains (sequence_below g at x p seen f) i
   kid_in none p seen c k n e there i h = absurd there
   kid_in (tree class child inputs below beside) p seen c zero n e there i h =
@@ -115,7 +120,8 @@ module _ {V : Type 0} (g : AttributeGrammar V) (at : Placing) (x : Spot) where
       ])
       refl there h
 
-  visit_in : (t : Forest) (p : Path) → Has t p → (i : Instance) → InVisit p (tree_at t p) i → Contains (sequence g at x t) i
+  visit_in : (t : Forest) (p : Path) → Has t p → (i : Instance) → InVisit p (tree_at t p) i
+      → Contains (sequence g at x t) i
   visit_in t top there i h =
       let ls = steps_at g at x local (class_of t) top in
       let bs = sequence_below g at x top (λ c. 0) (below_of t) in
@@ -125,9 +131,11 @@ module _ {V : Type 0} (g : AttributeGrammar V) (at : Placing) (x : Spot) where
       (⊎_elim (λ a. Contains-append_left bs ss i a) (λ a. Contains-append_right bs ss i a) h)) h
   visit_in t (down c k p) there i h =
       visit_in t p (has_above t c k p there) i
-      (inr (inl (kid_in (below_of (tree_at t p)) p (λ c. 0) c k k (let z : k ≡ 0 + k = omega arith in z) there i (inr h))))
+      (inr (inl
+      (kid_in (below_of (tree_at t p)) p (λ c. 0) c k k (let z : k ≡ 0 + k = omega arith in z) there i (inr h))))
 
-module _ {V : Type 0} (g : AttributeGrammar V) (law : IsLawful g) (s : Schedule) (once : EachStandsOnce g s) (t : Forest)
+module _ {V : Type 0} (g : AttributeGrammar V) (law : IsLawful g) (s : Schedule) (once : EachStandsOnce g s)
+    (t : Forest)
     (fits : IsTreeOf g t) (x : Spot) where
   step_in : (sort : Sort) (p : Path) (a : ℕ) → g.sort a ≡ sort → sort ≢ input → Has t p → OfClass g (class_at t p) a
       → IsOnePass (spot_of s a) x → Contains (sequence g (spot_of s) x t) (instance_of p a)
@@ -158,7 +166,8 @@ module _ {V : Type 0} (g : AttributeGrammar V) (law : IsLawful g) (s : Schedule)
       (Contains-append_cases (g.shared (g.interface k)) (g.private k) a of)
 
   keys : (k a b : ℕ) → k < g.class_count → Contains (attributes_of g k) a → Contains (attributes_of g k) b
-      → g.sort a ≢ input → g.sort b ≢ input → IsOnePass (spot_of s a) (spot_of s b) → (spot_of s a).index ≡ (spot_of s b).index → a ≡ b
+      → g.sort a ≢ input → g.sort b ≢ input → IsOnePass (spot_of s a) (spot_of s b)
+      → (spot_of s a).index ≡ (spot_of s b).index → a ≡ b
   keys k a b known ha hb = own_keys g s once a b (attribute_of_class k a known ha) (attribute_of_class k b known hb)
 
   sequence_rises : Rising (EarlierAddress g law (spot_of s) x keys) (sequence g (spot_of s) x t)
@@ -168,7 +177,8 @@ module _ {V : Type 0} (g : AttributeGrammar V) (law : IsLawful g) (s : Schedule)
       let ls = steps_at g at x local (class_of t) top in
       let bs = sequence_below g at x top (λ c. 0) (below_of t) in
       let ss = steps_at g at x synthesized (class_of t) top in
-      let within = below_rises g law at x keys (below_of t) (class_of t) 0 top (λ c. 0) (node_fits g t fits top (root_there g t fits)).below
+      let within = below_rises g law at x keys (below_of t) (class_of t) 0 top (λ c. 0)
+      (node_fits g t fits top (root_there g t fits)).below
       (starts_anywhere g law at x keys (below_of t)) in
       let lg = local_goes g law at x keys (class_of t) top in
       let sg = synthesized_goes g law at x keys (class_of t) top in
@@ -176,7 +186,8 @@ module _ {V : Type 0} (g : AttributeGrammar V) (law : IsLawful g) (s : Schedule)
       rising-append R ls (bs ++ ss) (steps_rise g law at x keys local (class_of t) top known (grind arith))
       (rising-append R bs ss within.rising (steps_rise g law at x keys synthesized (class_of t) top known (grind arith))
       (λ i j hi hj.
-      goes_before g law at x keys top (1 ∷ []) (2 ∷ []) i j (into_block g law at x keys top 0 (λ c. 0) i (within.to_come i hi)) (sg j hj)
+      goes_before g law at x keys top (1 ∷ []) (2 ∷ []) i j
+      (into_block g law at x keys top 0 (λ c. 0) i (within.to_come i hi)) (sg j hj)
       (λ ri rj. inl (omega arith))))
       (λ i j hi hj.
       ⊎_elim
@@ -212,7 +223,8 @@ module _ {V : Type 0} (g : AttributeGrammar V) (law : IsLawful g) (s : Schedule)
           ⊎_elim
           (λ less.
           before_once (address (spot_of s) (turn_of g i)) (address (spot_of s) (turn_of g j)) first
-          (subst (λ z. Earlier z i) hj.2 (subst (λ z. Earlier (get_or whole hj.0 j) z) hi.2 (places_rise hj.0 hi.0 j i less hi.1))))
+          (subst (λ z. Earlier z i) hj.2
+          (subst (λ z. Earlier (get_or whole hj.0 j) z) hi.2 (places_rise hj.0 hi.0 j i less hi.1))))
           (λ least.
           let e : i ≡ j =
           sym hi.2
@@ -225,16 +237,20 @@ module _ {V : Type 0} (g : AttributeGrammar V) (law : IsLawful g) (s : Schedule)
 
   pub address_by_place : (i j : Instance) → StandsBefore whole i j → Earlier i j
   address_by_place i j h =
-      subst (λ z. Earlier z j) (h.4 i) (subst (λ z. Earlier (get_or whole h.0 i) z) (h.5 i) (places_rise h.0 h.1 i i h.2 h.3))
+      subst (λ z. Earlier z j) (h.4 i)
+      (subst (λ z. Earlier (get_or whole h.0 i) z) (h.5 i) (places_rise h.0 h.1 i i h.2 h.3))
 
   pub step_there : (i : Instance) → IsStep g t i → IsOnePass (spot_of s i.attribute) x → Contains whole i
   step_there i step pass = step_in (g.sort i.attribute) i.node i.attribute refl step.1 step.0.0 step.0.1 pass
 
 -- in an inorder pass a step must precede another exactly where it stands before it in the sequence
-module _ {V : Type 0} (g : AttributeGrammar V) (law : IsLawful g) (s : Schedule) (once : EachStandsOnce g s) (t : Forest)
+module _ {V : Type 0} (g : AttributeGrammar V) (law : IsLawful g) (s : Schedule) (once : EachStandsOnce g s)
+    (t : Forest)
     (fits : IsTreeOf g t) (i j : Instance) (step_i : IsStep g t i) (step_j : IsStep g t j)
-    (pass : IsOnePass (spot_of s i.attribute) (spot_of s j.attribute)) (kind : (spot_of s j.attribute).kind ≡ inorder) where
-  pub precede_stands : MustPrecede g (spot_of s) i j → StandsBefore (sequence g (spot_of s) (spot_of s j.attribute) t) i j
+    (pass : IsOnePass (spot_of s i.attribute) (spot_of s j.attribute))
+    (kind : (spot_of s j.attribute).kind ≡ inorder) where
+  pub precede_stands : MustPrecede g (spot_of s) i j
+      → StandsBefore (sequence g (spot_of s) (spot_of s j.attribute) t) i j
   precede_stands first =
       stands_by_address g law s once t fits (spot_of s j.attribute) i j
       (step_there g law s once t fits (spot_of s j.attribute) i step_i pass)
@@ -242,7 +258,8 @@ module _ {V : Type 0} (g : AttributeGrammar V) (law : IsLawful g) (s : Schedule)
       (⊎_elim (λ stage. absurd (let e = pass.0 in let z : ⊥ = omega (arith, stage, e) in z))
       (λ here. subst (λ k. FirstInPass k (spot_of s) (turn_of g i) (turn_of g j)) kind here.1) first)
 
-  pub stands_precede : StandsBefore (sequence g (spot_of s) (spot_of s j.attribute) t) i j → MustPrecede g (spot_of s) i j
+  pub stands_precede : StandsBefore (sequence g (spot_of s) (spot_of s j.attribute) t) i j
+      → MustPrecede g (spot_of s) i j
   stands_precede h =
       inr (
         pass,

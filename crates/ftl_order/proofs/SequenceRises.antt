@@ -52,7 +52,8 @@ module _ {V : Type 0} (g : AttributeGrammar V) (law : IsLawful g) (at : Placing)
   pub is_keyed : (sort : Sort) (k a : ℕ) → Contains (keyed g at x sort k) a → Keyed sort k a
   is_keyed sort k a h =
       let among = in_filter (λ a. is_same_sort (g.sort a) sort && is_in_pass at x a) (attributes_of g k) a
-      (in_sorted (λ a. (at a).index) (filter (λ a. is_same_sort (g.sort a) sort && is_in_pass at x a) (attributes_of g k)) a h) in
+      (in_sorted (λ a. (at a).index)
+      (filter (λ a. is_same_sort (g.sort a) sort && is_in_pass at x a) (attributes_of g k)) a h) in
       let tests = both_true (is_same_sort (g.sort a) sort) (is_in_pass at x a) among.1 in
       let numbers = both_true ((at a).stage == x.stage) ((at a).pass == x.pass) tests.1 in
       record {
@@ -61,12 +62,14 @@ module _ {V : Type 0} (g : AttributeGrammar V) (law : IsLawful g) (at : Placing)
         pass = (eqb-true (at a).stage x.stage numbers.0, eqb-true (at a).pass x.pass numbers.1);
       }
 
-  keyed_rises : (sort : Sort) (k : ℕ) → k < g.class_count → sort ≢ input → Rising (λ a b. (at a).index < (at b).index) (keyed g at x sort k)
+  keyed_rises : (sort : Sort) (k : ℕ) → k < g.class_count → sort ≢ input
+      → Rising (λ a b. (at a).index < (at b).index) (keyed g at x sort k)
   keyed_rises sort k known computed =
       let chosen = filter (λ a. is_same_sort (g.sort a) sort && is_in_pass at x a) (attributes_of g k) in
       strictly (λ a. (at a).index) (keyed g at x sort k) (rises-sorted (λ a. (at a).index) chosen)
       (distinct-sorted (λ a. (at a).index) chosen
-      (distinct-filter (λ a. is_same_sort (g.sort a) sort && is_in_pass at x a) (attributes_of g k) (law.distinct k known)))
+      (distinct-filter (λ a. is_same_sort (g.sort a) sort && is_in_pass at x a) (attributes_of g k)
+      (law.distinct k known)))
       (λ a b ha hb same.
       let ka = is_keyed sort k a ha in
       let kb = is_keyed sort k b hb in
@@ -93,12 +96,15 @@ module _ {V : Type 0} (g : AttributeGrammar V) (law : IsLawful g) (at : Placing)
       way_before q (0 ∷ (0 ∷ (0 ∷ (0 ∷ ((at a).index ∷ []))))) (0 ∷ (0 ∷ (0 ∷ (0 ∷ ((at b).index ∷ [])))))
       (inr (refl, inr (refl, inr (refl, inr (refl, inl less)))))
 
-  pub steps_rise : (sort : Sort) (k : ℕ) (q : Path) → k < g.class_count → sort ≢ input → Rising EarlierAddress (steps_at g at x sort k q)
+  pub steps_rise : (sort : Sort) (k : ℕ) (q : Path) → k < g.class_count → sort ≢ input
+      → Rising EarlierAddress (steps_at g at x sort k q)
   steps_rise sort k q known computed =
       rising-map EarlierAddress (instance_of q) (keyed g at x sort k)
-      (rising_more (λ a b. (at a).index < (at b).index) (λ a b. EarlierAddress (instance_of q a) (instance_of q b)) (keyed g at x sort k)
+      (rising_more (λ a b. (at a).index < (at b).index) (λ a b. EarlierAddress (instance_of q a) (instance_of q b))
+      (keyed g at x sort k)
       (λ a b ha hb less.
-      subst₂ Before (sym (address_by sort q a (is_keyed sort k a ha).sort_is)) (sym (address_by sort q b (is_keyed sort k b hb).sort_is))
+      subst₂ Before (sym (address_by sort q a (is_keyed sort k a ha).sort_is))
+      (sym (address_by sort q b (is_keyed sort k b hb).sort_is))
       (key_before sort q a b computed less))
       (keyed_rises sort k known computed))
 
@@ -129,15 +135,18 @@ module _ {V : Type 0} (g : AttributeGrammar V) (law : IsLawful g) (at : Placing)
       let m = steps_go local k q i h in
       record {
         rest = 0 ∷ (0 ∷ (0 ∷ ((at m.from).index ∷ [])));
-        is = ap (λ j. address at (turn_of g j)) (sym m.is) ∙ address_by local q m.from (is_keyed local k m.from m.there).sort_is;
+        is = ap (λ j. address at (turn_of g j)) (sym m.is)
+            ∙ address_by local q m.from (is_keyed local k m.from m.there).sort_is;
       }
 
-  pub synthesized_goes : (k : ℕ) (q : Path) (i : Instance) → Contains (steps_at g at x synthesized k q) i → Goes q (2 ∷ []) i
+  pub synthesized_goes : (k : ℕ) (q : Path) (i : Instance) → Contains (steps_at g at x synthesized k q) i
+      → Goes q (2 ∷ []) i
   synthesized_goes k q i h =
       let m = steps_go synthesized k q i h in
       record {
         rest = 0 ∷ (0 ∷ (0 ∷ ((at m.from).index ∷ [])));
-        is = ap (λ j. address at (turn_of g j)) (sym m.is) ∙ address_by synthesized q m.from (is_keyed synthesized k m.from m.there).sort_is;
+        is = ap (λ j. address at (turn_of g j)) (sym m.is)
+            ∙ address_by synthesized q m.from (is_keyed synthesized k m.from m.there).sort_is;
       }
 
   inherited_goes : (k c n : ℕ) (p : Path) (i : Instance) → Contains (steps_at g at x inherited k (down c n p)) i
@@ -151,7 +160,8 @@ module _ {V : Type 0} (g : AttributeGrammar V) (law : IsLawful g) (at : Placing)
             ∙ address_by inherited (down c n p) m.from (is_keyed inherited k m.from m.there).sort_is;
       }
 
-  into_kid : (c n b : ℕ) (p : Path) (i : Instance) → Goes (down c n p) (b ∷ []) i → Goes p (1 ∷ (c ∷ (n ∷ (1 ∷ (b ∷ []))))) i
+  into_kid : (c n b : ℕ) (p : Path) (i : Instance) → Goes (down c n p) (b ∷ []) i
+      → Goes p (1 ∷ (c ∷ (n ∷ (1 ∷ (b ∷ []))))) i
   into_kid c n b p i h = record { rest = h.rest; is = h.is }
 
   pub into_block : (q : Path) (from : ℕ) (seen : ℕ → ℕ) (i : Instance) → StillToCome q from seen i → Goes q (1 ∷ []) i
@@ -165,7 +175,8 @@ module _ {V : Type 0} (g : AttributeGrammar V) (law : IsLawful g) (at : Placing)
       → StillToCome p c (one_more c seen) j → EarlierAddress i j
   kid_first c seen p i j here there =
       goes_before p (1 ∷ (c ∷ (seen c ∷ []))) (1 ∷ (there.child ∷ (there.kid ∷ []))) i j here there.goes
-      (λ ri rj. inr (refl, ⊎_elim (λ less. inl less) (λ more. inr (same more, inl (later more))) (cases_lt c there.child)))
+      (λ ri rj. inr
+      (refl, ⊎_elim (λ less. inl less) (λ more. inr (same more, inl (later more))) (cases_lt c there.child)))
     where
       same : there.child ≤ c → c ≡ there.child
       same more = let l = there.later_child in omega (arith, l, more)
@@ -211,12 +222,14 @@ module _ {V : Type 0} (g : AttributeGrammar V) (law : IsLawful g) (at : Placing)
     block_goes : (i : Instance) → Contains below i → Goes here (1 ∷ []) i
     block_goes i h = into_block here 0 (λ d. 0) i (within.to_come i h)
 
-    blocks_before : (a b : ℕ) → a < b → (i j : Instance) → Goes here (a ∷ []) i → Goes here (b ∷ []) j → EarlierAddress i j
+    blocks_before : (a b : ℕ) → a < b → (i j : Instance) → Goes here (a ∷ []) i → Goes here (b ∷ []) j
+        → EarlierAddress i j
     blocks_before a b less i j gi gj = goes_before here (a ∷ []) (b ∷ []) i j gi gj (λ ri rj. inl less)
 
     inherits_first : (b : ℕ) (i j : Instance) → Contains inherits i → Goes here (b ∷ []) j → EarlierAddress i j
     inherits_first b i j hi gj =
-        goes_before p (1 ∷ (c ∷ (seen c ∷ (0 ∷ [])))) (1 ∷ (c ∷ (seen c ∷ (1 ∷ (b ∷ []))))) i j (inherited_goes class c (seen c) p i hi)
+        goes_before p (1 ∷ (c ∷ (seen c ∷ (0 ∷ [])))) (1 ∷ (c ∷ (seen c ∷ (1 ∷ (b ∷ []))))) i j
+        (inherited_goes class c (seen c) p i hi)
         (into_kid c (seen c) b p j gj) (λ ri rj. inr (refl, inr (refl, inr (refl, inl (omega arith)))))
 
     rest_last : (i j : Instance) → Goes p (1 ∷ (c ∷ (seen c ∷ []))) i → Contains rest j → EarlierAddress i j
@@ -239,16 +252,19 @@ module _ {V : Type 0} (g : AttributeGrammar V) (law : IsLawful g) (at : Placing)
 
     locals_and_rest : Rising EarlierAddress (locals ++ (below ++ (synths ++ rest)))
     locals_and_rest =
-        rising-append EarlierAddress locals (below ++ (synths ++ rest)) (steps_rise local class here known (grind arith)) below_synths_rest
+        rising-append EarlierAddress locals (below ++ (synths ++ rest))
+        (steps_rise local class here known (grind arith)) below_synths_rest
         (across-append EarlierAddress locals below (synths ++ rest)
         (λ i j hi hj. blocks_before 0 1 (omega arith) i j (local_goes class here i hi) (block_goes j hj))
         (across-append EarlierAddress locals synths rest
-        (λ i j hi hj. blocks_before 0 2 (omega arith) i j (local_goes class here i hi) (synthesized_goes class here j hj))
+        (λ i j hi hj. blocks_before 0 2 (omega arith) i j (local_goes class here i hi)
+        (synthesized_goes class here j hj))
         (λ i j hi hj. rest_last i j (in_kid 0 i (local_goes class here i hi)) hj)))
 
     all_rise : Rising EarlierAddress (inherits ++ (locals ++ (below ++ (synths ++ rest))))
     all_rise =
-        rising-append EarlierAddress inherits (locals ++ (below ++ (synths ++ rest))) (steps_rise inherited class here known (grind arith)) locals_and_rest
+        rising-append EarlierAddress inherits (locals ++ (below ++ (synths ++ rest)))
+        (steps_rise inherited class here known (grind arith)) locals_and_rest
         (across-append EarlierAddress inherits locals (below ++ (synths ++ rest))
         (λ i j hi hj. inherits_first 0 i j hi (local_goes class here j hj))
         (across-append EarlierAddress inherits below (synths ++ rest)
@@ -272,7 +288,8 @@ module _ {V : Type 0} (g : AttributeGrammar V) (law : IsLawful g) (at : Placing)
             later_kid = (let k = s.later_kid in let u = one_more_up c seen s.child in omega (arith, k, u));
           }
 
-      all_to_come : (i : Instance) → Contains (inherits ++ (locals ++ (below ++ (synths ++ rest)))) i → StillToCome p from seen i
+      all_to_come : (i : Instance) → Contains (inherits ++ (locals ++ (below ++ (synths ++ rest)))) i
+          → StillToCome p from seen i
       all_to_come i h =
           ⊎_elim (λ a. kid_to_come i (inherits_go i a))
           (λ h. ⊎_elim (λ a. kid_to_come i (in_kid 0 i (local_goes class here i a)))

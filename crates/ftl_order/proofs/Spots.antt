@@ -24,7 +24,8 @@ listed (x ∷ xs) a h =
     elim (a == x) as (λ b. (a == x ≡ b) → (if b then true else is_listed xs a) ≡ true) [
       | true ↦ λ e. refl
       | false ↦ λ e.
-          ⊎_elim (λ same. absurd (let f = eq-eqb a x (sym same) in let z : ⊥ = grind arith in z)) (λ later. listed xs a later)
+          ⊎_elim (λ same. absurd (let f = eq-eqb a x (sym same) in let z : ⊥ = grind arith in z))
+          (λ later. listed xs a later)
           (in_cases x a xs h)
     ]
     refl
@@ -38,7 +39,8 @@ is_there (x ∷ xs) a h =
     ]
     refl h
 
-in_stage : (passes : List Pass) (a : ℕ) → Contains (flat_map (λ (pass : Pass). pass.attributes) passes) a → has_entry passes a ≡ true
+in_stage : (passes : List Pass) (a : ℕ) → Contains (flat_map (λ (pass : Pass). pass.attributes) passes) a
+    → has_entry passes a ≡ true
 in_stage [] a h = absurd (nothing_in a h)
 in_stage (pass ∷ passes) a h =
     elim (is_listed pass.attributes a) as
@@ -51,7 +53,8 @@ in_stage (pass ∷ passes) a h =
     ]
     refl
 
-in_its_pass : (passes : List Pass) (a : ℕ) → has_entry passes a ≡ true → Contains (get_or passes (pass_of passes a) empty_pass).attributes a
+in_its_pass : (passes : List Pass) (a : ℕ) → has_entry passes a ≡ true
+    → Contains (get_or passes (pass_of passes a) empty_pass).attributes a
 in_its_pass [] a h = absurd (let z : ⊥ = grind arith in z)
 in_its_pass (pass ∷ passes) a h =
     elim (is_listed pass.attributes a) as
@@ -60,7 +63,8 @@ in_its_pass (pass ∷ passes) a h =
     [ true ↦ λ e h. is_there pass.attributes a e | false ↦ λ e h. in_its_pass passes a h ]
     refl h
 
-in_its_list : (s : Schedule) (a : ℕ) → Contains (entries s) a → Contains (pass_at s (stage_of s a) (pass_in_stage s a)).attributes a
+in_its_list : (s : Schedule) (a : ℕ) → Contains (entries s) a
+    → Contains (pass_at s (stage_of s a) (pass_in_stage s a)).attributes a
 in_its_list [] a h = absurd (nothing_in a h)
 in_its_list (passes ∷ stages) a h =
     elim (has_entry passes a) as
@@ -71,18 +75,22 @@ in_its_list (passes ∷ stages) a h =
     a) [
       | true ↦ λ e. in_its_pass passes a e
       | false ↦ λ e.
-          ⊎_elim (λ here. absurd (let f = in_stage passes a here in let z : ⊥ = grind arith in z)) (λ later. in_its_list stages a later)
+          ⊎_elim (λ here. absurd (let f = in_stage passes a here in let z : ⊥ = grind arith in z))
+          (λ later. in_its_list stages a later)
           (Contains-append_cases (flat_map (λ (p : Pass). p.attributes) passes) (entries stages) a h)
     ]
     refl
 
 -- two computed attributes of one pass and one place are one
-pub own_keys : {V : Type 0} (g : AttributeGrammar V) (s : Schedule) → EachStandsOnce g s → (a b : ℕ) → IsAttribute g a → IsAttribute g b
-    → g.sort a ≢ input → g.sort b ≢ input → IsOnePass (spot_of s a) (spot_of s b) → (spot_of s a).index ≡ (spot_of s b).index → a ≡ b
+pub own_keys : {V : Type 0} (g : AttributeGrammar V) (s : Schedule) → EachStandsOnce g s → (a b : ℕ) → IsAttribute g a
+    → IsAttribute g b
+    → g.sort a ≢ input → g.sort b ≢ input → IsOnePass (spot_of s a) (spot_of s b)
+    → (spot_of s a).index ≡ (spot_of s b).index → a ≡ b
 own_keys g s once a b of_a of_b computed_a computed_b same index =
     let in_a = in_its_list s a (counted_in (entries s) a (let e = once a of_a computed_a in omega (arith, e))) in
     let in_b = in_its_list s b (counted_in (entries s) b (let e = once b of_b computed_b in omega (arith, e))) in
-    let one : (pass_at s (stage_of s a) (pass_in_stage s a)).attributes ≡ (pass_at s (stage_of s b) (pass_in_stage s b)).attributes =
+    let one : (pass_at s (stage_of s a) (pass_in_stage s a)).attributes ≡
+    (pass_at s (stage_of s b) (pass_in_stage s b)).attributes =
     ap₂ (λ m n. (pass_at s m n).attributes) same.0 same.1 in
     sym (place_is (pass_at s (stage_of s a) (pass_in_stage s a)).attributes a 0 in_a)
     ∙ ap₂ (λ xs n. get_or xs n 0) one index

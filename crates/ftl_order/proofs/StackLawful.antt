@@ -15,7 +15,8 @@ each_in P xs h x in_it = All-contains P xs x (All-from_recursion P xs h) in_it
 
 -- each read of a rule for the node itself
 pub self_rules_have : (P : ℕ → Read → Type 0) → P 0 (single_read 0 4) → P 1 (each_read 0 3) → P 1 (each_read 0 4)
-    → P 2 (self_read 5) → P 2 (self_read 6) → (k a : ℕ) → k < 3 → (r : Read) → Contains (reads_for (stack.self_rule k a) 0) r → P k r
+    → P 2 (self_read 5) → P 2 (self_read 6) → (k a : ℕ) → k < 3 → (r : Read)
+    → Contains (reads_for (stack.self_rule k a) 0) r → P k r
 self_rules_have P p q r s u zero a known = each_in (P 0) (single_read 0 4 ∷ []) (p, tt)
 self_rules_have P p q r s u (suc zero) a known =
     elim (a == box_w) as (λ b. (x : Read) → Contains (reads_for (if b then column_w else column_h) 0) x → P 1 x)
@@ -25,12 +26,14 @@ self_rules_have P p q r s u (suc (suc zero)) a known =
     [ true ↦ each_in (P 2) (self_read 5 ∷ []) (s, tt) | false ↦ each_in (P 2) (self_read 6 ∷ []) (u, tt) ]
 self_rules_have P p q r s u (suc (suc (suc k))) a known = absurd (let z : ⊥ = omega (arith, known) in z)
 
-kids_y_have : (P : ℕ → Read → Type 0) → P 0 (self_read 2) → ((n : ℕ) → P (suc n) (prev_read 0 2)) → ((n : ℕ) → P (suc n) (prev_read 0 4))
+kids_y_have : (P : ℕ → Read → Type 0) → P 0 (self_read 2) → ((n : ℕ) → P (suc n) (prev_read 0 2))
+    → ((n : ℕ) → P (suc n) (prev_read 0 4))
     → (place : ℕ) (x : Read) → Contains (reads_for kids_y place) x → P place x
 kids_y_have P p q r zero = each_in (P 0) (self_read 2 ∷ []) (p, tt)
 kids_y_have P p q r (suc n) = each_in (P (suc n)) (prev_read 0 2 ∷ (prev_read 0 4 ∷ [])) (q n, (r n, tt))
 
-kids_x_have : (P : ℕ → Read → Type 0) → ((n : ℕ) → P n (self_read 1)) → (place : ℕ) (x : Read) → Contains (reads_for kids_x place) x → P place x
+kids_x_have : (P : ℕ → Read → Type 0) → ((n : ℕ) → P n (self_read 1)) → (place : ℕ) (x : Read)
+    → Contains (reads_for kids_x place) x → P place x
 kids_x_have P p zero = each_in (P 0) (self_read 1 ∷ []) (p 0, tt)
 kids_x_have P p (suc n) = each_in (P (suc n)) (self_read 1 ∷ []) (p (suc n), tt)
 
@@ -43,10 +46,12 @@ pub child_rules_have : (P : ℕ → Read → Type 0) → ((n : ℕ) → P n (sel
     → ((n : ℕ) → P (suc n) (prev_read 0 2)) → ((n : ℕ) → P (suc n) (prev_read 0 4))
     → (a : ℕ) → (place : ℕ) (r : Read) → Contains (reads_for (stack.child_rule 1 0 a) place) r → P place r
 child_rules_have P x y q r a =
-    elim (a == box_x) as (λ b. (place : ℕ) (u : Read) → Contains (reads_for (if b then kids_x else kids_y) place) u → P place u)
+    elim (a == box_x) as
+    (λ b. (place : ℕ) (u : Read) → Contains (reads_for (if b then kids_x else kids_y) place) u → P place u)
     [ true ↦ kids_x_have P x | false ↦ kids_y_have P y q r ]
 
-stack_self_reads : (k a : ℕ) → k < 3 → (r : Read) → Contains (reads_for (stack.self_rule k a) 0) r → MayReadForSelf stack k r
+stack_self_reads : (k a : ℕ) → k < 3 → (r : Read) → Contains (reads_for (stack.self_rule k a) 0) r
+    → MayReadForSelf stack k r
 stack_self_reads =
     self_rules_have (MayReadForSelf stack)
     ((lit< tt, refl), (3, lit< tt, refl))
@@ -70,7 +75,8 @@ stack_child_reads (suc (suc zero)) c a known declared place r in_it = absurd (le
 stack_child_reads (suc (suc (suc k))) c a known declared place r in_it = absurd (let z : ⊥ = omega (arith, known) in z)
 
 -- two folds whose steps agree at each kid
-pub fold_kids_same : {V : Type 0} (n : ℕ) (f h : V → ℕ → V) (start : V) → ((k : ℕ) → k < n → (acc : V) → f acc k ≡ h acc k)
+pub fold_kids_same : {V : Type 0} (n : ℕ) (f h : V → ℕ → V) (start : V)
+    → ((k : ℕ) → k < n → (acc : V) → f acc k ≡ h acc k)
     → fold_kids n f start ≡ fold_kids n h start
 fold_kids_same zero f h start same = refl
 fold_kids_same (suc n) f h start same =
@@ -86,7 +92,8 @@ sheet_h_alone place e kids s t same = same (single_read 0 4) (first_in (single_r
 column_w_alone : IsAlone column_w 0
 column_w_alone kids s t same =
     fold_kids_same (kids 0) (λ acc k. greatest_of acc (s (kid 0 k 3))) (λ acc k. greatest_of acc (t (kid 0 k 3))) _
-    (λ k below acc. ap (greatest_of acc) (same (each_read 0 3) (first_in (each_read 0 3) []) (kid 0 k 3) (k, below, refl)))
+    (λ k below acc. ap (greatest_of acc)
+    (same (each_read 0 3) (first_in (each_read 0 3) []) (kid 0 k 3) (k, below, refl)))
 
 column_h_alone : IsAlone column_h 0
 column_h_alone kids s t same =
@@ -102,7 +109,8 @@ word_h_alone kids s t same = same (self_read 6) (first_in (self_read 6) []) (own
 stack_self_alone : (k a : ℕ) → k < 3 → IsAlone (stack.self_rule k a) 0
 stack_self_alone zero a known = sheet_h_alone 0 refl
 stack_self_alone (suc zero) a known =
-    elim (a == box_w) as (λ b. IsAlone (if b then column_w else column_h) 0) [ true ↦ column_w_alone | false ↦ column_h_alone ]
+    elim (a == box_w) as
+    (λ b. IsAlone (if b then column_w else column_h) 0) [ true ↦ column_w_alone | false ↦ column_h_alone ]
 stack_self_alone (suc (suc zero)) a known =
     elim (a == box_w) as (λ b. IsAlone (if b then word_w else word_h) 0) [ true ↦ word_w_alone | false ↦ word_h_alone ]
 stack_self_alone (suc (suc (suc k))) a known = absurd (let z : ⊥ = omega (arith, known) in z)
@@ -117,13 +125,15 @@ kids_y_alone (suc n) kids s t same =
     let before : n ≡ suc n - 1 = omega arith in
     let some : 0 < suc n = omega arith in
     ap₂ sum_of
-    (same (prev_read 0 2) (first_in (prev_read 0 2) (prev_read 0 4 ∷ [])) (kid 0 n 2) (some, ap (λ m. kid 0 m 2) before))
+    (same (prev_read 0 2) (first_in (prev_read 0 2) (prev_read 0 4 ∷ [])) (kid 0 n 2)
+    (some, ap (λ m. kid 0 m 2) before))
     (same (prev_read 0 4) (1, lit< tt, refl) (kid 0 n 4) (some, ap (λ m. kid 0 m 4) before))
 
 stack_child_alone : (k c a : ℕ) → k < 3 → c < stack.child_count k → (place : ℕ) → IsAlone (stack.child_rule k c a) place
 stack_child_alone zero c a known declared place = λ kids s t same. refl
 stack_child_alone (suc zero) c a known declared place =
-    elim (a == box_x) as (λ b. IsAlone (if b then kids_x else kids_y) place) [ true ↦ kids_x_alone place | false ↦ kids_y_alone place ]
+    elim (a == box_x) as
+    (λ b. IsAlone (if b then kids_x else kids_y) place) [ true ↦ kids_x_alone place | false ↦ kids_y_alone place ]
 stack_child_alone (suc (suc zero)) c a known declared place = absurd (let z : ⊥ = omega (arith, declared) in z)
 stack_child_alone (suc (suc (suc k))) c a known declared place = absurd (let z : ⊥ = omega (arith, known) in z)
 

@@ -22,7 +22,8 @@ box_writers P k a column word place w h = subst₂ P (sym h.3) (sym h.4) (below 
     below (suc (suc (suc b))) known e = absurd (let z : ⊥ = omega (arith, known) in z)
 
 -- the writers of an inherited attribute of a box
-above_writers : (P : Where → RuleName → Type 0) (a : ℕ) → P parent_class (for_child 0 0 a) → P parent_class (for_child 1 0 a)
+above_writers : (P : Where → RuleName → Type 0) (a : ℕ) → P parent_class (for_child 0 0 a)
+    → P parent_class (for_child 1 0 a)
     → (place : Where) (w : RuleName) → WritesOwn stack inherited 1 a place w → P place w
 above_writers P a sheet column place w h = subst₂ P (sym h.5) (sym h.6) (above h.0 h.1 h.2 h.3)
   where
@@ -36,7 +37,8 @@ above_writers P a sheet column place w h = subst₂ P (sym h.5) (sym h.6) (above
 
 -- the pairs of one reader are listed
 abbrev Listed : RuleName → Read → Type 0
-Listed reader r = (place : Where) (w : RuleName) → Writes stack (class_of_rule reader) r place w → Contains stack_pairs (pair_of reader place w r)
+Listed reader r = (place : Where) (w : RuleName) → Writes stack (class_of_rule reader) r place w
+    → Contains stack_pairs (pair_of reader place w r)
 
 abbrev ReadsListed : RuleName → List Read → Type 0
 ReadsListed reader rs = (r : Read) → Contains rs r → Listed reader r
@@ -47,7 +49,8 @@ not_own sort (inl e) (inr f) = absurd (let z : ⊥ = grind arith in z)
 not_own sort (inr e) (inl f) = absurd (let z : ⊥ = grind arith in z)
 not_own sort (inr e) (inr f) = absurd (let z : ⊥ = grind arith in z)
 
-self_listed : (k b : ℕ) → k < 3 → OfClass stack k b → IsOwnSort (stack.sort b) → ReadsListed (for_self k b) (stack.self_rule k b).first
+self_listed : (k b : ℕ) → k < 3 → OfClass stack k b → IsOwnSort (stack.sort b)
+    → ReadsListed (for_self k b) (stack.self_rule k b).first
 self_listed zero b known of =
     each_in (λ b. IsOwnSort (stack.sort b) → ReadsListed (for_self 0 b) (stack.self_rule 0 b).first) (0 ∷ []) (
       (λ own. each_in (Listed (for_self 0 0)) (single_read 0 4 ∷ []) (
@@ -59,7 +62,8 @@ self_listed zero b known of =
     )
     b of
 self_listed (suc zero) b known of =
-    each_in (λ b. IsOwnSort (stack.sort b) → ReadsListed (for_self 1 b) (stack.self_rule 1 b).first) (1 ∷ (2 ∷ (3 ∷ (4 ∷ [])))) (
+    each_in (λ b. IsOwnSort (stack.sort b) → ReadsListed (for_self 1 b) (stack.self_rule 1 b).first)
+    (1 ∷ (2 ∷ (3 ∷ (4 ∷ [])))) (
       (λ own. not_own inherited (inl refl) own),
       (
         (λ own. not_own inherited (inl refl) own),
@@ -108,26 +112,35 @@ self_listed (suc (suc (suc k))) b known of = absurd (let z : ⊥ = omega (arith,
 abbrev BothListed : RuleName → List Read → List Read → Type 0
 BothListed reader first later = (r : Read) → Contains first r ⊎ Contains later r → Listed reader r
 
-both : (reader : RuleName) (first later : List Read) → ReadsListed reader first → ReadsListed reader later → BothListed reader first later
+both : (reader : RuleName) (first later : List Read) → ReadsListed reader first → ReadsListed reader later
+    → BothListed reader first later
 both reader first later f l r h = ⊎_elim (λ a. f r a) (λ b. l r b) h
 
 x_listed : ReadsListed (for_child 1 0 1) (self_read 1 ∷ [])
 x_listed =
-    each_in (Listed (for_child 1 0 1)) (self_read 1 ∷ [])
-    ((above_writers (λ place w. Contains stack_pairs (pair_of (for_child 1 0 1) place w (self_read 1))) 1 (6, lit< tt, refl) (7, lit< tt, refl)), tt)
+    each_in (Listed (for_child 1 0 1)) (self_read 1 ∷ []) (
+      (above_writers (λ place w. Contains stack_pairs (pair_of (for_child 1 0 1) place w (self_read 1))) 1
+          (6, lit< tt, refl) (7, lit< tt, refl)),
+      tt,
+    )
 
 y_first_listed : ReadsListed (for_child 1 0 2) (self_read 2 ∷ [])
 y_first_listed =
-    each_in (Listed (for_child 1 0 2)) (self_read 2 ∷ [])
-    ((above_writers (λ place w. Contains stack_pairs (pair_of (for_child 1 0 2) place w (self_read 2))) 2 (8, lit< tt, refl) (9, lit< tt, refl)), tt)
+    each_in (Listed (for_child 1 0 2)) (self_read 2 ∷ []) (
+      (above_writers (λ place w. Contains stack_pairs (pair_of (for_child 1 0 2) place w (self_read 2))) 2
+          (8, lit< tt, refl) (9, lit< tt, refl)),
+      tt,
+    )
 
 y_later_listed : ReadsListed (for_child 1 0 2) (prev_read 0 2 ∷ (prev_read 0 4 ∷ []))
 y_later_listed =
     each_in (Listed (for_child 1 0 2)) (prev_read 0 2 ∷ (prev_read 0 4 ∷ [])) (
       (λ place w h.
-          subst₂ (λ p x. Contains stack_pairs (pair_of (for_child 1 0 2) p x (prev_read 0 2))) (sym h.0) (sym h.1) (10, lit< tt, refl)),
+          subst₂ (λ p x. Contains stack_pairs (pair_of (for_child 1 0 2) p x (prev_read 0 2))) (sym h.0) (sym h.1)
+          (10, lit< tt, refl)),
       (
-        (box_writers (λ place w. Contains stack_pairs (pair_of (for_child 1 0 2) place w (prev_read 0 4))) 1 4 (11, lit< tt, refl) (12, lit< tt, refl)),
+        (box_writers (λ place w. Contains stack_pairs (pair_of (for_child 1 0 2) place w (prev_read 0 4))) 1 4
+            (11, lit< tt, refl) (12, lit< tt, refl)),
         tt,
       ),
     )
@@ -135,14 +148,17 @@ y_later_listed =
 child_listed : (k c b : ℕ) → k < 3 → c < stack.child_count k → OfChild stack k c b → stack.sort b ≡ inherited
     → BothListed (for_child k c b) (stack.child_rule k c b).first (stack.child_rule k c b).later
 child_listed zero c b known declared of =
-    λ e. both (for_child 0 c b) [] [] (each_in (Listed (for_child 0 c b)) [] tt) (each_in (Listed (for_child 0 c b)) [] tt)
+    λ e. both (for_child 0 c b) [] [] (each_in (Listed (for_child 0 c b)) [] tt)
+    (each_in (Listed (for_child 0 c b)) [] tt)
 child_listed (suc zero) zero b known declared of =
     each_in
-    (λ b. stack.sort b ≡ inherited → BothListed (for_child 1 0 b) (stack.child_rule 1 0 b).first (stack.child_rule 1 0 b).later)
+    (λ b. stack.sort b ≡ inherited
+    → BothListed (for_child 1 0 b) (stack.child_rule 1 0 b).first (stack.child_rule 1 0 b).later)
     (1 ∷ (2 ∷ (3 ∷ (4 ∷ [])))) (
       (λ e. both (for_child 1 0 1) (self_read 1 ∷ []) (self_read 1 ∷ []) x_listed x_listed),
       (
-        (λ e. both (for_child 1 0 2) (self_read 2 ∷ []) (prev_read 0 2 ∷ (prev_read 0 4 ∷ [])) y_first_listed y_later_listed),
+        (λ e. both (for_child 1 0 2) (self_read 2 ∷ [])
+            (prev_read 0 2 ∷ (prev_read 0 4 ∷ [])) y_first_listed y_later_listed),
         ((λ e. absurd (let z : ⊥ = grind arith in z)), ((λ e. absurd (let z : ⊥ = grind arith in z)), tt)),
       ),
     )
@@ -221,13 +237,15 @@ listed_pairs =
     )
 
 -- each computed attribute, listed once
-stack_once : (s : Schedule) → AllByRecursion (λ a. count_by (λ b. b == a) (entries s) ≡ 1) (0 ∷ (1 ∷ (2 ∷ (3 ∷ (4 ∷ [])))))
+stack_once : (s : Schedule)
+    → AllByRecursion (λ a. count_by (λ b. b == a) (entries s) ≡ 1) (0 ∷ (1 ∷ (2 ∷ (3 ∷ (4 ∷ [])))))
     → EachStandsOnce stack s
 stack_once s h a (inl shared) computed = by_interface shared.0 shared.1
   where
     by_interface : (i : ℕ) → Contains (stack.shared i) a → count_by (λ b. b == a) (entries s) ≡ 1
     by_interface i =
-        elim (i == page) as (λ b. Contains (if b then 0 ∷ [] else 1 ∷ (2 ∷ (3 ∷ (4 ∷ [])))) a → count_by (λ b. b == a) (entries s) ≡ 1) [
+        elim (i == page) as
+        (λ b. Contains (if b then 0 ∷ [] else 1 ∷ (2 ∷ (3 ∷ (4 ∷ [])))) a → count_by (λ b. b == a) (entries s) ≡ 1) [
           | true ↦ each_in (λ a. count_by (λ b. b == a) (entries s) ≡ 1) (0 ∷ []) (h.0, tt) a
           | false ↦ each_in (λ a. count_by (λ b. b == a) (entries s) ≡ 1) (1 ∷ (2 ∷ (3 ∷ (4 ∷ [])))) h.1 a
         ]

@@ -57,7 +57,8 @@ kid_below t c k p h =
 
 single_falls : SelfFalls 0 (single_read 0 4)
 single_falls t p o h sees =
-    subst (λ x. Has t (seen_from p x).node → stack_rank t (seen_from p x) < suc (size (below_of (at t p)))) (sym sees) (kid_below t 0 0 p) h
+    subst (λ x. Has t (seen_from p x).node → stack_rank t (seen_from p x) < suc (size (below_of (at t p)))) (sym sees)
+    (kid_below t 0 0 p) h
 
 each_w_falls : SelfFalls 1 (each_read 0 3)
 each_w_falls t p o h sees =
@@ -70,10 +71,12 @@ each_h_falls t p o h sees =
     (kid_below t 0 sees.0 p) h
 
 iw_falls : SelfFalls 2 (self_read 5)
-iw_falls t p o h sees = subst (λ x. stack_rank t (seen_from p x) < suc (size (below_of (at t p)))) (sym sees) (omega arith)
+iw_falls t p o h sees = subst (λ x. stack_rank t (seen_from p x) < suc (size (below_of (at t p)))) (sym sees)
+    (omega arith)
 
 ih_falls : SelfFalls 2 (self_read 6)
-ih_falls t p o h sees = subst (λ x. stack_rank t (seen_from p x) < suc (size (below_of (at t p)))) (sym sees) (omega arith)
+ih_falls t p o h sees = subst (λ x. stack_rank t (seen_from p x) < suc (size (below_of (at t p)))) (sym sees)
+    (omega arith)
 
 self_falls : (k a : ℕ) → k < 3 → (r : Read) → Contains (reads_for (stack.self_rule k a) 0) r → SelfFalls k r
 self_falls = self_rules_have SelfFalls single_falls each_w_falls each_h_falls iw_falls ih_falls
@@ -94,7 +97,8 @@ y_falls t p o sees =
 
 prev_y_falls : (n : ℕ) → ChildFalls (suc n) (prev_read 0 2)
 prev_y_falls n t p o sees =
-    subst (λ x. stack_rank t (seen_from p x) < suc (suc (size t)) + suc (suc n + way_length p)) (sym sees.1) (omega arith)
+    subst (λ x. stack_rank t (seen_from p x) < suc (suc (size t)) + suc (suc n + way_length p)) (sym sees.1)
+    (omega arith)
 
 prev_h_falls : (n : ℕ) → ChildFalls (suc n) (prev_read 0 4)
 prev_h_falls n t p o sees =
@@ -114,20 +118,23 @@ child_falls (suc (suc zero)) c a known declared place r in_it = absurd (let z : 
 child_falls (suc (suc (suc k))) c a known declared place r in_it = absurd (let z : ⊥ = omega (arith, known) in z)
 
 module _ (t : Forest) (fits : IsTreeOf stack t) where
-  own_rule_falls : (p : Path) (a : ℕ) → Has t p → (j : Instance) → Has t j.node → RuleReads t (stack.self_rule (class_at t p) a) p 0 j
+  own_rule_falls : (p : Path) (a : ℕ) → Has t p → (j : Instance) → Has t j.node
+      → RuleReads t (stack.self_rule (class_at t p) a) p 0 j
       → stack_rank t j < suc (size (below_of (at t p)))
   own_rule_falls p a h j there reads =
       subst (λ x. stack_rank t x < suc (size (below_of (at t p)))) (sym reads.4)
       (self_falls (class_at t p) a (class_known stack t fits p h) reads.0 reads.2 t p reads.1
       (subst (λ x. Has t x.node) reads.4 there) reads.3)
 
-  falls_by : (sort : Sort) (p : Path) (a : ℕ) → stack.sort a ≡ sort → Has t p → OfClass stack (class_at t p) a → (j : Instance)
+  falls_by : (sort : Sort) (p : Path) (a : ℕ) → stack.sort a ≡ sort → Has t p → OfClass stack (class_at t p) a
+      → (j : Instance)
       → Has t j.node → EquationReads stack t sort p a j → stack_rank t j < rank_by t sort p
   falls_by input p a e h of j there reads = absurd reads
   falls_by inherited top a e h of j there reads = absurd (root_inherits_nothing stack stack_lawful t fits a h of e)
   falls_by inherited (down c k p) a e h of j there reads =
       subst (λ x. stack_rank t x < suc (suc (size t)) + suc (k + way_length p)) (sym reads.4)
-      (child_falls (class_at t p) c a (class_known stack t fits p (has_above t c k p h)) (child_fits stack t fits c k p h).declared
+      (child_falls (class_at t p) c a (class_known stack t fits p (has_above t c k p h))
+      (child_fits stack t fits c k p h).declared
       k reads.0 reads.2 t p reads.1 reads.3)
   falls_by synthesized p a e h of j there reads = own_rule_falls p a h j there reads
   falls_by local p a e h of j there reads = own_rule_falls p a h j there reads
@@ -135,7 +142,8 @@ module _ (t : Forest) (fits : IsTreeOf stack t) where
   stack_falls : FallsAlongReads stack t (stack_rank t)
   stack_falls i j valid reads =
       falls_by (stack.sort i.attribute) i.node i.attribute refl valid.0 valid.1 j
-      (inside_by stack stack_lawful t fits (stack.sort i.attribute) i.node i.attribute refl valid.0 valid.1 j reads).0 reads
+      (inside_by stack stack_lawful t fits
+      (stack.sort i.attribute) i.node i.attribute refl valid.0 valid.1 j reads).0 reads
 
   pub one_stack_table : ExactlyOneTable stack t
   one_stack_table = one_table_by stack stack_lawful t fits (stack_rank t) stack_falls overflow

@@ -13,7 +13,8 @@ use Rattle.ftl_order.proofs.Kids.{kid_exists, kid_counted, has_above, node_fits,
 use Rattle.ftl_order.proofs.EquationSystem.{System, solutions_agree, solution, solution_solves}
 
 -- an inherited attribute of a class is one of its interface
-pub inherited_is_shared : {V : Type 0} (g : AttributeGrammar V) → IsLawful g → (k a : ℕ) → k < g.class_count → OfClass g k a
+pub inherited_is_shared : {V : Type 0} (g : AttributeGrammar V) → IsLawful g → (k a : ℕ) → k < g.class_count
+    → OfClass g k a
     → g.sort a ≡ inherited → Contains (g.shared (g.interface k)) a
 inherited_is_shared g law k a known of e =
     ⊎_elim (λ h. h)
@@ -66,13 +67,15 @@ module _ {V : Type 0} (g : AttributeGrammar V) (law : IsLawful g) (t : Forest) (
       (kid_instance c (kids_at t p c - 1) a p h (let z = sees.0 in omega (arith, z)) may.1)
 
   -- what a rule for a kid sees is there
-  pub child_sees_instances : (p : Path) (c k : ℕ) → Has t (down c k p) → (r : Read) → MayReadForChild g (class_at t p) c r
+  pub child_sees_instances : (p : Path) (c k : ℕ) → Has t (down c k p) → (r : Read)
+      → MayReadForChild g (class_at t p) c r
       → (o : Occurrence) → Sees (kids_at t p) k r o → IsInstance g t (seen_from p o)
   child_sees_instances p c k h (self_read a) may o sees =
       subst (λ x. IsInstance g t (seen_from p x)) (sym sees) (has_above t c k p h, may)
   child_sees_instances p c k h (single_read d a) may o sees =
       let above = has_above t c k p h in
-      subst (λ x. IsInstance g t (seen_from p x)) (sym sees) (kid_instance d 0 a p above (single_there d p above may.0) may.1)
+      subst (λ x. IsInstance g t (seen_from p x)) (sym sees)
+      (kid_instance d 0 a p above (single_there d p above may.0) may.1)
   child_sees_instances p c k h (each_read d a) may o sees = absurd may
   child_sees_instances p c k h (this_read d a) may o sees =
       subst (λ x. IsInstance g t (seen_from p x)) (sym sees)
@@ -81,7 +84,8 @@ module _ {V : Type 0} (g : AttributeGrammar V) (law : IsLawful g) (t : Forest) (
   child_sees_instances p c k h (prev_read d a) may o sees =
       subst (λ x. IsInstance g t (seen_from p x)) (sym sees.1)
       (subst (λ x. IsInstance g t (instance_of (down x (k - 1) p) a)) (sym may.0)
-      (kid_instance c (k - 1) a p (has_above t c k p h) (let z = kid_counted c k (below_of (at t p)) h in omega (arith, z)) may.2))
+      (kid_instance c (k - 1) a p (has_above t c k p h)
+      (let z = kid_counted c k (below_of (at t p)) h in omega (arith, z)) may.2))
   child_sees_instances p c k h (last_read d a) may o sees =
       subst (λ x. IsInstance g t (seen_from p x)) (sym sees.1)
       (kid_instance d (kids_at t p d - 1) a p (has_above t c k p h) (let z = sees.0 in omega (arith, z)) may.2)
@@ -90,9 +94,11 @@ module _ {V : Type 0} (g : AttributeGrammar V) (law : IsLawful g) (t : Forest) (
       → RuleReads t (g.self_rule (class_at t p) a) p 0 j → IsInstance g t j
   own_inside p a h of sort j reads =
       subst (IsInstance g t) (sym reads.4)
-      (self_sees_instances p h reads.0 (law.self_reads (class_at t p) a (class_known g t fits p h) of sort reads.0 reads.2) reads.1 reads.3)
+      (self_sees_instances p h reads.0
+      (law.self_reads (class_at t p) a (class_known g t fits p h) of sort reads.0 reads.2) reads.1 reads.3)
 
-  pub inside_by : (sort : Sort) (p : Path) (a : ℕ) → g.sort a ≡ sort → Has t p → OfClass g (class_at t p) a → (j : Instance)
+  pub inside_by : (sort : Sort) (p : Path) (a : ℕ) → g.sort a ≡ sort → Has t p → OfClass g (class_at t p) a
+      → (j : Instance)
       → EquationReads g t sort p a j → IsInstance g t j
   inside_by input p a e h of j reads = absurd reads
   inside_by inherited top a e h of j reads = absurd (root_inherits_nothing a h of e)
@@ -111,10 +117,12 @@ module _ {V : Type 0} (g : AttributeGrammar V) (law : IsLawful g) (t : Forest) (
       → (g.self_rule (class_at t p) a).value (kids_at t p) 0 (λ o. r (seen_from p o))
       ≡ (g.self_rule (class_at t p) a).value (kids_at t p) 0 (λ o. s (seen_from p o))
   own_alone r s p a h of sort same =
-      law.self_alone (class_at t p) a (class_known g t fits p h) of sort (kids_at t p) (λ o. r (seen_from p o)) (λ o. s (seen_from p o))
+      law.self_alone (class_at t p) a (class_known g t fits p h) of sort (kids_at t p) (λ o. r (seen_from p o))
+      (λ o. s (seen_from p o))
       (λ read in_it o sees. same (seen_from p o) (read, o, in_it, sees, refl))
 
-  pub alone_by : (r s : Instance → V) (sort : Sort) (p : Path) (a : ℕ) → g.sort a ≡ sort → Has t p → OfClass g (class_at t p) a
+  pub alone_by : (r s : Instance → V) (sort : Sort) (p : Path) (a : ℕ) → g.sort a ≡ sort → Has t p
+      → OfClass g (class_at t p) a
       → ((j : Instance) → EquationReads g t sort p a j → r j ≡ s j)
       → equation_value g t r sort p a ≡ equation_value g t s sort p a
   alone_by r s input p a e h of same = refl

@@ -38,18 +38,23 @@ module _ (order : List Instance) (steps : AllByRecursion (IsStep stack empty_col
         legal = λ m n d less below. rising_at Kept order kept m n d less below;
       }
 
-column_step : (a : ℕ) → stack.sort a ≢ input → Contains (1 ∷ (2 ∷ (3 ∷ (4 ∷ [])))) a → IsStep stack empty_column (instance_of the_column a)
+column_step : (a : ℕ) → stack.sort a ≢ input → Contains (1 ∷ (2 ∷ (3 ∷ (4 ∷ [])))) a
+    → IsStep stack empty_column (instance_of the_column a)
 column_step a computed of = ((tt, of), computed)
 
 sheet_step : IsStep stack empty_column (instance_of the_sheet page_h)
 sheet_step = ((tt, (0, lit< tt, refl)), λ e. (let z : ⊥ = grind arith in z))
 
-five : (a b c d e : ℕ) → AllByRecursion (λ x. x ≢ a) (b ∷ (c ∷ (d ∷ (e ∷ [])))) → AllByRecursion (λ x. x ≢ b) (c ∷ (d ∷ (e ∷ [])))
+five : (a b c d e : ℕ) → AllByRecursion (λ x. x ≢ a) (b ∷ (c ∷ (d ∷ (e ∷ []))))
+    → AllByRecursion (λ x. x ≢ b) (c ∷ (d ∷ (e ∷ [])))
     → AllByRecursion (λ x. x ≢ c) (d ∷ (e ∷ [])) → AllByRecursion (λ x. x ≢ d) (e ∷ [])
     → AreDistinct {X = ℕ} (a ∷ (b ∷ (c ∷ (d ∷ (e ∷ [])))))
 five a b c d e p q r s = (
   not_among a (b ∷ (c ∷ (d ∷ (e ∷ [])))) p,
-  (not_among b (c ∷ (d ∷ (e ∷ []))) q, (not_among c (d ∷ (e ∷ [])) r, (not_among d (e ∷ []) s, (not_among e [] tt, tt)))),
+  (
+    not_among b (c ∷ (d ∷ (e ∷ []))) q,
+    (not_among c (d ∷ (e ∷ [])) r, (not_among d (e ∷ []) s, (not_among e [] tt, tt))),
+  ),
 )
 
 w_step : IsStep stack empty_column (instance_of the_column 3)
@@ -66,15 +71,25 @@ y_step = column_step 2 (λ e. (let z : ⊥ = grind arith in z)) (1, lit< tt, ref
 
 pub x_first_legal : IsLegalOrder stack (spot_of places_beside) empty_column x_first
 x_first_legal =
-    legal_by x_first (w_step, (h_step, (sheet_step, (x_step, (y_step, tt)))))
-    ((λ c. (2, lit< tt, refl)), ((λ c. (3, lit< tt, refl)), ((λ c. (4, lit< tt, refl)), ((λ c. (0, lit< tt, refl)), ((λ c. (1, lit< tt, refl)), tt)))))
+    legal_by x_first (w_step, (h_step, (sheet_step, (x_step, (y_step, tt))))) (
+      (λ c. (2, lit< tt, refl)),
+      (
+        (λ c. (3, lit< tt, refl)),
+        ((λ c. (4, lit< tt, refl)), ((λ c. (0, lit< tt, refl)), ((λ c. (1, lit< tt, refl)), tt))),
+      ),
+    )
     (five 3 4 0 1 2 (omega arith) (omega arith) (omega arith) (omega arith))
     (search rules)
 
 pub y_first_legal : IsLegalOrder stack (spot_of places_beside) empty_column y_first
 y_first_legal =
-    legal_by y_first (w_step, (h_step, (sheet_step, (y_step, (x_step, tt)))))
-    ((λ c. (2, lit< tt, refl)), ((λ c. (4, lit< tt, refl)), ((λ c. (3, lit< tt, refl)), ((λ c. (0, lit< tt, refl)), ((λ c. (1, lit< tt, refl)), tt)))))
+    legal_by y_first (w_step, (h_step, (sheet_step, (y_step, (x_step, tt))))) (
+      (λ c. (2, lit< tt, refl)),
+      (
+        (λ c. (4, lit< tt, refl)),
+        ((λ c. (3, lit< tt, refl)), ((λ c. (0, lit< tt, refl)), ((λ c. (1, lit< tt, refl)), tt))),
+      ),
+    )
     (five 3 4 0 2 1 (omega arith) (omega arith) (omega arith) (omega arith))
     (search rules)
 

@@ -39,7 +39,8 @@ chain_unordered = (
       (λ row.
       ⊎_elim
       (λ key.
-      ⊎_elim (λ index. (let z : ⊥ = omega (arith, index) in z)) (λ child. let same = child.0 in omega (arith, same)) key)
+      ⊎_elim (λ index. (let z : ⊥ = omega (arith, index) in z))
+      (λ child. let same = child.0 in omega (arith, same)) key)
       (λ rule. let same = rule.1.0 in omega (arith, same)) row.1)
       h,
 )
@@ -48,7 +49,9 @@ pub chain_ordered : Orders chain chain_inorder a_reads_b
 chain_ordered = (chain_is_pair, inr ((refl, refl), inr ((refl, refl), inr refl)))
 
 pub width_stands_twice : EachStandsOnce stack width_twice → ⊥
-width_stands_twice once = let e = once 3 (inl (1, (2, lit< tt, refl))) (λ e. (let z : ⊥ = grind arith in z)) in omega (arith, e)
+width_stands_twice once = let e = once 3 (inl (1, (2, lit< tt, refl))) (λ e. (let z : ⊥ = grind arith in z)) in omega
+    (arith, e)
 
 pub y_is_missing : EachStandsOnce stack y_missing → ⊥
-y_is_missing once = let e = once 2 (inl (1, (1, lit< tt, refl))) (λ e. (let z : ⊥ = grind arith in z)) in omega (arith, e)
+y_is_missing once = let e = once 2 (inl (1, (1, lit< tt, refl))) (λ e. (let z : ⊥ = grind arith in z)) in omega
+    (arith, e)

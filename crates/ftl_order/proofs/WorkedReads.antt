@@ -17,10 +17,12 @@ each_height zero below = inl refl
 each_height (suc zero) below = inr refl
 each_height (suc (suc k)) below = absurd (let z : ⊥ = omega (arith, below) in z)
 
-heights_read : (r : Read) → Contains (each_read 0 box_h ∷ []) r → (o : Occurrence) → Sees (kids_at two_words the_column) 0 r o
+heights_read : (r : Read) → Contains (each_read 0 box_h ∷ []) r → (o : Occurrence)
+    → Sees (kids_at two_words the_column) 0 r o
     → Heights (seen_from the_column o)
 heights_read =
-    each_in (λ r. (o : Occurrence) → Sees (kids_at two_words the_column) 0 r o → Heights (seen_from the_column o)) (each_read 0 box_h ∷ [])
+    each_in (λ r. (o : Occurrence) → Sees (kids_at two_words the_column) 0 r o → Heights (seen_from the_column o))
+    (each_read 0 box_h ∷ [])
     ((λ o sees. subst (λ x. Heights (seen_from the_column x)) (sym sees.2) (each_height sees.0 sees.1)), tt)
 
 pub column_reads_heights : (j : Instance) → Reads stack two_words (instance_of the_column box_h) j ↔ Heights j

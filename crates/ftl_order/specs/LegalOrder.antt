@@ -48,7 +48,8 @@ Before [] ys = ⊥
 Before (x ∷ xs) [] = ⊥
 Before (x ∷ xs) (y ∷ ys) = (x < y) ⊎ ((x ≡ y) × Before xs ys)
 
--- The sequence of an inorder pass at a node: the locals; for each child and each kid, the kid's inherited attributes and
+-- The sequence of an inorder pass at a node: the locals; for each child and each kid, the kid's inherited attributes
+-- and
 -- then the kid's sequence; the synthesized attributes. A step's address names, from the root on, the block, the child
 -- and the kid, then 0 for the attributes there and 1 for the kid's sequence; it ends in the place in the pass's list.
 abbrev pub way_to : Path → List ℕ → List ℕ
@@ -90,7 +91,8 @@ abbrev pub IsNearBefore : {V : Type 0} → AttributeGrammar V → Placing → In
 IsNearBefore g at i j = TurnNear at (turn_of g i) (turn_of g j)
 
 -- all steps, each once, and none before one that must precede it
-pub record IsLegalOrder {V : Type 0} (g : AttributeGrammar V) (at : Placing) (t : Forest) (order : List Instance) : Type 0 where
+pub record IsLegalOrder {V : Type 0} (g : AttributeGrammar V) (at : Placing) (t : Forest)
+    (order : List Instance) : Type 0 where
   pub steps : (i : Instance) → Contains order i → IsStep g t i
   pub all : (i : Instance) → IsStep g t i → Contains order i
   pub once : AreDistinct order

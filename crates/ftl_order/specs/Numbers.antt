@@ -1,4 +1,5 @@
--- Numbers of nodes and of instances: each node has its own, a subtree is a range of them, and so are a node's instances.
+-- Numbers of nodes and of instances: each node has its own, a subtree is a range of them, and so are a node's
+-- instances.
 use Rattle.std.specs.Prelude.{◌≡◌, ◌↔◌, ℕ, ◌+◌, ◌<◌, length, slice_index_or}
 use Rattle.ftl_model.specs.Values.{Value}
 use Rattle.ftl_model.specs.Tree.{Forest, IsTree}
@@ -42,6 +43,7 @@ InstancesHaveNumbers =
 -- each number below the count is the number of the instance there
 abbrev pub NumbersHaveInstances : Type 0
 NumbersHaveInstances =
-    (g : AttributeGrammar Value) (t : Forest) (n : ℕ) (d : Instance) → IsLawful g → IsTreeOf g t → n < instance_count g t
+    (g : AttributeGrammar Value) (t : Forest) (n : ℕ) (d : Instance) → IsLawful g → IsTreeOf g t
+    → n < instance_count g t
     → IsInstance g t (slice_index_or (instances g t) n d)
     × (instance_number g t (slice_index_or (instances g t) n d) ≡ n)

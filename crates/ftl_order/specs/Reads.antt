@@ -8,12 +8,14 @@ use Rattle.ftl_model.specs.Solves.{Instance, IsInstance, seen_from, rule_node, r
 -- a rule that runs at node `p` for the kid at `place` reads this instance
 abbrev pub RuleReads : {V : Type 0} → Forest → Rule V → Path → ℕ → Instance → Type 0
 RuleReads t rule p place j =
-    (r : Read) × (o : Occurrence) × Contains (reads_for rule place) r × Sees (kids_at t p) place r o × (j ≡ seen_from p o)
+    (r : Read) × (o : Occurrence) × Contains (reads_for rule place) r × Sees (kids_at t p) place r o
+    × (j ≡ seen_from p o)
 
 -- the equation of attribute `a` at node `p` reads this instance; that of an input reads nothing
 abbrev pub EquationReads : {V : Type 0} → AttributeGrammar V → Forest → Sort → Path → ℕ → Instance → Type 0
 EquationReads g t input p a j = ⊥
-EquationReads g t inherited p a j = RuleReads t (rule_of g t inherited p a) (rule_node inherited p) (rule_kid inherited p) j
+EquationReads g t inherited p a j = RuleReads t (rule_of g t inherited p a) (rule_node inherited p)
+    (rule_kid inherited p) j
 EquationReads g t synthesized p a j = RuleReads t (rule_of g t synthesized p a) p 0 j
 EquationReads g t local p a j = RuleReads t (rule_of g t local p a) p 0 j
 

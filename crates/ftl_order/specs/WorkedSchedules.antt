@@ -66,7 +66,8 @@ kids_read_y writer = pair_of (for_child column only_child box_y) parent_class wr
 
 abbrev pub kids_read_prev_y : Pair
 kids_read_prev_y =
-    pair_of (for_child column only_child box_y) same_class (for_child column only_child box_y) (prev_read only_child box_y)
+    pair_of (for_child column only_child box_y) same_class (for_child column only_child box_y)
+    (prev_read only_child box_y)
 
 abbrev pub kids_read_prev_h : RuleName → Pair
 kids_read_prev_h writer = pair_of (for_child column only_child box_y) child_class writer (prev_read only_child box_h)

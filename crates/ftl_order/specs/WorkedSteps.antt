@@ -32,7 +32,8 @@ MustBe s two = MustPrecede stack (spot_of s) two.earlier two.later
 -- neither must come before the other
 abbrev pub IsFree : Schedule → TwoSteps → Type 0
 IsFree s two =
-    (MustPrecede stack (spot_of s) two.earlier two.later → ⊥) × (MustPrecede stack (spot_of s) two.later two.earlier → ⊥)
+    (MustPrecede stack (spot_of s) two.earlier two.later → ⊥)
+    × (MustPrecede stack (spot_of s) two.later two.earlier → ⊥)
 
 -- under bottomup { Page.h Box.w Box.h } ; topdown { Box.x Box.y }
 abbrev pub in_order : List TwoSteps

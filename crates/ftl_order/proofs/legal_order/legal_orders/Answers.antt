@@ -4,6 +4,10 @@ use Rattle.ftl_order.proofs.legal_order.legal_orders.Goals as goal
 
 pub returns : goal.returns
 returns c = record {
-  exists = λ g s t law ordered fits. (order_by_rank g (spot_of s) t (spot_of-one_kind s) law ordered.pairs fits, order_by_rank_legal g (spot_of s) t (spot_of-one_kind s) law ordered.pairs fits);
+  exists = λ g s t law ordered fits. (
+    order_by_rank g (spot_of s) t (spot_of-one_kind s) law ordered.pairs fits,
+    order_by_rank_legal g (spot_of s) t
+        (spot_of-one_kind s) law ordered.pairs fits,
+  );
   writers_before = λ g s t law ordered fits. writer_before g (spot_of s) t (spot_of-one_kind s) law ordered.pairs fits;
 }
