@@ -3,6 +3,7 @@ use Rattle.std.proofs.Common.{◌≡◌, ℕ, zero, suc, ◌+◌, ◌<◌, ◌�
 use Rattle.ftl_model.specs.Tree.{Forest, none, tree, size, IsTree, class_of, inputs_of, below_of, count_in, from_kid}
 use Rattle.ftl_model.specs.Path.{Path, top, down, at, Has, class_at}
 use Rattle.ftl_model.specs.AttributeGrammar.{AttributeGrammar}
+use Rattle.ftl_model.proofs.Standing.{has_parent}
 use Rattle.ftl_model.specs.TreeOf.{FitsClass, FitsChild, FitBelow, IsTreeOf}
 
 pub kid_exists : (c k : ℕ) (f : Forest) → k < count_in c f → IsTree (from_kid c k f)
@@ -51,14 +52,6 @@ pub below_size : (f : Forest) → IsTree f → size (below_of f) < size f
 below_size none h = absurd h
 below_size (tree class child inputs below beside) h = omega arith
 
--- the node above a node is there
-pub has_kids : (c k : ℕ) (f : Forest) → IsTree (from_kid c k (below_of f)) → IsTree f
-has_kids c k none h = h
-has_kids c k (tree class child inputs below beside) h = tt
-
-pub has_above : (t : Forest) (c k : ℕ) (p : Path) → Has t (down c k p) → Has t p
-has_above t c k p h = has_kids c k (at t p) h
-
 -- the first tree has its inputs and its kids
 pub record FitsNode {V : Type 0} (g : AttributeGrammar V) (f : Forest) : Type 0 where
   pub itself : FitsClass g (class_of f) (inputs_of f) (below_of f)
@@ -98,13 +91,13 @@ pub node_fits : {V : Type 0} (g : AttributeGrammar V) (t : Forest) → IsTreeOf 
     → FitsNode g (at t p)
 node_fits g t fits top h = root_fits g t fits
 node_fits g t fits (down c k p) h =
-    (kid_fits g (class_at t p) c k (below_of (at t p)) (node_fits g t fits p (has_above t c k p h)).below h).node
+    (kid_fits g (class_at t p) c k (below_of (at t p)) (node_fits g t fits p (has_parent t c k p h)).below h).node
 
 pub child_fits : {V : Type 0} (g : AttributeGrammar V) (t : Forest) → IsTreeOf g t → (c k : ℕ) (p : Path)
     → Has t (down c k p)
     → FitsChild g (class_at t p) c (class_at t (down c k p))
 child_fits g t fits c k p h =
-    (kid_fits g (class_at t p) c k (below_of (at t p)) (node_fits g t fits p (has_above t c k p h)).below h).child
+    (kid_fits g (class_at t p) c k (below_of (at t p)) (node_fits g t fits p (has_parent t c k p h)).below h).child
 
 pub class_known : {V : Type 0} (g : AttributeGrammar V) (t : Forest) → IsTreeOf g t → (p : Path) → Has t p
     → class_at t p < g.class_count

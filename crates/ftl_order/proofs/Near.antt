@@ -5,13 +5,14 @@ use Rattle.ftl_model.specs.Path.{Path, top, down, Has, class_at, kids_at}
 use Rattle.ftl_model.specs.AttributeGrammar.{AttributeGrammar, Read, self_read, single_read, each_read, this_read, prev_read, last_read, Occurrence, Sees, reads_for, Sort, input, inherited, synthesized, local}
 use Rattle.ftl_model.specs.TreeOf.{IsTreeOf}
 use Rattle.ftl_model.specs.Solves.{Instance, IsInstance, seen_from}
+use Rattle.ftl_model.proofs.Standing.{has_parent}
 use Rattle.ftl_order.specs.Lawful.{IsLawful, OfClass, OfChild, IsOwnSort, MayReadForSelf, MayReadForChild}
 use Rattle.ftl_order.specs.Reads.{RuleReads, EquationReads, Reads}
 use Rattle.ftl_order.specs.Schedule.{Placing}
 use Rattle.ftl_order.specs.Pairs.{RuleName, for_self, for_child, Where, same_class, parent_class, child_class, Writes, WritesOwn, WritesKid, is_by_prev, child_read}
 use Rattle.ftl_order.specs.Ordered.{block_of, VisitPlace, place_of, ChildRow, IsOrderedRead, EachPairOrdered}
 use Rattle.ftl_order.specs.LegalOrder.{Turn, turn_by, turn_of, TurnNear, IsNearBefore}
-use Rattle.ftl_order.proofs.Kids.{has_above, child_fits, class_known}
+use Rattle.ftl_order.proofs.Kids.{child_fits, class_known}
 use Rattle.ftl_order.proofs.TreeEquations.{inherited_of_child, root_inherits_nothing, self_sees_instances, child_sees_instances}
 use Rattle.ftl_order.proofs.Rows.{turn, same_visit_near, parent_near, child_near, lift_row, own_block}
 
@@ -37,7 +38,7 @@ module _ {V : Type 0} (g : AttributeGrammar V) (law : IsLawful g) (at : Placing)
       let x : VisitPlace = record { attribute = a; block = 1; child = c } in
       inr (lift_row at parent_class (self_read a) x y q (down c k q) k ky
       (ordered parent_class (for_child (class_at t q) c a)
-      (class_at t q, c, class_known g t fits q (has_above t c k q h), fit.declared, sym fit.interface, refl, refl))
+      (class_at t q, c, class_known g t fits q (has_parent t c k q h), fit.declared, sym fit.interface, refl, refl))
       (λ row. parent_near (at y.attribute).kind at row q c k x y ky refl refl))
   own_near synthesized p a e h of y ky ordered =
       let x : VisitPlace = record { attribute = a; block = 2; child = 0 } in
@@ -120,7 +121,7 @@ module _ {V : Type 0} (g : AttributeGrammar V) (law : IsLawful g) (at : Placing)
       → NearOrInput (seen_from p o) (turn p (record { attribute = b; block = 1; child = c }) k)
   child_read_near p c k b h (self_read a) may o sees ordered =
       subst (λ x. NearOrInput (seen_from p x) (turn p (record { attribute = b; block = 1; child = c }) k)) (sym sees)
-      (own_near (g.sort a) p a refl (has_above t c k p h) may
+      (own_near (g.sort a) p a refl (has_parent t c k p h) may
       (record { attribute = b; block = 1; child = c }) k ordered)
   child_read_near p c k b h (single_read d a) may o sees ordered =
       subst (λ x. NearOrInput (seen_from p x) (turn p (record { attribute = b; block = 1; child = c }) k)) (sym sees)
@@ -182,7 +183,7 @@ module _ {V : Type 0} (g : AttributeGrammar V) (law : IsLawful g) (at : Placing)
     near_by input p b e h of j reads = absurd reads
     near_by inherited top b e h of j reads = absurd (root_inherits_nothing g law t fits b h of e)
     near_by inherited (down c k p) b e h of j reads =
-        let known = class_known g t fits p (has_above t c k p h) in
+        let known = class_known g t fits p (has_parent t c k p h) in
         let declared = (child_fits g t fits c k p h).declared in
         let shared = inherited_of_child g law t fits b c k p h of e in
         subst (λ x. NearOrInput x (turn p (record { attribute = b; block = 1; child = c }) k)) (sym reads.4)

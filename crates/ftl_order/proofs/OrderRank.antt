@@ -6,12 +6,13 @@ use Rattle.ftl_model.specs.AttributeGrammar.{AttributeGrammar, Sort, input, inhe
 use Rattle.ftl_model.specs.TreeOf.{IsTreeOf}
 use Rattle.ftl_model.specs.Solves.{Instance, IsInstance, rule_node}
 use Rattle.ftl_model.specs.Table.{instances, instance_number}
+use Rattle.ftl_model.proofs.Standing.{has_parent}
 use Rattle.ftl_order.specs.Lawful.{IsLawful}
 use Rattle.ftl_order.specs.Reads.{EquationReads, Reads, FallsAlongReads}
 use Rattle.ftl_order.specs.Schedule.{PassKind, topdown, bottomup, inorder, Placing, HasOneKind}
 use Rattle.ftl_order.specs.Ordered.{EachPairOrdered}
 use Rattle.ftl_order.specs.LegalOrder.{Turn, turn_of, KeyFirst, Before, address, FirstInPass, TurnPrecedes, MustPrecede}
-use Rattle.ftl_order.proofs.Kids.{kid_size, below_size, has_above}
+use Rattle.ftl_order.proofs.Kids.{kid_size, below_size}
 use Rattle.ftl_order.proofs.Instances.{length-instances, instance_at_number, number_within}
 use Rattle.ftl_order.proofs.TreeEquations.{inside_by}
 use Rattle.ftl_order.proofs.Weights.{weight, before_weight, sum_of_all, all_below, total_by, at_most_total_of}
@@ -31,9 +32,9 @@ above_depth p (down c k q) h =
 depth_within : (t : Forest) (p : Path) → Has t p → depth_of p + size (tree_at t p) ≤ size t
 depth_within t top h = omega arith
 depth_within t (down c k p) h =
-    let i = depth_within t p (has_above t c k p h) in
+    let i = depth_within t p (has_parent t c k p h) in
     let a = kid_size c k (below_of (tree_at t p)) in
-    let b = below_size (tree_at t p) (has_above t c k p h) in
+    let b = below_size (tree_at t p) (has_parent t c k p h) in
     omega (arith, i, a, b)
 
 -- the digits of a turn in its pass
@@ -87,7 +88,7 @@ precedes_digits at one_kind n x y deep first =
 visit_there : (t : Forest) (sort : Sort) (p : Path) → Has t p → Has t (rule_node sort p)
 visit_there t input p h = h
 visit_there t inherited top h = h
-visit_there t inherited (down c k p) h = has_above t c k p h
+visit_there t inherited (down c k p) h = has_parent t c k p h
 visit_there t synthesized p h = h
 visit_there t local p h = h
 

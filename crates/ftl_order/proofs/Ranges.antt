@@ -6,9 +6,8 @@ use Rattle.ftl_model.specs.Tree.{Forest, none, tree, IsTree, size, below_of, fro
 use Rattle.ftl_model.specs.Path.{Path, top, down, at, Has, Above, size_at, number_of, one_more, nodes_below, preorder}
 use Rattle.ftl_model.proofs.Each.{each-append, each_at}
 use Rattle.ftl_model.proofs.Numbering.{length-nodes_below}
-use Rattle.ftl_model.proofs.Standing.{stands, node_at-number_of}
+use Rattle.ftl_model.proofs.Standing.{has_parent, stands, node_at-number_of}
 use Rattle.ftl_order.specs.Numbers.{InRangeOf}
-use Rattle.ftl_order.proofs.Kids.{has_above}
 
 -- a kid's tree lies among the trees, behind the nodes before it
 kid_room : (c k : ℕ) (f : Forest) → IsTree (from_kid c k f)
@@ -48,7 +47,7 @@ above_range t p (down c k q) h above =
     (λ r. (number_of t r < number_of t (down c k q))
     × (number_of t (down c k q) + size_at t (down c k q) ≤ number_of t r + size_at t r)) (sym e) one)
     (λ far.
-    let i = above_range t p q (has_above t c k q h) far in
+    let i = above_range t p q (has_parent t c k q h) far in
     let first = i.0 in
     let last = i.1 in (
       (let z : number_of t p < number_of t (down c k q) = omega (arith, first, less) in z),

@@ -6,10 +6,11 @@ use Rattle.ftl_model.specs.Path.{Path, top, down, at, Has, class_at, kids_at}
 use Rattle.ftl_model.specs.AttributeGrammar.{AttributeGrammar, Read, self_read, single_read, each_read, this_read, prev_read, last_read, Occurrence, Sees, Sort, input, inherited, synthesized, local}
 use Rattle.ftl_model.specs.TreeOf.{IsTreeOf}
 use Rattle.ftl_model.specs.Solves.{Instance, instance_of, IsInstance, seen_from, equation_value}
+use Rattle.ftl_model.proofs.Standing.{has_parent}
 use Rattle.ftl_order.specs.Lawful.{IsLawful, IsSingle, OfClass, OfChild, MayReadForSelf, MayReadForChild, IsOwnSort}
 use Rattle.ftl_order.specs.Reads.{RuleReads, EquationReads, Reads, FallsAlongReads}
 use Rattle.ftl_order.specs.OneTable.{ExactlyOneTable}
-use Rattle.ftl_order.proofs.Kids.{kid_exists, kid_counted, has_above, node_fits, child_fits, class_known, root_interface}
+use Rattle.ftl_order.proofs.Kids.{kid_exists, kid_counted, node_fits, child_fits, class_known, root_interface}
 use Rattle.ftl_order.proofs.EquationSystem.{System, solutions_agree, solution, solution_solves}
 
 -- an inherited attribute of a class is one of its interface
@@ -71,24 +72,24 @@ module _ {V : Type 0} (g : AttributeGrammar V) (law : IsLawful g) (t : Forest) (
       → MayReadForChild g (class_at t p) c r
       → (o : Occurrence) → Sees (kids_at t p) k r o → IsInstance g t (seen_from p o)
   child_sees_instances p c k h (self_read a) may o sees =
-      subst (λ x. IsInstance g t (seen_from p x)) (sym sees) (has_above t c k p h, may)
+      subst (λ x. IsInstance g t (seen_from p x)) (sym sees) (has_parent t c k p h, may)
   child_sees_instances p c k h (single_read d a) may o sees =
-      let above = has_above t c k p h in
+      let above = has_parent t c k p h in
       subst (λ x. IsInstance g t (seen_from p x)) (sym sees)
       (kid_instance d 0 a p above (single_there d p above may.0) may.1)
   child_sees_instances p c k h (each_read d a) may o sees = absurd may
   child_sees_instances p c k h (this_read d a) may o sees =
       subst (λ x. IsInstance g t (seen_from p x)) (sym sees)
       (subst (λ x. IsInstance g t (instance_of (down x k p) a)) (sym may.0)
-      (kid_instance c k a p (has_above t c k p h) (kid_counted c k (below_of (at t p)) h) may.2))
+      (kid_instance c k a p (has_parent t c k p h) (kid_counted c k (below_of (at t p)) h) may.2))
   child_sees_instances p c k h (prev_read d a) may o sees =
       subst (λ x. IsInstance g t (seen_from p x)) (sym sees.1)
       (subst (λ x. IsInstance g t (instance_of (down x (k - 1) p) a)) (sym may.0)
-      (kid_instance c (k - 1) a p (has_above t c k p h)
+      (kid_instance c (k - 1) a p (has_parent t c k p h)
       (let z = kid_counted c k (below_of (at t p)) h in omega (arith, z)) may.2))
   child_sees_instances p c k h (last_read d a) may o sees =
       subst (λ x. IsInstance g t (seen_from p x)) (sym sees.1)
-      (kid_instance d (kids_at t p d - 1) a p (has_above t c k p h) (let z = sees.0 in omega (arith, z)) may.2)
+      (kid_instance d (kids_at t p d - 1) a p (has_parent t c k p h) (let z = sees.0 in omega (arith, z)) may.2)
 
   own_inside : (p : Path) (a : ℕ) → Has t p → OfClass g (class_at t p) a → IsOwnSort (g.sort a) → (j : Instance)
       → RuleReads t (g.self_rule (class_at t p) a) p 0 j → IsInstance g t j
@@ -103,7 +104,7 @@ module _ {V : Type 0} (g : AttributeGrammar V) (law : IsLawful g) (t : Forest) (
   inside_by input p a e h of j reads = absurd reads
   inside_by inherited top a e h of j reads = absurd (root_inherits_nothing a h of e)
   inside_by inherited (down c k p) a e h of j reads =
-      let above = has_above t c k p h in
+      let above = has_parent t c k p h in
       subst (IsInstance g t) (sym reads.4)
       (child_sees_instances p c k h reads.0
       (law.child_reads (class_at t p) c a (class_known g t fits p above) (child_fits g t fits c k p h).declared
@@ -128,7 +129,7 @@ module _ {V : Type 0} (g : AttributeGrammar V) (law : IsLawful g) (t : Forest) (
   alone_by r s input p a e h of same = refl
   alone_by r s inherited top a e h of same = absurd (root_inherits_nothing a h of e)
   alone_by r s inherited (down c k p) a e h of same =
-      let above = has_above t c k p h in
+      let above = has_parent t c k p h in
       law.child_alone (class_at t p) c a (class_known g t fits p above) (child_fits g t fits c k p h).declared
       (inherited_of_child a c k p h of e) e k (kids_at t p) (λ o. r (seen_from p o)) (λ o. s (seen_from p o))
       (λ read in_it o sees. same (seen_from p o) (read, o, in_it, sees, refl))

@@ -1,4 +1,4 @@
-use Rattle.ftl_order.proofs.SequenceHas.{precede_stands, stands_precede}
+use Rattle.ftl_order.proofs.SequenceOrder.{precede_stands, stands_precede}
 use Rattle.ftl_order.proofs.legal_order.inorder_sequences.Goals as goal
 
 pub returns : goal.returns

@@ -1,5 +1,5 @@
 use Rattle.ftl_order.proofs.ChainLaws.{chain_inorder_ordered}
-use Rattle.ftl_order.proofs.StackPairs.{sizes_then_places_ordered, places_beside_ordered}
+use Rattle.ftl_order.proofs.StackSchedules.{sizes_then_places_ordered, places_beside_ordered}
 use Rattle.ftl_order.proofs.worked.accepted_schedules.Goals as goal
 
 pub returns : goal.returns
