@@ -1,0 +1,184 @@
+-- Each instance of a tree stands in the list of instances at its number, and nothing else stands there.
+use Rattle.std.proofs.Common.{◌≡◌, ℕ, zero, suc, ◌+◌, ◌-◌, ◌<◌, ◌≤◌, ◌==◌, true, false, if◌then◌else◌, refl, sym, ◌∙◌, ap, subst, arith, List, [], ◌∷◌, length, get_or, take, map, sum_by, flat_map, Contains, ⊎_elim, eqb-true, eq-eqb, ne_eqb, length-append}
+use Rattle.std.proofs.lemmas.Bool.{cases_lt}
+use Rattle.std.proofs.lemmas.List.{get_or-map, length-map}
+use Rattle.std.proofs.lemmas.List.Concat.{get_or-flat_map, length-flat_map}
+use Rattle.std.proofs.lemmas.List.Elements.{Contains-get_or}
+use mathlib.Core.Path.{fun_ext}
+use Rattle.ftl_model.specs.Tree.{Forest, size, below_of}
+use Rattle.ftl_model.specs.Path.{Path, top, Has, class_at, preorder, number_of, node_at}
+use Rattle.ftl_model.specs.AttributeGrammar.{AttributeGrammar}
+use Rattle.ftl_model.specs.TreeOf.{IsTreeOf}
+use Rattle.ftl_model.specs.Solves.{Instance, instance_of, attributes_of, IsInstance}
+use Rattle.ftl_model.specs.Table.{place_in, width_at, instances, instance_count, instance_number}
+use Rattle.ftl_model.proofs.Numbering.{length-preorder, number_of-node_at, has-node_at}
+use Rattle.ftl_model.proofs.Standing.{number_of-lt, node_at-number_of}
+use Rattle.ftl_order.specs.Lawful.{IsLawful, OfClass, AreDistinct}
+use Rattle.ftl_order.proofs.Kids.{class_known, root_there}
+
+in_tail : (y x : ℕ) (ys : List ℕ) → (x ≡ y → ⊥) → Contains (y ∷ ys) x → Contains ys x
+in_tail y x ys differ h = go h.0 h.1 h.2
+  where
+    go : (k : ℕ) → k < length (y ∷ ys) → get_or (y ∷ ys) k x ≡ x → Contains ys x
+    go zero below e = absurd (differ (sym e))
+    go (suc k) below e = (k, let z : k < length ys = omega (arith, below) in z, e)
+
+pub place_within : (xs : List ℕ) (x : ℕ) → Contains xs x → place_in xs x < length xs
+place_within [] x h = absurd (let b = h.1 in let z : ⊥ = omega (arith, b) in z)
+place_within (y ∷ ys) x h =
+    elim (x == y) as (λ b. (x == y ≡ b) → (if b then 0 else suc (place_in ys x)) < suc (length ys)) [
+      | true ↦ λ e. omega arith
+      | false ↦ λ e.
+          let i = place_within ys x (in_tail y x ys (λ same. let z : ⊥ = cc (eq-eqb x y same) in z) h) in
+          omega (arith, i)
+    ]
+    refl
+
+pub place_is : (xs : List ℕ) (x d : ℕ) → Contains xs x → get_or xs (place_in xs x) d ≡ x
+place_is [] x d h = absurd (let b = h.1 in let z : ⊥ = omega (arith, b) in z)
+place_is (y ∷ ys) x d h =
+    elim (x == y) as (λ b. (x == y ≡ b) → get_or (y ∷ ys) (if b then 0 else suc (place_in ys x)) d ≡ x) [
+      | true ↦ λ e. sym (eqb-true x y e)
+      | false ↦ λ e. place_is ys x d (in_tail y x ys (λ same. let z : ⊥ = cc (eq-eqb x y same) in z) h)
+    ]
+    refl
+
+-- among numbers that differ each stands at its first place
+place_of_entry : (xs : List ℕ) → AreDistinct xs → (j d : ℕ) → j < length xs → place_in xs (get_or xs j d) ≡ j
+place_of_entry [] differ j d below = absurd (let z : ⊥ = omega (arith, below) in z)
+place_of_entry (y ∷ ys) differ zero d below = ap (λ b. if b then 0 else suc (place_in ys y)) (eq-eqb y y refl)
+place_of_entry (y ∷ ys) differ (suc j) d below =
+    let within : j < length ys = omega (arith, below) in
+    let x = get_or ys j d in
+    ap (λ b. if b then 0 else suc (place_in ys x))
+    (ne_eqb x y (λ same. differ.0 (subst (Contains ys) same (Contains-get_or ys j d within))))
+    ∙ ap suc (place_of_entry ys differ.1 j d within)
+
+-- the piece of a list of pieces in which a place falls
+record Piece {X A : Type 0} (f : X → List A) (d : X) (xs : List X) (n : ℕ) : Type 0 where
+  pub piece : ℕ
+  pub place : ℕ
+  pub known : piece < length xs
+  pub within : place < length (f (get_or xs piece d))
+  pub is : length (flat_map f (take piece xs)) + place ≡ n
+
+next_piece : {X A : Type 0} (f : X → List A) (d x : X) (xs : List X) (n : ℕ) → length (f x) ≤ n
+    → Piece f d xs (n - length (f x))
+    → Piece f d (x ∷ xs) n
+next_piece f d x xs n late later =
+    record {
+      piece = suc later.piece;
+      place = later.place;
+      known = (let k = later.known in omega (arith, k));
+      within = later.within;
+      is = (let e = later.is in omega (arith, e, late, length-append (f x) (flat_map f (take later.piece xs))));
+    }
+
+piece_of : {X A : Type 0} (f : X → List A) (d : X) (xs : List X) (n : ℕ) → n < length (flat_map f xs) → Piece f d xs n
+piece_of f d [] n below = absurd (let z : ⊥ = omega (arith, below) in z)
+piece_of f d (x ∷ xs) n below =
+    ⊎_elim (λ early. record { piece = 0; place = n; known = omega arith; within = early; is = omega arith })
+    (λ late. next_piece f d x xs n late
+    (piece_of f d xs (n - length (f x)) (omega (arith, below, late, length-append (f x) (flat_map f xs)))))
+    (cases_lt n (length (f x)))
+
+-- a place in a piece is a place in the whole
+piece_within : {X A : Type 0} (f : X → List A) (d : X) (xs : List X) (i j : ℕ) → i < length xs
+    → j < length (f (get_or xs i d))
+    → length (flat_map f (take i xs)) + j < length (flat_map f xs)
+piece_within f d [] i j known within = absurd (let z : ⊥ = omega (arith, known) in z)
+piece_within f d (x ∷ xs) zero j known within = omega (arith, within, length-append (f x) (flat_map f xs))
+piece_within f d (x ∷ xs) (suc i) j known within =
+    let later = piece_within f d xs i j (omega (arith, known)) within in
+    omega (arith, later, length-append (f x) (flat_map f xs), length-append (f x) (flat_map f (take i xs)))
+
+module _ {V : Type 0} (g : AttributeGrammar V) (t : Forest) where
+  -- the instances of a node
+  abbrev row : Path → List Instance
+  row p = map (instance_of p) (attributes_of g (class_at t p))
+
+  length-row : (p : Path) → length (row p) ≡ width_at g t p
+  length-row p = length-map (attributes_of g (class_at t p)) (instance_of p)
+
+  before_row : (ps : List Path) → length (flat_map row ps) ≡ sum_by (width_at g t) ps
+  before_row ps = length-flat_map row ps ∙ ap (λ w. sum_by w ps) (fun_ext length-row)
+
+  pub length-instances : length (instances g t) ≡ instance_count g t
+  length-instances = before_row (preorder t)
+
+  -- the instance of a node stands after those of the nodes before it
+  instance_in_row : (i j : ℕ) (d : Instance) → i < length (preorder t) → j < width_at g t (node_at t i)
+      → get_or (instances g t) (sum_by (width_at g t) (take i (preorder t)) + j) d
+      ≡ instance_of (node_at t i) (get_or (attributes_of g (class_at t (node_at t i))) j 0)
+  instance_in_row i j d known within =
+      ap (λ n. get_or (instances g t) (n + j) d) (sym (before_row (take i (preorder t))))
+      ∙ get_or-flat_map row (preorder t) i j top d known (let e = length-row (node_at t i) in omega (arith, e, within))
+      ∙ get_or-map (instance_of (node_at t i)) (attributes_of g (class_at t (node_at t i))) j 0 d within
+
+  pub instance_at_number : (p : Path) (a : ℕ) (d : Instance) → Has t p → OfClass g (class_at t p) a
+      → get_or (instances g t) (instance_number g t (instance_of p a)) d ≡ instance_of p a
+  instance_at_number p a d h of =
+      let n = number_of t p in
+      let these = attributes_of g (class_at t p) in
+      let there : node_at t n ≡ p = node_at-number_of t p h in
+      let known : n < length (preorder t) = omega (arith, number_of-lt t p h, length-preorder t) in
+      subst
+      (λ q.
+      place_in these a < width_at g t q
+      → get_or (instances g t) (sum_by (width_at g t) (take n (preorder t)) + place_in these a) d
+      ≡ instance_of q (get_or (attributes_of g (class_at t q)) (place_in these a) 0))
+      there (instance_in_row n (place_in these a) d known) (place_within these a of)
+      ∙ ap (instance_of p) (place_is these a 0 of)
+
+  -- a number below the count is the number of an instance
+  pub record Numbered (n : ℕ) : Type 0 where
+    pub instance : Instance
+    pub valid : IsInstance g t instance
+    pub number : instance_number g t instance ≡ n
+
+  pub number_within : (p : Path) (a : ℕ) → Has t p → OfClass g (class_at t p) a
+      → instance_number g t (instance_of p a) < instance_count g t
+  number_within p a h of =
+      let n = number_of t p in
+      let j = place_in (attributes_of g (class_at t p)) a in
+      let known : n < length (preorder t) = omega (arith, number_of-lt t p h, length-preorder t) in
+      let inside =
+      piece_within row top (preorder t) n j known
+      (subst (λ q. j < length (row q)) (sym (node_at-number_of t p h))
+      (let e = length-row p in let w = place_within (attributes_of g (class_at t p)) a of in omega (arith, e, w))) in
+      let e = before_row (take n (preorder t)) in
+      let whole = length-instances in
+      omega (arith, inside, e, whole)
+
+  pub numbered : IsLawful g → IsTreeOf g t → (n : ℕ) → n < instance_count g t → Numbered n
+  numbered law fits n below =
+      let piece = piece_of row top (preorder t) n (let e = length-instances in omega (arith, e, below)) in
+      let i = piece.piece in
+      let j = piece.place in
+      let p = node_at t i in
+      let these = attributes_of g (class_at t p) in
+      let within : j < length these = (let w = piece.within in let e = length-row p in omega (arith, w, e)) in
+      let known : i < suc (size (below_of t)) = (let k = piece.known in omega (arith, k, length-preorder t)) in
+      let there : Has t p = has-node_at t i (root_there g t fits) known in
+      record {
+        instance = instance_of p (get_or these j 0);
+        valid = (there, Contains-get_or these j 0 within);
+        number =
+            ap (λ m. sum_by (width_at g t) (take m (preorder t)) + place_in these (get_or these j 0))
+            (number_of-node_at t i known)
+            ∙ ap (λ m. sum_by (width_at g t) (take i (preorder t)) + m)
+            (place_of_entry these (law.distinct (class_at t p) (class_known g t fits p there)) j 0 within)
+            ∙ ap (λ m. m + j) (sym (before_row (take i (preorder t))))
+            ∙ piece.is;
+      }
+
+  -- what stands at a place of the list is an instance, and has that number
+  pub instance_here : IsLawful g → IsTreeOf g t → (n : ℕ) (d : Instance) → n < instance_count g t
+      → IsInstance g t (get_or (instances g t) n d) × (instance_number g t (get_or (instances g t) n d) ≡ n)
+  instance_here law fits n d below =
+      let here = numbered law fits n below in
+      let i = here.instance in
+      let is : get_or (instances g t) n d ≡ i =
+      ap (λ m. get_or (instances g t) m d) (sym here.number)
+      ∙ instance_at_number i.node i.attribute d here.valid.0 here.valid.1 in
+      (subst (IsInstance g t) (sym is) here.valid, ap (instance_number g t) is ∙ here.number)

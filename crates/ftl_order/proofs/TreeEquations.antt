@@ -1,0 +1,155 @@
+-- The equations of a tree of a lawful grammar are a system: each depends on what it reads alone, and reads instances.
+use Rattle.std.proofs.Common.{◌≡◌, ℕ, ◌-◌, ◌<◌, refl, sym, subst, inl, inr, ⊎_elim, arith, Contains}
+use Rattle.std.proofs.lemmas.List.Elements.{Contains-append_left, Contains-append_cases}
+use Rattle.ftl_model.specs.Tree.{Forest, below_of}
+use Rattle.ftl_model.specs.Path.{Path, top, down, at, Has, class_at, kids_at}
+use Rattle.ftl_model.specs.AttributeGrammar.{AttributeGrammar, Read, self_read, single_read, each_read, this_read, prev_read, last_read, Occurrence, Sees, Sort, input, inherited, synthesized, local}
+use Rattle.ftl_model.specs.TreeOf.{IsTreeOf}
+use Rattle.ftl_model.specs.Solves.{Instance, instance_of, IsInstance, seen_from, equation_value}
+use Rattle.ftl_model.proofs.Standing.{has_parent}
+use Rattle.ftl_order.specs.Lawful.{IsLawful, IsSingle, OfClass, OfChild, MayReadForSelf, MayReadForChild, IsOwnSort}
+use Rattle.ftl_order.specs.Reads.{RuleReads, EquationReads, Reads, FallsAlongReads}
+use Rattle.ftl_order.specs.OneTable.{ExactlyOneTable}
+use Rattle.ftl_order.proofs.Kids.{kid_exists, kid_counted, node_fits, child_fits, class_known, root_interface}
+use Rattle.ftl_order.proofs.EquationSystem.{System, solutions_agree, solution, solution_solves}
+
+-- an inherited attribute of a class is one of its interface
+pub inherited_is_shared : {V : Type 0} (g : AttributeGrammar V) → IsLawful g → (k a : ℕ) → k < g.class_count
+    → OfClass g k a
+    → g.sort a ≡ inherited → Contains (g.shared (g.interface k)) a
+inherited_is_shared g law k a known of e =
+    ⊎_elim (λ h. h)
+    (λ h. absurd (⊎_elim (λ f. let z : ⊥ = cc in z) (λ f. let z : ⊥ = cc in z) (law.private_sorts k a known h)))
+    (Contains-append_cases (g.shared (g.interface k)) (g.private k) a of)
+
+module _ {V : Type 0} (g : AttributeGrammar V) (law : IsLawful g) (t : Forest) (fits : IsTreeOf g t) where
+  -- the root has no inherited attribute
+  pub root_inherits_nothing : (a : ℕ) → Has t top → OfClass g (class_at t top) a → g.sort a ≡ inherited → ⊥
+  root_inherits_nothing a h of e =
+      law.root_sorts a
+      (subst (λ i. Contains (g.shared i) a) (root_interface g t fits)
+      (inherited_is_shared g law (class_at t top) a (class_known g t fits top h) of e))
+      e
+
+  -- an inherited attribute of a kid is one of its child's interface
+  pub inherited_of_child : (a c k : ℕ) (p : Path) → Has t (down c k p) → OfClass g (class_at t (down c k p)) a
+      → g.sort a ≡ inherited → OfChild g (class_at t p) c a
+  inherited_of_child a c k p h of e =
+      subst (λ i. Contains (g.shared i) a) (child_fits g t fits c k p h).interface
+      (inherited_is_shared g law (class_at t (down c k p)) a (class_known g t fits (down c k p) h) of e)
+
+  -- a kid that is there has the attributes of its child's interface
+  pub kid_instance : (c k a : ℕ) (p : Path) → Has t p → k < kids_at t p c → OfChild g (class_at t p) c a
+      → IsInstance g t (instance_of (down c k p) a)
+  kid_instance c k a p h below of =
+      let there : Has t (down c k p) = kid_exists c k (below_of (at t p)) below in (
+        there,
+        Contains-append_left (g.shared (g.interface (class_at t (down c k p)))) (g.private (class_at t (down c k p))) a
+            (subst (λ i. Contains (g.shared i) a) (sym (child_fits g t fits c k p there).interface) of),
+      )
+
+  pub single_there : (c : ℕ) (p : Path) → Has t p → IsSingle g (class_at t p) c → 0 < kids_at t p c
+  single_there c p h single =
+      let e : kids_at t p c ≡ 1 = (node_fits g t fits p h).itself.singles c single.0 single.1 in
+      omega arith
+
+  -- what a rule for the node itself sees is there
+  pub self_sees_instances : (p : Path) → Has t p → (r : Read) → MayReadForSelf g (class_at t p) r
+      → (o : Occurrence) → Sees (kids_at t p) 0 r o → IsInstance g t (seen_from p o)
+  self_sees_instances p h (self_read a) may o sees = subst (λ x. IsInstance g t (seen_from p x)) (sym sees) (h, may)
+  self_sees_instances p h (single_read c a) may o sees =
+      subst (λ x. IsInstance g t (seen_from p x)) (sym sees) (kid_instance c 0 a p h (single_there c p h may.0) may.1)
+  self_sees_instances p h (each_read c a) may o sees =
+      subst (λ x. IsInstance g t (seen_from p x)) (sym sees.2) (kid_instance c sees.0 a p h sees.1 may.1)
+  self_sees_instances p h (this_read c a) may o sees = absurd may
+  self_sees_instances p h (prev_read c a) may o sees = absurd may
+  self_sees_instances p h (last_read c a) may o sees =
+      subst (λ x. IsInstance g t (seen_from p x)) (sym sees.1)
+      (kid_instance c (kids_at t p c - 1) a p h (let z = sees.0 in omega (arith, z)) may.1)
+
+  -- what a rule for a kid sees is there
+  pub child_sees_instances : (p : Path) (c k : ℕ) → Has t (down c k p) → (r : Read)
+      → MayReadForChild g (class_at t p) c r
+      → (o : Occurrence) → Sees (kids_at t p) k r o → IsInstance g t (seen_from p o)
+  child_sees_instances p c k h (self_read a) may o sees =
+      subst (λ x. IsInstance g t (seen_from p x)) (sym sees) (has_parent t c k p h, may)
+  child_sees_instances p c k h (single_read d a) may o sees =
+      let above = has_parent t c k p h in
+      subst (λ x. IsInstance g t (seen_from p x)) (sym sees)
+      (kid_instance d 0 a p above (single_there d p above may.0) may.1)
+  child_sees_instances p c k h (each_read d a) may o sees = absurd may
+  child_sees_instances p c k h (this_read d a) may o sees =
+      subst (λ x. IsInstance g t (seen_from p x)) (sym sees)
+      (subst (λ x. IsInstance g t (instance_of (down x k p) a)) (sym may.0)
+      (kid_instance c k a p (has_parent t c k p h) (kid_counted c k (below_of (at t p)) h) may.2))
+  child_sees_instances p c k h (prev_read d a) may o sees =
+      subst (λ x. IsInstance g t (seen_from p x)) (sym sees.1)
+      (subst (λ x. IsInstance g t (instance_of (down x (k - 1) p) a)) (sym may.0)
+      (kid_instance c (k - 1) a p (has_parent t c k p h)
+      (let z = kid_counted c k (below_of (at t p)) h in omega (arith, z)) may.2))
+  child_sees_instances p c k h (last_read d a) may o sees =
+      subst (λ x. IsInstance g t (seen_from p x)) (sym sees.1)
+      (kid_instance d (kids_at t p d - 1) a p (has_parent t c k p h) (let z = sees.0 in omega (arith, z)) may.2)
+
+  own_inside : (p : Path) (a : ℕ) → Has t p → OfClass g (class_at t p) a → IsOwnSort (g.sort a) → (j : Instance)
+      → RuleReads t (g.self_rule (class_at t p) a) p 0 j → IsInstance g t j
+  own_inside p a h of sort j reads =
+      subst (IsInstance g t) (sym reads.4)
+      (self_sees_instances p h reads.0
+      (law.self_reads (class_at t p) a (class_known g t fits p h) of sort reads.0 reads.2) reads.1 reads.3)
+
+  pub inside_by : (sort : Sort) (p : Path) (a : ℕ) → g.sort a ≡ sort → Has t p → OfClass g (class_at t p) a
+      → (j : Instance)
+      → EquationReads g t sort p a j → IsInstance g t j
+  inside_by input p a e h of j reads = absurd reads
+  inside_by inherited top a e h of j reads = absurd (root_inherits_nothing a h of e)
+  inside_by inherited (down c k p) a e h of j reads =
+      let above = has_parent t c k p h in
+      subst (IsInstance g t) (sym reads.4)
+      (child_sees_instances p c k h reads.0
+      (law.child_reads (class_at t p) c a (class_known g t fits p above) (child_fits g t fits c k p h).declared
+      (inherited_of_child a c k p h of e) e k reads.0 reads.2)
+      reads.1 reads.3)
+  inside_by synthesized p a e h of j reads = own_inside p a h of (inl e) j reads
+  inside_by local p a e h of j reads = own_inside p a h of (inr e) j reads
+
+  own_alone : (r s : Instance → V) (p : Path) (a : ℕ) → Has t p → OfClass g (class_at t p) a → IsOwnSort (g.sort a)
+      → ((j : Instance) → RuleReads t (g.self_rule (class_at t p) a) p 0 j → r j ≡ s j)
+      → (g.self_rule (class_at t p) a).value (kids_at t p) 0 (λ o. r (seen_from p o))
+      ≡ (g.self_rule (class_at t p) a).value (kids_at t p) 0 (λ o. s (seen_from p o))
+  own_alone r s p a h of sort same =
+      law.self_alone (class_at t p) a (class_known g t fits p h) of sort (kids_at t p) (λ o. r (seen_from p o))
+      (λ o. s (seen_from p o))
+      (λ read in_it o sees. same (seen_from p o) (read, o, in_it, sees, refl))
+
+  pub alone_by : (r s : Instance → V) (sort : Sort) (p : Path) (a : ℕ) → g.sort a ≡ sort → Has t p
+      → OfClass g (class_at t p) a
+      → ((j : Instance) → EquationReads g t sort p a j → r j ≡ s j)
+      → equation_value g t r sort p a ≡ equation_value g t s sort p a
+  alone_by r s input p a e h of same = refl
+  alone_by r s inherited top a e h of same = absurd (root_inherits_nothing a h of e)
+  alone_by r s inherited (down c k p) a e h of same =
+      let above = has_parent t c k p h in
+      law.child_alone (class_at t p) c a (class_known g t fits p above) (child_fits g t fits c k p h).declared
+      (inherited_of_child a c k p h of e) e k (kids_at t p) (λ o. r (seen_from p o)) (λ o. s (seen_from p o))
+      (λ read in_it o sees. same (seen_from p o) (read, o, in_it, sees, refl))
+  alone_by r s synthesized p a e h of same = own_alone r s p a h of (inl e) same
+  alone_by r s local p a e h of same = own_alone r s p a h of (inr e) same
+
+  abbrev pub equations : System Instance V
+  equations =
+      record {
+        Valid = IsInstance g t;
+        Reads = Reads g t;
+        value = λ s i. equation_value g t s (g.sort i.attribute) i.node i.attribute;
+        alone = λ r s i valid same. alone_by r s (g.sort i.attribute) i.node i.attribute refl valid.0 valid.1 same;
+        inside = λ i j valid reads. inside_by (g.sort i.attribute) i.node i.attribute refl valid.0 valid.1 j reads;
+      }
+
+  -- exactly one table solves, where a number falls along the reads; some value is at hand
+  pub one_table_by : (rank : Instance → ℕ) → FallsAlongReads g t rank → V → ExactlyOneTable g t
+  one_table_by rank falls some =
+      record {
+        some_solves = (solution equations rank (λ i. some), solution_solves equations rank falls (λ i. some));
+        any_two_agree = λ r s rs ss i valid. solutions_agree equations rank falls r s rs ss i valid;
+      }

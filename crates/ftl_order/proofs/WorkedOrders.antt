@@ -1,0 +1,111 @@
+-- Legal and illegal orders of the steps of a sheet over an empty column.
+use Rattle.std.proofs.Common.{◌≡◌, ◌≢◌, ℕ, refl, ap, lit<, arith, rules, List, [], ◌∷◌, map, Contains}
+use Rattle.std.specs.List.{AllByRecursion}
+use Rattle.ftl_model.specs.Path.{top}
+use Rattle.ftl_model.specs.AttributeGrammar.{input}
+use Rattle.ftl_model.specs.Solves.{Instance, instance_of}
+use Rattle.ftl_model.specs.Stack.{stack, box_y, page_h}
+use Rattle.ftl_model.specs.Table.{instances, instance_number}
+use Rattle.ftl_model.specs.Worked.{empty_column}
+use Rattle.ftl_order.specs.Lawful.{AreDistinct}
+use Rattle.ftl_order.specs.Schedule.{spot_of}
+use Rattle.ftl_order.specs.LegalOrder.{IsStep, MustPrecede, IsLegalOrder}
+use Rattle.ftl_order.specs.WorkedSchedules.{places_beside}
+use Rattle.ftl_order.specs.WorkedSteps.{the_sheet, the_column, x_first, y_first, sheet_first, without_y}
+use Rattle.ftl_order.proofs.OrderRank.{is_listed_instance}
+use Rattle.ftl_order.proofs.Rising.{Rising, rising_at, map_has}
+use Rattle.ftl_order.proofs.StackLawful.{each_in, not_among}
+
+distinct_by_map : {X : Type 0} (f : X → ℕ) (xs : List X) → AreDistinct (map f xs) → AreDistinct xs
+distinct_by_map f [] h = tt
+distinct_by_map f (x ∷ xs) h = ((λ again. h.0 (map_has f xs x again)), distinct_by_map f xs h.1)
+
+-- no step must precede one that stands before it
+abbrev Kept : Instance → Instance → Type 0
+Kept i j = MustPrecede stack (spot_of places_beside) j i → ⊥
+
+module _ (order : List Instance) (steps : AllByRecursion (IsStep stack empty_column) order)
+    (all : AllByRecursion (λ i. stack.sort i.attribute ≢ input → Contains order i) (instances stack empty_column))
+    (once : AreDistinct (map (instance_number stack empty_column) order)) (kept : Rising Kept order) where
+  legal_by : IsLegalOrder stack (spot_of places_beside) empty_column order
+  legal_by =
+      record {
+        steps = each_in (IsStep stack empty_column) order steps;
+        all = λ i step.
+            each_in (λ i. stack.sort i.attribute ≢ input → Contains order i) (instances stack empty_column) all i
+            (is_listed_instance stack (spot_of places_beside) empty_column i step.0) step.1;
+        once = distinct_by_map (instance_number stack empty_column) order once;
+        legal = λ m n d less below. rising_at Kept order kept m n d less below;
+      }
+
+column_step : (a : ℕ) → stack.sort a ≢ input → Contains (1 ∷ (2 ∷ (3 ∷ (4 ∷ [])))) a
+    → IsStep stack empty_column (instance_of the_column a)
+column_step a computed of = ((tt, of), computed)
+
+sheet_step : IsStep stack empty_column (instance_of the_sheet page_h)
+sheet_step = ((tt, (0, lit< tt, refl)), λ e. (let z : ⊥ = grind arith in z))
+
+five : (a b c d e : ℕ) → AllByRecursion (λ x. x ≢ a) (b ∷ (c ∷ (d ∷ (e ∷ []))))
+    → AllByRecursion (λ x. x ≢ b) (c ∷ (d ∷ (e ∷ [])))
+    → AllByRecursion (λ x. x ≢ c) (d ∷ (e ∷ [])) → AllByRecursion (λ x. x ≢ d) (e ∷ [])
+    → AreDistinct {X = ℕ} (a ∷ (b ∷ (c ∷ (d ∷ (e ∷ [])))))
+five a b c d e p q r s = (
+  not_among a (b ∷ (c ∷ (d ∷ (e ∷ [])))) p,
+  (
+    not_among b (c ∷ (d ∷ (e ∷ []))) q,
+    (not_among c (d ∷ (e ∷ [])) r, (not_among d (e ∷ []) s, (not_among e [] tt, tt))),
+  ),
+)
+
+w_step : IsStep stack empty_column (instance_of the_column 3)
+w_step = column_step 3 (λ e. (let z : ⊥ = grind arith in z)) (2, lit< tt, refl)
+
+h_step : IsStep stack empty_column (instance_of the_column 4)
+h_step = column_step 4 (λ e. (let z : ⊥ = grind arith in z)) (3, lit< tt, refl)
+
+x_step : IsStep stack empty_column (instance_of the_column 1)
+x_step = column_step 1 (λ e. (let z : ⊥ = grind arith in z)) (0, lit< tt, refl)
+
+y_step : IsStep stack empty_column (instance_of the_column 2)
+y_step = column_step 2 (λ e. (let z : ⊥ = grind arith in z)) (1, lit< tt, refl)
+
+pub x_first_legal : IsLegalOrder stack (spot_of places_beside) empty_column x_first
+x_first_legal =
+    legal_by x_first (w_step, (h_step, (sheet_step, (x_step, (y_step, tt))))) (
+      (λ c. (2, lit< tt, refl)),
+      (
+        (λ c. (3, lit< tt, refl)),
+        ((λ c. (4, lit< tt, refl)), ((λ c. (0, lit< tt, refl)), ((λ c. (1, lit< tt, refl)), tt))),
+      ),
+    )
+    (five 3 4 0 1 2 (omega arith) (omega arith) (omega arith) (omega arith))
+    (search rules)
+
+pub y_first_legal : IsLegalOrder stack (spot_of places_beside) empty_column y_first
+y_first_legal =
+    legal_by y_first (w_step, (h_step, (sheet_step, (y_step, (x_step, tt))))) (
+      (λ c. (2, lit< tt, refl)),
+      (
+        (λ c. (4, lit< tt, refl)),
+        ((λ c. (3, lit< tt, refl)), ((λ c. (0, lit< tt, refl)), ((λ c. (1, lit< tt, refl)), tt))),
+      ),
+    )
+    (five 3 4 0 2 1 (omega arith) (omega arith) (omega arith) (omega arith))
+    (search rules)
+
+pub sheet_first_illegal : IsLegalOrder stack (spot_of places_beside) empty_column sheet_first → ⊥
+sheet_first_illegal h = h.legal 1 2 (instance_of top 0) (lit< tt) (lit< tt) (search rules)
+
+differs : (i : Instance) → i.attribute ≢ box_y → i ≡ instance_of the_column box_y → ⊥
+differs i other e = other (ap (λ (j : Instance). j.attribute) e)
+
+pub without_y_illegal : IsLegalOrder stack (spot_of places_beside) empty_column without_y → ⊥
+without_y_illegal h =
+    each_in (λ i. i ≡ instance_of the_column box_y → ⊥) without_y (
+      differs (instance_of the_column 3) (omega arith),
+      (
+        differs (instance_of the_column 4) (omega arith),
+        (differs (instance_of the_sheet 0) (omega arith), (differs (instance_of the_column 1) (omega arith), tt)),
+      ),
+    )
+    (instance_of the_column box_y) (h.all (instance_of the_column box_y) y_step) refl

@@ -1,0 +1,9 @@
+use Rattle.ftl_order.proofs.Instances.{number_within, instance_at_number, instance_here}
+use Rattle.ftl_order.proofs.numbers.instance_numbers.Goals as goal
+
+pub returns : goal.returns
+returns c = record {
+  instances = λ g t i d valid.
+      (number_within g t i.node i.attribute valid.0 valid.1, instance_at_number g t i.node i.attribute d valid.0 valid.1);
+  numbers = λ g t n d law fits below. instance_here g t law fits n d below;
+}

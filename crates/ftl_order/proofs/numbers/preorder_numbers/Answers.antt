@@ -1,0 +1,10 @@
+use Rattle.ftl_model.proofs.Numbering.{length-preorder, number_of-node_at, has-node_at}
+use Rattle.ftl_model.proofs.Standing.{number_of-lt, node_at-number_of}
+use Rattle.ftl_order.proofs.numbers.preorder_numbers.Goals as goal
+
+pub returns : goal.returns
+returns c = record {
+  nodes = λ t p h. (number_of-lt t p h, node_at-number_of t p h);
+  numbers = λ t n is below. (has-node_at t n is below, number_of-node_at t n below);
+  whole = length-preorder;
+}

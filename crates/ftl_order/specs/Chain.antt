@@ -1,0 +1,74 @@
+-- A grammar whose kids read both attributes of the kid before, so that only an inorder pass orders it.
+-- root R; interface R { } interface K { inh a, b; } class L : K { }
+-- class C : R { kids : [K]; kids.a := first 1 then prev.b; kids.b := first 2 then prev.a + prev.b; }
+use Rattle.std.specs.Prelude.{ℕ, zero, suc, ◌==◌, if◌then◌else◌, true, List, [], ◌∷◌, pos}
+use Rattle.ftl_model.specs.Values.{Value, number, overflow, sum_of}
+use Rattle.ftl_model.specs.Tree.{Forest, none, tree}
+use Rattle.ftl_model.specs.Path.{top, down}
+use Rattle.ftl_model.specs.AttributeGrammar.{AttributeGrammar, Rule, prev_read, Occurrence, kid, inherited}
+use Rattle.ftl_model.specs.Solves.{Instance, instance_of}
+use Rattle.ftl_order.specs.Schedule.{topdown, inorder, Schedule}
+use Rattle.ftl_order.specs.Pairs.{for_child, same_class, Pair}
+use Rattle.ftl_order.specs.WorkedSchedules.{stage, pair_of}
+
+abbrev pub chain_a_value : ℕ → (Occurrence → Value) → Value
+chain_a_value zero s = number (pos 1)
+chain_a_value (suc before) s = s (kid 0 before 1)
+
+abbrev pub chain_a : Rule Value
+chain_a = record { first = []; later = prev_read 0 1 ∷ []; value = λ kids place s. chain_a_value place s }
+
+abbrev pub chain_b_value : ℕ → (Occurrence → Value) → Value
+chain_b_value zero s = number (pos 2)
+chain_b_value (suc before) s = sum_of (s (kid 0 before 0)) (s (kid 0 before 1))
+
+abbrev pub chain_b : Rule Value
+chain_b =
+    record { first = []; later = prev_read 0 0 ∷ (prev_read 0 1 ∷ []); value = λ kids place s. chain_b_value place s }
+
+-- no class has a rule for itself
+abbrev pub no_rule : Rule Value
+no_rule = record { first = []; later = []; value = λ kids place s. overflow }
+
+-- interfaces R 0 and K 1; classes C 0 and L 1; attributes a 0 and b 1
+abbrev pub chain : AttributeGrammar Value
+chain =
+    record {
+      root = 0;
+      class_count = 2;
+      interface = λ class. class;
+      input_count = λ class. 0;
+      child_count = λ class. if class == 0 then 1 else 0;
+      child_interface = λ class child. 1;
+      is_list = λ class child. true;
+      shared = λ interface. if interface == 1 then 0 ∷ (1 ∷ []) else [];
+      private = λ class. [];
+      sort = λ a. inherited;
+      given = λ class a inputs. overflow;
+      self_rule = λ class a. no_rule;
+      child_rule = λ class child a. if a == 0 then chain_a else chain_b;
+    }
+
+-- topdown { K.a K.b }, and inorder { K.a K.b }
+abbrev pub chain_topdown : Schedule
+chain_topdown = stage topdown (0 ∷ (1 ∷ [])) ∷ []
+
+abbrev pub chain_inorder : Schedule
+chain_inorder = stage inorder (0 ∷ (1 ∷ [])) ∷ []
+
+-- C kids.a reads C kids.b, by prev.b
+abbrev pub a_reads_b : Pair
+a_reads_b = pair_of (for_child 0 0 0) same_class (for_child 0 0 1) (prev_read 0 1)
+
+-- C { kids = [ L { } L { } L { } ] }
+abbrev pub three_kids : Forest
+three_kids = tree 0 0 [] (tree 1 0 [] none (tree 1 0 [] none (tree 1 0 [] none none))) none
+
+abbrev pub chain_step : (kid attribute : ℕ) → Instance
+chain_step k a = instance_of (down 0 k top) a
+
+-- kid by kid, a and then b
+abbrev pub chain_order : List Instance
+chain_order =
+    chain_step 0 0
+    ∷ (chain_step 0 1 ∷ (chain_step 1 0 ∷ (chain_step 1 1 ∷ (chain_step 2 0 ∷ (chain_step 2 1 ∷ [])))))

@@ -1,0 +1,14 @@
+pub mod Chain
+pub mod Lawful
+pub mod LegalOrder
+pub mod Numbers
+pub mod OneTable
+pub mod OrderLaws
+pub mod Ordered
+pub mod Pairs
+pub mod Reads
+pub mod Schedule
+pub mod Sequence
+pub mod WorkedRows
+pub mod WorkedSchedules
+pub mod WorkedSteps

@@ -1,0 +1,61 @@
+-- What an ordered schedule gives: the writer of each read stands before the reader, a legal order exists, exactly one
+-- table solves, and a run along any legal order ends in it. It speaks of the project's values.
+use Rattle.std.specs.Prelude.{◌≡◌, ◌≢◌, ◌↔◌, List, length}
+use Rattle.ftl_model.specs.Values.{Value, overflow}
+use Rattle.ftl_model.specs.Tree.{Forest}
+use Rattle.ftl_model.specs.AttributeGrammar.{AttributeGrammar, input}
+use Rattle.ftl_model.specs.TreeOf.{IsTreeOf}
+use Rattle.ftl_model.specs.Solves.{Instance}
+use Rattle.ftl_model.specs.Table.{instance_count, SolvesList}
+use Rattle.ftl_order.specs.Lawful.{IsLawful}
+use Rattle.ftl_order.specs.Reads.{Reads}
+use Rattle.ftl_order.specs.Schedule.{inorder, Schedule, IsOnePass, spot_of}
+use Rattle.ftl_order.specs.Ordered.{IsOrdered}
+use Rattle.ftl_order.specs.LegalOrder.{IsStep, IsNearBefore, MustPrecede, IsLegalOrder, StandsBefore, HoldsInputs, run}
+use Rattle.ftl_order.specs.Sequence.{sequence}
+use Rattle.ftl_order.specs.OneTable.{ExactlyOneTable, ExactlyOneList}
+
+-- of each tree of a lawful grammar, under each schedule that is ordered for it
+abbrev pub UnderOrderedSchedules : (AttributeGrammar Value → Schedule → Forest → Type 0) → Type 0
+UnderOrderedSchedules P =
+    (g : AttributeGrammar Value) (s : Schedule) (t : Forest) → IsLawful g → IsOrdered g s → IsTreeOf g t → P g s t
+
+-- what a step reads, unless it is an input, stands in an earlier stage, or in the same pass: in the same visit by key,
+-- at the parent (topdown), at a kid (bottomup), or earlier in the sequence (inorder)
+abbrev pub WritersStandNear : AttributeGrammar Value → Schedule → Forest → Type 0
+WritersStandNear g s t =
+    (i j : Instance) → IsStep g t i → Reads g t i j → g.sort j.attribute ≢ input → IsNearBefore g (spot_of s) j i
+
+-- and it must precede the step
+abbrev pub WritersPrecede : AttributeGrammar Value → Schedule → Forest → Type 0
+WritersPrecede g s t =
+    (i j : Instance) → IsStep g t i → Reads g t i j → g.sort j.attribute ≢ input → MustPrecede g (spot_of s) j i
+
+-- in every legal order the writer of each read stands before the reader
+abbrev pub WritersStandBefore : AttributeGrammar Value → Schedule → Forest → Type 0
+WritersStandBefore g s t =
+    (order : List Instance) → IsLegalOrder g (spot_of s) t order
+    → (i j : Instance) → IsStep g t i → Reads g t i j → g.sort j.attribute ≢ input → StandsBefore order j i
+
+abbrev pub LegalOrderExists : AttributeGrammar Value → Schedule → Forest → Type 0
+LegalOrderExists g s t = (order : List Instance) × IsLegalOrder g (spot_of s) t order
+
+abbrev pub OneTableSolves : AttributeGrammar Value → Schedule → Forest → Type 0
+OneTableSolves g s t = ExactlyOneTable g t
+
+abbrev pub OneListSolves : AttributeGrammar Value → Schedule → Forest → Type 0
+OneListSolves g s t = ExactlyOneList g t overflow
+
+-- from values that are right at the inputs
+abbrev pub RunsEndInTheTable : AttributeGrammar Value → Schedule → Forest → Type 0
+RunsEndInTheTable g s t =
+    (order : List Instance) → IsLegalOrder g (spot_of s) t order
+    → (values : List Value) → length values ≡ instance_count g t → HoldsInputs g t overflow values
+    → SolvesList g t overflow (run g t overflow order values)
+
+-- of two steps of an inorder pass one must precede the other exactly where it stands before it in the pass's sequence
+abbrev pub InorderStepsStandInSequence : AttributeGrammar Value → Schedule → Forest → Type 0
+InorderStepsStandInSequence g s t =
+    (i j : Instance) → IsStep g t i → IsStep g t j
+    → IsOnePass (spot_of s i.attribute) (spot_of s j.attribute) → (spot_of s j.attribute).kind ≡ inorder
+    → MustPrecede g (spot_of s) i j ↔ StandsBefore (sequence g (spot_of s) (spot_of s j.attribute) t) i j

@@ -1,0 +1,87 @@
+-- Schedules: stages one after the other, each with passes beside each other, each with a list of attributes.
+use Rattle.std.specs.Prelude.{◌≡◌, ◌≢◌, ◌⊎◌, ℕ, suc, ◌<◌, Bool, true, false, ◌==◌, if◌then◌else◌, List, [], ◌∷◌, count_by, flat_map, slice_index_or, Contains}
+use Rattle.ftl_model.specs.AttributeGrammar.{AttributeGrammar, input}
+use Rattle.ftl_model.specs.Table.{place_in}
+
+-- a pass visits every node once: a node before its kids, after them, or between them in one sequence
+pub data PassKind : Type 0 where
+  topdown : PassKind
+  bottomup : PassKind
+  inorder : PassKind
+
+pub record Pass : Type 0 where
+  pub kind : PassKind
+  pub attributes : List ℕ
+
+abbrev pub Schedule : Type 0
+Schedule = List (List Pass)
+
+-- the entries of all lists, in the order of the text
+abbrev pub entries : Schedule → List ℕ
+entries s = flat_map (λ (passes : List Pass). flat_map (λ (pass : Pass). pass.attributes) passes) s
+
+-- an attribute of some interface, or one that a class adds
+abbrev pub IsAttribute : {V : Type 0} → AttributeGrammar V → ℕ → Type 0
+IsAttribute g a =
+    ((i : ℕ) × Contains (g.shared i) a) ⊎ ((class : ℕ) × (class < g.class_count) × Contains (g.private class) a)
+
+-- each computed attribute stands in the lists exactly once
+abbrev pub EachStandsOnce : {V : Type 0} → AttributeGrammar V → Schedule → Type 0
+EachStandsOnce g s =
+    (a : ℕ) → IsAttribute g a → g.sort a ≢ input → count_by (λ b. b == a) (entries s) ≡ 1
+
+-- where an attribute stands: the stage, the pass in it, the kind of that pass, and the place in its list
+pub record Spot : Type 0 where
+  pub stage : ℕ
+  pub pass : ℕ
+  pub kind : PassKind
+  pub index : ℕ
+
+-- all that pairs and legal orders ask of a schedule
+abbrev pub Placing : Type 0
+Placing = ℕ → Spot
+
+abbrev pub IsOnePass : Spot → Spot → Type 0
+IsOnePass x y = (x.stage ≡ y.stage) × (x.pass ≡ y.pass)
+
+-- the passes of one stage have numbers of their own
+abbrev pub HasOneKind : Placing → Type 0
+HasOneKind at = (a b : ℕ) → IsOnePass (at a) (at b) → (at a).kind ≡ (at b).kind
+
+abbrev pub is_listed : List ℕ → ℕ → Bool
+is_listed [] a = false
+is_listed (b ∷ bs) a = if a == b then true else is_listed bs a
+
+-- the first pass that lists the attribute; the count of passes where none does
+abbrev pub pass_of : List Pass → ℕ → ℕ
+pass_of [] a = 0
+pass_of (pass ∷ passes) a = if is_listed pass.attributes a then 0 else suc (pass_of passes a)
+
+abbrev pub has_entry : List Pass → ℕ → Bool
+has_entry [] a = false
+has_entry (pass ∷ passes) a = if is_listed pass.attributes a then true else has_entry passes a
+
+-- the first stage that lists the attribute; the count of stages where none does
+abbrev pub stage_of : Schedule → ℕ → ℕ
+stage_of [] a = 0
+stage_of (passes ∷ stages) a = if has_entry passes a then 0 else suc (stage_of stages a)
+
+abbrev pub empty_pass : Pass
+empty_pass = record { kind = topdown; attributes = [] }
+
+-- the pass at these numbers; an empty one where there is none
+abbrev pub pass_at : Schedule → ℕ → ℕ → Pass
+pass_at s stage pass = slice_index_or (slice_index_or s stage []) pass empty_pass
+
+abbrev pub pass_in_stage : Schedule → ℕ → ℕ
+pass_in_stage s a = pass_of (slice_index_or s (stage_of s a) []) a
+
+-- the spot of an attribute in a schedule
+abbrev pub spot_of : Schedule → Placing
+spot_of s a =
+    record {
+      stage = stage_of s a;
+      pass = pass_in_stage s a;
+      kind = (pass_at s (stage_of s a) (pass_in_stage s a)).kind;
+      index = place_in (pass_at s (stage_of s a) (pass_in_stage s a)).attributes a;
+    }

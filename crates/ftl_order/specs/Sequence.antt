@@ -1,0 +1,54 @@
+-- The sequence of an inorder pass over a tree, as a list: at a node the locals; for each child and each kid the kid's
+-- inherited attributes and the kid's sequence; the synthesized attributes. Attributes of one kind stand by key.
+use Rattle.std.specs.Prelude.{ℕ, Bool, true, false, ◌&&◌, ◌==◌, nat_le, if◌then◌else◌, List, [], ◌∷◌, ◌++◌, map, filter}
+use Rattle.ftl_model.specs.Tree.{Forest, none, tree, class_of, below_of}
+use Rattle.ftl_model.specs.Path.{Path, top, down, one_more}
+use Rattle.ftl_model.specs.AttributeGrammar.{AttributeGrammar, Sort, input, inherited, synthesized, local}
+use Rattle.ftl_model.specs.Solves.{Instance, instance_of, attributes_of}
+use Rattle.ftl_order.specs.Schedule.{Placing, Spot}
+
+-- put before the first whose number is not smaller
+abbrev pub insert_by : {X : Type 0} → (X → ℕ) → X → List X → List X
+insert_by f x [] = x ∷ []
+insert_by f x (y ∷ ys) = if nat_le (f x) (f y) then x ∷ (y ∷ ys) else y ∷ insert_by f x ys
+
+-- in the order of their numbers
+abbrev pub sorted_by : {X : Type 0} → (X → ℕ) → List X → List X
+sorted_by f [] = []
+sorted_by f (x ∷ xs) = insert_by f x (sorted_by f xs)
+
+abbrev pub is_same_sort : Sort → Sort → Bool
+is_same_sort input input = true
+is_same_sort inherited inherited = true
+is_same_sort synthesized synthesized = true
+is_same_sort local local = true
+is_same_sort _ _ = false
+
+-- the attribute stands in the pass of this spot
+abbrev pub is_in_pass : Placing → Spot → ℕ → Bool
+is_in_pass at x a = ((at a).stage == x.stage) && ((at a).pass == x.pass)
+
+-- the attributes of a class that are of this kind and stand in the pass, by key
+abbrev pub keyed : {V : Type 0} → AttributeGrammar V → Placing → Spot → Sort → (class : ℕ) → List ℕ
+keyed g at x sort class =
+    sorted_by (λ a. (at a).index)
+    (filter (λ a. is_same_sort (g.sort a) sort && is_in_pass at x a) (attributes_of g class))
+
+abbrev pub steps_at : {V : Type 0} → AttributeGrammar V → Placing → Spot → Sort → (class : ℕ) → Path → List Instance
+steps_at g at x sort class p = map (instance_of p) (keyed g at x sort class)
+
+-- for trees side by side below a node, so many kids of each child having come
+abbrev pub sequence_below : {V : Type 0} → AttributeGrammar V → Placing → Spot → Path → (ℕ → ℕ) → Forest → List Instance
+sequence_below g at x p seen none = []
+sequence_below g at x p seen (tree class child inputs below beside) =
+    steps_at g at x inherited class (down child (seen child) p)
+    ++ (steps_at g at x local class (down child (seen child) p)
+    ++ (sequence_below g at x (down child (seen child) p) (λ c. 0) below
+    ++ (steps_at g at x synthesized class (down child (seen child) p)
+    ++ sequence_below g at x p (one_more child seen) beside)))
+
+-- the sequence of the pass of this spot
+abbrev pub sequence : {V : Type 0} → AttributeGrammar V → Placing → Spot → Forest → List Instance
+sequence g at x t =
+    steps_at g at x local (class_of t) top
+    ++ (sequence_below g at x top (λ c. 0) (below_of t) ++ steps_at g at x synthesized (class_of t) top)

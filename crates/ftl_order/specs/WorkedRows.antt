@@ -1,0 +1,75 @@
+-- The rows of the table of ordered reads, each at one case, in one pass of each kind.
+use Rattle.std.specs.Prelude.{ℕ, List, [], ◌∷◌}
+use Rattle.ftl_model.specs.AttributeGrammar.{Read, self_read, single_read, each_read, this_read, prev_read}
+use Rattle.ftl_order.specs.Schedule.{PassKind, topdown, bottomup, inorder, Placing}
+use Rattle.ftl_order.specs.Pairs.{Where, same_class, parent_class, child_class}
+use Rattle.ftl_order.specs.Ordered.{VisitPlace, IsOrderedRead}
+
+-- one pass that lists the attributes in the order of their numbers
+abbrev pub one_pass : PassKind → Placing
+one_pass kind a = record { stage = 0; pass = 0; kind = kind; index = a }
+
+abbrev pub for_local : ℕ → VisitPlace
+for_local a = record { attribute = a; block = 0; child = 0 }
+
+abbrev pub for_kids : (attribute child : ℕ) → VisitPlace
+for_kids a c = record { attribute = a; block = 1; child = c }
+
+abbrev pub for_synthesized : ℕ → VisitPlace
+for_synthesized a = record { attribute = a; block = 2; child = 0 }
+
+pub record RowCase : Type 0 where
+  pub kind : PassKind
+  pub place : Where
+  pub read : Read
+  pub writer : VisitPlace
+  pub reader : VisitPlace
+
+abbrev pub row_case : PassKind → Where → Read → VisitPlace → VisitPlace → RowCase
+row_case kind place read writer reader =
+    record { kind = kind; place = place; read = read; writer = writer; reader = reader }
+
+abbrev pub IsOrderedCase : RowCase → Type 0
+IsOrderedCase x = IsOrderedRead (one_pass x.kind) x.place x.read x.writer x.reader
+
+abbrev pub ordered_rows : List RowCase
+ordered_rows =
+    -- the writer's key is smaller, or it is the rule itself read by `prev`
+    row_case topdown same_class (self_read 0) (for_synthesized 0) (for_synthesized 1)
+    ∷ (row_case bottomup same_class (self_read 0) (for_synthesized 0) (for_synthesized 1)
+    ∷ (row_case topdown same_class (prev_read 0 1) (for_kids 1 0) (for_kids 1 0)
+    ∷ (row_case bottomup same_class (prev_read 0 1) (for_kids 1 0) (for_kids 1 0)
+    -- the writer runs at the parent, or at a kid
+    ∷ (row_case topdown parent_class (self_read 1) (for_kids 1 0) (for_synthesized 0)
+    ∷ (row_case bottomup child_class (each_read 0 1) (for_synthesized 1) (for_synthesized 0)
+    -- the writer's block is earlier; the same child's by `prev`; the same block with a smaller key
+    ∷ (row_case inorder same_class (self_read 1) (for_local 1) (for_synthesized 0)
+    ∷ (row_case inorder same_class (single_read 0 1) (for_kids 1 0) (for_kids 0 1)
+    ∷ (row_case inorder same_class (prev_read 0 1) (for_kids 1 0) (for_kids 0 0)
+    ∷ (row_case inorder same_class (self_read 0) (for_synthesized 0) (for_synthesized 1)
+    -- the writer runs at the parent; at a kid, for a synthesized attribute; at a child declared earlier; by `prev`
+    ∷ (row_case inorder parent_class (self_read 1) (for_kids 1 0) (for_local 0)
+    ∷ (row_case inorder child_class (each_read 0 1) (for_synthesized 1) (for_synthesized 0)
+    ∷ (row_case inorder child_class (single_read 0 1) (for_synthesized 1) (for_kids 0 1)
+    ∷ (row_case inorder child_class (prev_read 0 1) (for_synthesized 1) (for_kids 0 0)
+    ∷ [])))))))))))))
+
+abbrev pub refused_rows : List RowCase
+refused_rows =
+    -- the key is the same or larger, also by `prev`
+    row_case topdown same_class (self_read 0) (for_synthesized 0) (for_synthesized 0)
+    ∷ (row_case bottomup same_class (self_read 1) (for_synthesized 1) (for_synthesized 0)
+    ∷ (row_case topdown same_class (prev_read 0 1) (for_kids 1 0) (for_kids 0 0)
+    ∷ (row_case bottomup same_class (prev_read 0 1) (for_kids 1 0) (for_kids 0 0)
+    -- the writer runs at a kid, or at the parent
+    ∷ (row_case topdown child_class (each_read 0 0) (for_synthesized 0) (for_synthesized 1)
+    ∷ (row_case bottomup parent_class (self_read 0) (for_kids 0 0) (for_synthesized 1)
+    -- the writer's block is later; the same block with a larger key
+    ∷ (row_case inorder same_class (self_read 0) (for_synthesized 0) (for_local 1)
+    ∷ (row_case inorder same_class (single_read 1 0) (for_kids 0 1) (for_kids 1 0)
+    ∷ (row_case inorder same_class (this_read 0 1) (for_kids 1 0) (for_kids 0 0)
+    -- the writer runs at a kid, for a local; for the same child but not by `prev`; for a child declared earlier
+    ∷ (row_case inorder child_class (each_read 0 0) (for_synthesized 0) (for_local 1)
+    ∷ (row_case inorder child_class (this_read 0 0) (for_synthesized 0) (for_kids 1 0)
+    ∷ (row_case inorder child_class (single_read 1 0) (for_synthesized 0) (for_kids 1 0)
+    ∷ [])))))))))))

@@ -1,0 +1,31 @@
+ghost use Rattle.ftl_order.specs.OrderLaws.{UnderOrderedSchedules, WritersStandNear, WritersPrecede, WritersStandBefore, LegalOrderExists, OneTableSolves, OneListSolves, InorderStepsStandInSequence, RunsEndInTheTable};
+
+/// A law: under an ordered schedule what a step reads is an input, or its writer stands near before
+/// it and must precede it, on every tree.
+pub fn ordered_reads()
+    ensures near { UnderOrderedSchedules WritersStandNear }
+    ensures precede { UnderOrderedSchedules WritersPrecede }
+{}
+
+/// A law: a legal order exists, and in every legal order the writer of each read stands before the
+/// reader.
+pub fn legal_orders()
+    ensures exists { UnderOrderedSchedules LegalOrderExists }
+    ensures writers_before { UnderOrderedSchedules WritersStandBefore }
+{}
+
+/// A law: exactly one table solves, as a function and as a list.
+pub fn exactly_one_table()
+    ensures one_table { UnderOrderedSchedules OneTableSolves }
+    ensures one_list { UnderOrderedSchedules OneListSolves }
+{}
+
+/// A law: computing the steps in any legal order ends in the values that solve.
+pub fn runs_end_in_the_table()
+    ensures solves { UnderOrderedSchedules RunsEndInTheTable }
+{}
+
+/// A law: the order of the steps of an inorder pass is that of its sequence.
+pub fn inorder_sequences()
+    ensures sequence { UnderOrderedSchedules InorderStepsStandInSequence }
+{}
