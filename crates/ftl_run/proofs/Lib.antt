@@ -1,0 +1,4 @@
+pub mod Agreeing
+pub mod AnswerLaws
+pub mod Deciding
+pub mod PageDecided
