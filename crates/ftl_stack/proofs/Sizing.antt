@@ -105,15 +105,15 @@ pub record Folded (t : Forest) (areas : List Area) (n kid : ℕ) (w h : Value) :
 pub folded_none : (t : Forest) (areas : List Area) (n : ℕ) (w h : Value) → Node t n → w ≡ value_of (pos 0) → h ≡ value_of (pos 0) → Folded t areas n (n + 1) w h
 folded_none t areas n w h at w_is h_is = record { k = 0; passed = passed_none t n at; width = w_is; height = h_is }
 
-pub folded_more : (t : Forest) (areas : List Area) (n kid : ℕ) (w h : Value) (a : Area) → Node t n → Folded t areas n kid w h → kid < n + size_at t (node_at t n) → a ≡ get_or areas kid no_area → Folded t areas n (kid + size_at t (node_at t kid)) (greatest_of w a.w) (sum_of h a.h)
-folded_more t areas n kid w h a at f less is =
+pub folded_more : (t : Forest) (areas : List Area) (n kid step : ℕ) (w h w' h' : Value) (a : Area) → Node t n → Folded t areas n kid w h → kid < n + size_at t (node_at t n) → a ≡ get_or areas kid no_area → step ≡ size_at t (node_at t kid) → w' ≡ greatest_of w a.w → h' ≡ sum_of h a.h → Folded t areas n (kid + step) w' h'
+folded_more t areas n kid step w h w' h' a at f less is far w_is h_is =
     let this = kid_here t n f.k kid at f.passed less in
     let here : a ≡ area_at t areas (down 0 f.k (node_at t n)) = is ∙ sym (area_at-number t areas (down 0 f.k (node_at t n)) kid this.number) in
     record {
       k = suc f.k;
-      passed = this.next;
-      width = ap (λ v. greatest_of v a.w) f.width ∙ ap (λ (b : Area). greatest_of (fold_kids f.k (λ acc j. greatest_of acc (area_at t areas (down 0 j (node_at t n))).w) (number (pos 0))) b.w) here;
-      height = ap (λ v. sum_of v a.h) f.height ∙ ap (λ (b : Area). sum_of (fold_kids f.k (λ acc j. sum_of acc (area_at t areas (down 0 j (node_at t n))).h) (number (pos 0))) b.h) here;
+      passed = subst (λ (m : ℕ). Passed t n (suc f.k) (kid + m)) (sym far) this.next;
+      width = w_is ∙ ap (λ v. greatest_of v a.w) f.width ∙ ap (λ (b : Area). greatest_of (fold_kids f.k (λ acc j. greatest_of acc (area_at t areas (down 0 j (node_at t n))).w) (number (pos 0))) b.w) here;
+      height = h_is ∙ ap (λ v. sum_of v a.h) f.height ∙ ap (λ (b : Area). sum_of (fold_kids f.k (λ acc j. sum_of acc (area_at t areas (down 0 j (node_at t n))).h) (number (pos 0))) b.h) here;
     }
 
 -- the size of a column

@@ -191,3 +191,23 @@ word_kids t n k h is has =
 pub body : (t : Forest) (n : ℕ) → Node t n → class_at t (node_at t n) ≡ sheet → Kid t n 0 (n + 1)
 body t n h is =
     subst (λ (m : ℕ). Kid t n 0 m) (passed_none t n h).number (kid_counted t n 0 h (omega (arith, sheet_kids t n h is)))
+
+-- before a kid stands each of the kids before it
+pub kid_before : (t : Forest) (q : Path) (k : ℕ) → IsTreeOf stack t → Has t q → Has t (down 0 (suc k) q) → Has t (down 0 k q)
+kid_before t q k h has later =
+    let f = below_of (at t q) in
+    let first = all_first (class_at t q) f (fits_at stack t q h has).below in
+    (among f k first (omega (arith, is_counted f (suc k) first later))).is
+
+-- a parent's number is smaller
+pub parent_smaller : (t : Forest) (q p : Path) → parent_of q ≡ Some p → number_of t p < number_of t q
+parent_smaller t top p e = absurd (none-some p e)
+  where
+    none-some : (p : Path) → parent_of top ≡ Some p → ⊥
+    none-some p e = cc
+parent_smaller t (down c k above) p e =
+    let is : above ≡ p = some-is above p e in
+    omega (arith, ap (number_of t) is)
+  where
+    some-is : (p q : Path) → Some p ≡ Some q → p ≡ q
+    some-is p q e = cc

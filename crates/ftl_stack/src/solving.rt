@@ -38,7 +38,7 @@ pub fn solve(alloc: Global, tree: &Tree) -> Result<Vec<Area>, AllocError>
 }
 
 /// How large a box is.
-#[derive(Clone, Copy, Debug)]
+#[derive(Clone, Copy)]
 struct Extent {
     w: Val,
     h: Val,
@@ -161,12 +161,12 @@ fn stack_kids(tree: &Tree, areas: &mut [Area], node: u32)
 {
     let end = node + tree.subtree_size(node);
     let mut kid = node + 1;
-    let x = areas[node as usize].x;
-    let mut y = areas[node as usize].y;
+    let own = areas[node as usize];
+    let mut y = own.y;
     while kid < end {
         let area = areas[kid as usize];
         areas[kid as usize] = Area {
-            x,
+            x: own.x,
             y,
             w: area.w,
             h: area.h,
