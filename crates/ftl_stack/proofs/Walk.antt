@@ -77,7 +77,7 @@ size-one none h = elim h [ ]
 size-one (tree k d i b s) h = ap (λ (f : Forest). suc (size b + size f)) h.4 ∙ (omega arith)
 
 -- a node and all below it are nodes of the tree
-end_within : (t : Forest) (p : Path) → IsTreeOf stack t → Has t p → number_of t p + size_at t p ≤ size t
+pub end_within : (t : Forest) (p : Path) → IsTreeOf stack t → Has t p → number_of t p + size_at t p ≤ size t
 end_within t p h has =
     let s = stands t p has in
     omega (arith, length-drop (number_of t p) (preorder t), ap length s.nodes, length-preorder t, size-one t h, length-append (nodes_below p (λ c. 0) (below_of (at t p))) s.rest, length-nodes_below p (λ c. 0) (below_of (at t p)))
@@ -211,3 +211,6 @@ parent_smaller t (down c k above) p e =
   where
     some-is : (p q : Path) → Some p ≡ Some q → p ≡ q
     some-is p q e = cc
+
+pub class_known : (t : Forest) (n : ℕ) → Node t n → class_at t (node_at t n) < 3
+class_known t n h = (fits_at stack t (node_at t n) h.is_tree h.has).class.known

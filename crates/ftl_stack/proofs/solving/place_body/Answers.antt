@@ -35,12 +35,3 @@ returns-clause-others c =
     let area = c.index-areas-body.result in
     let read = get_or_read c.args.areas.now (c.args.node + 1) area (omega (arith, c.requires.areas.count, this.within)) c.index-areas-body.is no_area in
     (body_placed t c.args.areas.now c.args.node area c.num.result c.num-2.result at c.requires.areas.count c.requires.sheet read c.num.ensures c.num-2.ensures this).others
-
-pub returns-clause-sizes : goal.returns-clause-sizes
-returns-clause-sizes c =
-    let t = c.args.tree.now in
-    let at = node t c.args.node c.requires.areas.is_tree c.requires.node in
-    let this = body t c.args.node at c.requires.sheet in
-    let area = c.index-areas-body.result in
-    let read = get_or_read c.args.areas.now (c.args.node + 1) area (omega (arith, c.requires.areas.count, this.within)) c.index-areas-body.is no_area in
-    (body_placed t c.args.areas.now c.args.node area c.num.result c.num-2.result at c.requires.areas.count c.requires.sheet read c.num.ensures c.num-2.ensures this).sizes
