@@ -8,7 +8,7 @@ use Rattle.ftl_model.specs.TreeOf.{IsTreeOf}
 use Rattle.ftl_model.specs.AttributeGrammar.{inherited, synthesized}
 use Rattle.ftl_model.specs.Path.{Path, top, down, Has, class_at, inputs_at, kids_at}
 use Rattle.ftl_model.specs.Solves.{Instance, instance_of, attributes_of, IsInstance, Solves, equation_value, rule_value, seen_from}
-use Rattle.ftl_model.specs.Stack.{stack, sheet, page_h, box_x, box_y, box_w, box_h, word_iw, word_ih}
+use Rattle.ftl_model.specs.Stack.{stack, page, box, sheet, page_h, box_x, box_y, box_w, box_h, word_iw, word_ih}
 use Rattle.ftl_model.proofs.Fits.{fits_at, kid_stands}
 use Rattle.ftl_model.proofs.Standing.{has_parent}
 use Rattle.ftl_stack.specs.declared.area.Area.{Area}
@@ -57,7 +57,7 @@ root_class : (t : Forest) → IsTreeOf stack t → class_at t top ≡ sheet
 root_class none h = elim h [ ]
 root_class (tree k d i b s) h = go (eqb k 0) refl h.0
   where
-    go : (same : Bool) → eqb k 0 ≡ same → cond same 0 1 ≡ 0 → k ≡ 0
+    go : (same : Bool) → eqb k 0 ≡ same → cond same page box ≡ page → k ≡ 0
     go true e _ = eqb-true k 0 e
     go false e one = absurd (omega (arith, one))
 
@@ -73,25 +73,25 @@ sheet_holds t areas p sized class =
     ∙ sym (ap (λ c. rule_value t (table_of t areas) (stack.self_rule c page_h) p 0) class)
 
 x_holds : (t : Forest) (areas : List Area) (p : Path) → IsTreeOf stack t → AllPlaced t areas → Has t p → class_at t p ≢ sheet → Holds t areas p box_x
-x_holds t areas top h placed has box = absurd (box (root_class t h))
-x_holds t areas (down c k q) h placed has box =
+x_holds t areas top h placed has below = absurd (below (root_class t h))
+x_holds t areas (down c k q) h placed has below =
     let first : 0 ≡ c = sym (first_child (class_at t q) c (kid_stands stack t c k q h has).declared) in
     subst (λ (d : ℕ). Holds t areas (down d k q) box_x) first
     (placed q (has_parent t c k q has) k (subst (λ (d : ℕ). Has t (down d k q)) (sym first) has)).x
 
 y_holds : (t : Forest) (areas : List Area) (p : Path) → IsTreeOf stack t → AllPlaced t areas → Has t p → class_at t p ≢ sheet → Holds t areas p box_y
-y_holds t areas top h placed has box = absurd (box (root_class t h))
-y_holds t areas (down c k q) h placed has box =
+y_holds t areas top h placed has below = absurd (below (root_class t h))
+y_holds t areas (down c k q) h placed has below =
     let first : 0 ≡ c = sym (first_child (class_at t q) c (kid_stands stack t c k q h has).declared) in
     subst (λ (d : ℕ). Holds t areas (down d k q) box_y) first
     (placed q (has_parent t c k q has) k (subst (λ (d : ℕ). Has t (down d k q)) (sym first) has)).y
 
 holds : (t : Forest) (areas : List Area) (p : Path) (a : ℕ) → IsTreeOf stack t → AllSized t areas → AllPlaced t areas → Has t p → HasAttribute (class_at t p) a → Holds t areas p a
 holds t areas p a h sized placed has (of_page class e) = subst (λ (b : ℕ). Holds t areas p b) (sym e) (sheet_holds t areas p (sized p has) class)
-holds t areas p a h sized placed has (has_x box e) = subst (λ (b : ℕ). Holds t areas p b) (sym e) (x_holds t areas p h placed has box)
-holds t areas p a h sized placed has (has_y box e) = subst (λ (b : ℕ). Holds t areas p b) (sym e) (y_holds t areas p h placed has box)
-holds t areas p a h sized placed has (has_w box e) = subst (λ (b : ℕ). Holds t areas p b) (sym e) ((sized p has).width box)
-holds t areas p a h sized placed has (has_h box e) = subst (λ (b : ℕ). Holds t areas p b) (sym e) (sized p has).height
+holds t areas p a h sized placed has (has_x below e) = subst (λ (b : ℕ). Holds t areas p b) (sym e) (x_holds t areas p h placed has below)
+holds t areas p a h sized placed has (has_y below e) = subst (λ (b : ℕ). Holds t areas p b) (sym e) (y_holds t areas p h placed has below)
+holds t areas p a h sized placed has (has_w below e) = subst (λ (b : ℕ). Holds t areas p b) (sym e) ((sized p has).width below)
+holds t areas p a h sized placed has (has_h below e) = subst (λ (b : ℕ). Holds t areas p b) (sym e) (sized p has).height
 holds t areas p a h sized placed has (has_iw e) = subst (λ (b : ℕ). Holds t areas p b) (sym e) refl
 holds t areas p a h sized placed has (has_ih e) = subst (λ (b : ℕ). Holds t areas p b) (sym e) refl
 
