@@ -3,10 +3,9 @@ use Rattle.std.proofs.Common.{◌≡◌, ◌≢◌, ℕ, zero, suc, ◌+◌, ◌
 use Rattle.std.proofs.lemmas.Bool.{cases_eq, cases_lt}
 use Rattle.ftl_model.specs.Values.{Value, value_of, sum_of}
 use Rattle.ftl_model.specs.Tree.{Forest, size}
-use Rattle.ftl_model.specs.TreeOf.{IsTreeOf}
 use Rattle.ftl_model.specs.Path.{Path, down, Has, class_at, kids_at, size_at, number_of, parent_of, node_at}
 use Rattle.ftl_model.specs.Solves.{seen_from}
-use Rattle.ftl_model.specs.Stack.{stack, sheet, column, word, box_x, box_y, body_origin, kids_x, kids_y, kids_y_value}
+use Rattle.ftl_model.specs.Stack.{stack, sheet, column, box_x, box_y, body_origin, kids_x, kids_y, kids_y_value}
 use Rattle.ftl_stack.specs.declared.area.Area.{Area}
 use Rattle.ftl_stack.specs.TableOf.{area_at, table_of}
 use Rattle.ftl_stack.specs.Solving.{kid_x_by, kid_y_by, IsPlaced, KidsPlaced, SameSizes, OnlyKids}
@@ -74,35 +73,42 @@ placing_more t old new n k kid a x y at count so_far this read x_is y_is =
   where
     parent_same : area_at t (set new kid (moved x y a)) (node_at t n) ≡ area_at t new (node_at t n)
     parent_same = area_at-set_other t new (node_at t n) kid (moved x y a) (λ e. absurd (omega (arith, e, at.number, this.later)))
+
     earlier_same : (j : ℕ) → j < k → area_at t (set new kid (moved x y a)) (down 0 j (node_at t n)) ≡ area_at t new (down 0 j (node_at t n))
     earlier_same j less =
         let sibling = kid_counted t n j at (omega (arith, less, so_far.passed.within)) in
         area_at-set_other t new (down 0 j (node_at t n)) kid (moved x y a)
         (λ e. absurd (omega (arith, less, same-kid j k (node_at t n) (one_node t (down 0 j (node_at t n)) (down 0 k (node_at t n)) sibling.has this.has (e ∙ sym this.number)))))
+
     here : area_at t (set new kid (moved x y a)) (down 0 k (node_at t n)) ≡ moved x y a
     here = area_at-set_same t new (down 0 k (node_at t n)) kid (moved x y a) this.number (omega (arith, count, this.within))
+
     last_placed : IsPlaced t (set new kid (moved x y a)) (node_at t n) k
     last_placed =
         record {
           x = ap (λ (b : Area). b.x) here ∙ x_is ∙ sym (kid_x_by-same t new (set new kid (moved x y a)) (node_at t n) k parent_same);
           y = ap (λ (b : Area). b.y) here ∙ y_is ∙ sym (kid_y_by-same t new (set new kid (moved x y a)) (node_at t n) k parent_same (λ j e. earlier_same j (omega (arith, e))));
         }
+
     placed : (j : ℕ) → (j < k) ⊎ (k ≤ j) → j < suc k → IsPlaced t (set new kid (moved x y a)) (node_at t n) j
     placed j (inl less) _ =
         placed-same t new (set new kid (moved x y a)) (node_at t n) j parent_same (earlier_same j less) (λ i e. earlier_same i (omega (arith, e, less))) (so_far.placed j less)
     placed j (inr past) less =
         let e : k ≡ j = omega (arith, past, less) in
         subst (λ (i : ℕ). IsPlaced t (set new kid (moved x y a)) (node_at t n) i) e last_placed
+
     width : (r : Path) → (number_of t r ≡ kid) ⊎ (number_of t r ≡ kid → ⊥) → (area_at t (set new kid (moved x y a)) r).w ≡ (area_at t old r).w
     width r (inl e) =
         ap (λ (b : Area). b.w) (area_at-set_same t new r kid (moved x y a) e (omega (arith, count, this.within)))
         ∙ ap (λ (b : Area). b.w) (read ∙ sym (area_at-number t new r kid e)) ∙ so_far.sizes.width r
     width r (inr ne) = ap (λ (b : Area). b.w) (area_at-set_other t new r kid (moved x y a) ne) ∙ so_far.sizes.width r
+
     height : (r : Path) → (number_of t r ≡ kid) ⊎ (number_of t r ≡ kid → ⊥) → (area_at t (set new kid (moved x y a)) r).h ≡ (area_at t old r).h
     height r (inl e) =
         ap (λ (b : Area). b.h) (area_at-set_same t new r kid (moved x y a) e (omega (arith, count, this.within)))
         ∙ ap (λ (b : Area). b.h) (read ∙ sym (area_at-number t new r kid e)) ∙ so_far.sizes.height r
     height r (inr ne) = ap (λ (b : Area). b.h) (area_at-set_other t new r kid (moved x y a) ne) ∙ so_far.sizes.height r
+
     other_same : (q : Path) → Has t q → parent_of q ≢ Some (node_at t n) → area_at t (set new kid (moved x y a)) q ≡ area_at t new q
     other_same q has other =
         area_at-set_other t new q kid (moved x y a)
@@ -161,8 +167,10 @@ placed_more t old new m at before placed others q has less k there = go (cases_e
   where
     some-is : (p r : Path) → Some p ≡ Some r → p ≡ r
     some-is p r e = cc
+
     not_parent : (number_of t q ≡ m → ⊥) → parent_of (down 0 k q) ≢ Some (node_at t m)
     not_parent ne e = ne (ap (number_of t) (some-is q (node_at t m) e) ∙ at.number)
+
     go : (number_of t q ≡ m) ⊎ (number_of t q ≡ m → ⊥) → IsPlaced t new q k
     go (inl e) = subst (λ (r : Path). KidsPlaced t new r) (node-of t m q has e) placed k there
     go (inr ne) =

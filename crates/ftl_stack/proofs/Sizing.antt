@@ -2,10 +2,10 @@
 use Rattle.std.proofs.Common.{◌≡◌, ◌≢◌, ℕ, zero, suc, ◌+◌, ◌<◌, ◌≤◌, ◌⊎◌, inl, inr, Bool, true, false, cond, ◌&&◌, eqb, List, [], ◌∷◌, ℤ, pos, ◌≤ℤ◌, int_le, length, get_or, set, refl, sym, ap, ◌∙◌, subst, arith}
 use Rattle.std.proofs.lemmas.Bool.{cases_eq, cond-true, and_from}
 use Rattle.std.proofs.lemmas.Int.{ints}
-use Rattle.std.proofs.lemmas.List.{get_or-set_same, get_or-set_other, get_or_default}
+use Rattle.std.proofs.lemmas.List.{get_or-set_same, get_or-set_other}
 use Rattle.ftl_model.specs.Values.{Value, number, overflow, value_of, sum_of, greatest_of, least_number, greatest_number}
 use Rattle.ftl_model.specs.Folds.{fold_kids}
-use Rattle.ftl_model.specs.Tree.{Forest, size}
+use Rattle.ftl_model.specs.Tree.{Forest}
 use Rattle.ftl_model.specs.TreeOf.{IsInput, AreInputs}
 use Rattle.ftl_model.specs.Path.{Path, down, Has, class_at, inputs_at, kids_at, size_at, number_of, node_at}
 use Rattle.ftl_model.specs.Solves.{seen_from}
@@ -13,8 +13,8 @@ use Rattle.ftl_model.specs.Stack.{stack, sheet, column, word, box_w, box_h, word
 use Rattle.ftl_model.proofs.Fits.{fits_at}
 use Rattle.ftl_stack.specs.declared.area.Area.{Area}
 use Rattle.ftl_stack.specs.TableOf.{area_at, table_of}
-use Rattle.ftl_stack.specs.Solving.{AreAreas, width_by, height_by, IsSized, SameSizes}
-use Rattle.ftl_stack.proofs.Walk.{Node, node-of, Passed, Kid, passed_none, kid_here, all_passed, body}
+use Rattle.ftl_stack.specs.Solving.{width_by, height_by, IsSized, SameSizes}
+use Rattle.ftl_stack.proofs.Walk.{Node, node-of, Passed, passed_none, kid_here, all_passed, body}
 
 -- the area of a node that is not there
 abbrev pub no_area : Area
@@ -81,8 +81,10 @@ sized_more t areas m a within sized w h q has le = go (cases_eq (number_of t q) 
   where
     kid_other : (k : ℕ) → area_at t (set areas m a) (down 0 k q) ≡ area_at t areas (down 0 k q)
     kid_other k = area_at-set_other t areas (down 0 k q) m a (λ e. absurd (omega (arith, e, le)))
+
     kids : SameKids t areas (set areas m a) q
     kids = record { width = λ k. ap (λ (b : Area). b.w) (kid_other k); height = λ k. ap (λ (b : Area). b.h) (kid_other k) }
+
     go : (number_of t q ≡ m) ⊎ (number_of t q ≡ m → ⊥) → IsSized t (set areas m a) q
     go (inl e) =
         let here = area_at-set_same t areas q m a e within in
@@ -127,9 +129,9 @@ folded_all t areas n kid w h at f end class =
     let all = all_passed t n f.k kid at f.passed end in
     record {
       width = f.width ∙ ap (λ m. fold_kids m (λ acc j. greatest_of acc (area_at t areas (down 0 j p)).w) (number (pos 0))) all
-        ∙ sym (ap (λ c. (stack.self_rule c box_w).value (kids_at t p) 0 (λ o. table_of t areas (seen_from p o))) class);
+          ∙ sym (ap (λ c. (stack.self_rule c box_w).value (kids_at t p) 0 (λ o. table_of t areas (seen_from p o))) class);
       height = f.height ∙ ap (λ m. fold_kids m (λ acc j. sum_of acc (area_at t areas (down 0 j p)).h) (number (pos 0))) all
-        ∙ sym (ap (λ c. (stack.self_rule c box_h).value (kids_at t p) 0 (λ o. table_of t areas (seen_from p o))) class);
+          ∙ sym (ap (λ c. (stack.self_rule c box_h).value (kids_at t p) 0 (λ o. table_of t areas (seen_from p o))) class);
     }
 
 -- the height of a sheet is that of its body
@@ -158,10 +160,12 @@ given_value t n a given at is = go (eqb a 5) is
   where
     number-is : (m k : ℤ) → number m ≡ number k → m ≡ k
     number-is m k e = cc
+
     one : (i : ℕ) → number (get_or (inputs_at t (node_at t n)) i (pos 0)) ≡ number given → value_of given ≡ number (get_or (inputs_at t (node_at t n)) i (pos 0))
     one i e =
         input_value given (subst IsInput (number-is (get_or (inputs_at t (node_at t n)) i (pos 0)) given e) (input_or (inputs_at t (node_at t n)) i (fits_at stack t (node_at t n) at.is_tree at.has).class.numbers))
         ∙ sym e
+
     go : (first : Bool) → cond first (number (get_or (inputs_at t (node_at t n)) 0 (pos 0))) (number (get_or (inputs_at t (node_at t n)) 1 (pos 0))) ≡ number given → value_of given ≡ cond first (number (get_or (inputs_at t (node_at t n)) 0 (pos 0))) (number (get_or (inputs_at t (node_at t n)) 1 (pos 0)))
     go true e = one 0 e
     go false e = one 1 e

@@ -1,18 +1,16 @@
 -- Areas with all sizes and places solve the equations of the tree.
-use Rattle.std.proofs.Common.{◌≡◌, ◌≢◌, ℕ, zero, suc, ◌+◌, ◌<◌, ◌≤◌, ◌⊎◌, inl, inr, Bool, true, false, cond, eqb, List, [], ◌∷◌, length, get_or, refl, sym, ap, ◌∙◌, subst, arith}
+use Rattle.std.proofs.Common.{◌≡◌, ◌≢◌, ℕ, zero, suc, ◌<◌, Bool, true, false, cond, eqb, List, get_or, refl, sym, ap, ◌∙◌, subst, arith}
 use Rattle.std.specs.Prelude.{Contains}
-use Rattle.std.proofs.lemmas.Bool.{eqb-true, cases_eq}
-use Rattle.ftl_model.specs.Values.{Value}
+use Rattle.std.proofs.lemmas.Bool.{eqb-true}
 use Rattle.ftl_model.specs.Tree.{Forest, none, tree}
 use Rattle.ftl_model.specs.TreeOf.{IsTreeOf}
-use Rattle.ftl_model.specs.AttributeGrammar.{inherited, synthesized}
-use Rattle.ftl_model.specs.Path.{Path, top, down, Has, class_at, inputs_at, kids_at}
-use Rattle.ftl_model.specs.Solves.{Instance, instance_of, attributes_of, IsInstance, Solves, equation_value, rule_value, seen_from}
+use Rattle.ftl_model.specs.Path.{Path, top, down, Has, class_at}
+use Rattle.ftl_model.specs.Solves.{instance_of, attributes_of, Solves, equation_value, rule_value}
 use Rattle.ftl_model.specs.Stack.{stack, page, box, sheet, page_h, box_x, box_y, box_w, box_h, word_iw, word_ih}
 use Rattle.ftl_model.proofs.Fits.{fits_at, kid_stands}
 use Rattle.ftl_model.proofs.Standing.{has_parent}
 use Rattle.ftl_stack.specs.declared.area.Area.{Area}
-use Rattle.ftl_stack.specs.TableOf.{area_at, table_of}
+use Rattle.ftl_stack.specs.TableOf.{table_of}
 use Rattle.ftl_stack.specs.Solving.{IsSized, AllSized, AllPlaced}
 use Rattle.ftl_stack.proofs.Walk.{first_child}
 

@@ -1,6 +1,6 @@
 -- The kids of a node of a stack tree, by their numbers: the first is the next node, and the next kid comes after the
 -- nodes of the kid before.
-use Rattle.std.proofs.Common.{◌≡◌, ◌≢◌, ℕ, zero, suc, ◌+◌, ◌<◌, ◌≤◌, ◌⊎◌, inl, inr, Bool, true, false, cond, eqb, List, ℤ, Some, length, refl, sym, ap, ◌∙◌, subst, arith, length-append, length-drop}
+use Rattle.std.proofs.Common.{◌≡◌, ℕ, zero, suc, ◌+◌, ◌<◌, ◌≤◌, ◌⊎◌, inl, inr, Bool, true, false, cond, eqb, Some, length, refl, sym, ap, ◌∙◌, subst, arith, length-append, length-drop}
 use Rattle.std.proofs.lemmas.Bool.{cases_lt}
 use Rattle.ftl_model.specs.Tree.{Forest, none, tree, IsTree, below_of, size, count_in, from_kid, nodes_before}
 use Rattle.ftl_model.specs.TreeOf.{IsTreeOf, FitBelow}
@@ -8,7 +8,7 @@ use Rattle.ftl_model.specs.Path.{Path, top, down, at, Has, class_at, kids_at, si
 use Rattle.ftl_model.specs.Stack.{stack, sheet, word}
 use Rattle.ftl_model.proofs.Fits.{fits_at, kid_stands}
 use Rattle.ftl_model.proofs.Numbering.{length-preorder, length-nodes_below, number_of-node_at, has-node_at}
-use Rattle.ftl_model.proofs.Standing.{stands, has_parent, node_at-number_of}
+use Rattle.ftl_model.proofs.Standing.{stands, node_at-number_of}
 
 -- a child of the stack grammar is the first
 pub first_child : (above d : ℕ) → d < stack.child_count above → d ≡ 0

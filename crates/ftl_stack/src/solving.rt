@@ -12,10 +12,12 @@ use ftl_tree::Tree;
 use std::alloc::{AllocError, Global};
 
 const SHEET: u32 = 0;
+
 const COLUMN: u32 = 1;
 
 /// The inputs of a word, its width and its height.
 const WORD_IW: u32 = 5;
+
 const WORD_IH: u32 = 6;
 
 /// The values of all boxes of a document, node by node in preorder.
@@ -65,10 +67,8 @@ fn set_sizes(tree: &Tree, areas: &mut [Area])
 fn extent_of(tree: &Tree, areas: &[Area], node: u32) -> Extent
     requires areas { AreAreas tree.now areas.now }
     requires node { node < size tree.now }
-    ensures w {
-        let p = node_at tree.now node in
-        class_at tree.now p ≢ sheet → result.w ≡ width_by tree.now areas.now p
-    }
+    ensures w { let p = node_at tree.now node in
+        class_at tree.now p ≢ sheet → result.w ≡ width_by tree.now areas.now p }
     ensures h { result.h ≡ height_by tree.now areas.now (node_at tree.now node) }
 {
     match tree.class(node) {

@@ -1,8 +1,8 @@
 -- Before the column's end stands a kid, whose sizes are taken into the folds; at its end all kids were passed.
-use Rattle.std.proofs.Common.{◌≡◌, ◌+◌, ◌<◌, sym, ap, ◌∙◌, subst, arith}
+use Rattle.std.proofs.Common.{◌+◌, ◌<◌, arith}
 use Rattle.std.proofs.lemmas.List.{get_or_read}
 use Rattle.ftl_model.specs.Path.{node_at, size_at}
-use Rattle.ftl_stack.proofs.Walk.{Node, node, Kid, kid_here}
+use Rattle.ftl_stack.proofs.Walk.{node, kid_here}
 use Rattle.ftl_stack.proofs.Sizing.{no_area, folded_none, folded_more, folded_all}
 use Rattle.ftl_stack.proofs.solving.column_extent.Goals as goal
 

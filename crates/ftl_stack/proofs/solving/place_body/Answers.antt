@@ -1,5 +1,5 @@
 -- The one kid of a sheet is the next node.
-use Rattle.std.proofs.Common.{◌≡◌, ◌+◌, sym, ◌∙◌, arith}
+use Rattle.std.proofs.Common.{◌+◌, sym, arith}
 use Rattle.std.proofs.lemmas.List.{get_or_read}
 use Rattle.ftl_model.specs.Path.{node_at, size_at}
 use Rattle.ftl_stack.proofs.Walk.{node, body, sheet_kids}

@@ -1,8 +1,7 @@
 -- The kids of each node in turn get their places, and the other nodes keep theirs.
-use Rattle.std.proofs.Common.{◌≡◌, ◌+◌, ◌<◌, length, sym, ap, ◌∙◌, subst, arith}
-use Rattle.ftl_model.specs.Path.{Path, number_of, size_at}
+use Rattle.std.proofs.Common.{◌∙◌, arith}
 use Rattle.ftl_stack.proofs.Walk.{node, end_within}
-use Rattle.ftl_stack.proofs.Placing.{PlacedBefore, placed_more}
+use Rattle.ftl_stack.proofs.Placing.{placed_more}
 use Rattle.ftl_stack.proofs.solving.set_places.Goals as goal
 
 pub loop-node-preserved : goal.loop-node-preserved

@@ -1,10 +1,8 @@
 -- Each node takes its size from its kids, which have larger numbers.
-use Rattle.std.proofs.Common.{◌≡◌, ℕ, ◌+◌, ◌-◌, ◌<◌, length, sym, ap, ◌∙◌, subst, arith}
-use Rattle.std.proofs.lemmas.List.{get_or_read}
-use Rattle.ftl_model.specs.Path.{Path, number_of, size_at}
+use Rattle.std.proofs.Common.{◌≡◌, ℕ, ◌+◌, ◌-◌, sym, subst, arith}
 use Rattle.ftl_stack.specs.declared.area.Area.{Area}
-use Rattle.ftl_stack.proofs.Walk.{node, end_within}
-use Rattle.ftl_stack.proofs.Sizing.{no_area, SizedFrom, sized_more}
+use Rattle.ftl_stack.proofs.Walk.{end_within}
+use Rattle.ftl_stack.proofs.Sizing.{SizedFrom, sized_more}
 use Rattle.ftl_stack.proofs.solving.set_sizes.Goals as goal
 
 pub loop-node-init : goal.loop-node-init

@@ -1,11 +1,11 @@
 -- The places leave the sizes alone, so that in the end both solve their equations.
-use Rattle.std.proofs.Common.{◌≡◌, List, ◌++◌, length, take, drop, sym, ap, ◌∙◌, subst, arith}
+use Rattle.std.proofs.Common.{◌≡◌, List, ◌++◌, length, take, drop, sym, ◌∙◌, subst}
 use Rattle.std.proofs.lemmas.List.{take_at}
 use Rattle.ftl_model.specs.Solves.{Solves}
 use Rattle.ftl_model.specs.Stack.{stack}
 use Rattle.ftl_stack.specs.declared.area.Area.{Area}
 use Rattle.ftl_stack.specs.TableOf.{table_of}
-use Rattle.ftl_stack.specs.Solving.{AllSized, SameSizes}
+use Rattle.ftl_stack.specs.Solving.{AllSized}
 use Rattle.ftl_stack.proofs.Sizing.{all_sized-same}
 use Rattle.ftl_stack.proofs.Solved.{solved}
 use Rattle.ftl_stack.proofs.solving.solve.Goals as goal
