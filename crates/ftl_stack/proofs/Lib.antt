@@ -1,1 +1,5 @@
 pub mod Lines
+pub mod Placing
+pub mod Sizing
+pub mod Solved
+pub mod Walk

@@ -4,6 +4,8 @@
 
 mod area;
 mod print;
+mod solving;
 
 pub use area::Area;
 pub use print::{print_boxes, shows_overflow};
+pub use solving::solve;
