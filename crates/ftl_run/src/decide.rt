@@ -3,9 +3,6 @@ ghost use Rattle.std.specs.Result.{IsErrOf};
 ghost use Rattle.ftl_edge.specs.Counts.{Rose};
 ghost use Rattle.ftl_model.specs.Stack.{stack};
 ghost use Rattle.ftl_model.specs.TreeOf.{IsTreeOf};
-ghost use Rattle.ftl_model.specs.Tree.{size};
-ghost use Rattle.ftl_model.specs.Solves.{Solves};
-ghost use Rattle.ftl_stack.specs.TableOf.{table_of};
 ghost use Rattle.ftl_run.specs.declared.decide.Undecided.TheVariants.{OutOfMemory};
 ghost use Rattle.ftl_run.specs.Answer.{IsAnswer, run_words, refused};
 ghost use Rattle.ftl_run.specs.Headline.{texts, IsAnswerStatus};
@@ -13,7 +10,7 @@ ghost use Rattle.ftl_run.specs.Deciding.{answer_of, LaysOut};
 
 use crate::status::Status;
 use ftl_edge::{ReadAllFault, Source, read_all};
-use ftl_stack::{Area, print_boxes, shows_overflow};
+use ftl_stack::{print_boxes, shows_overflow, solve};
 use ftl_tree::{StackFault, Tree, read_stack_page};
 use std::alloc::{AllocError, Global};
 
@@ -62,14 +59,6 @@ fn refusal(alloc: Global, status: Status, line: &[u8]) -> Result<Decided, AllocE
     Ok(Decided { status, text })
 }
 
-// STUB
-fn solve(alloc: Global, tree: &Tree) -> Result<Vec<Area>, AllocError>
-    ensures count { IfOk result (λ v. length v.items ≡ size tree.now) }
-    ensures solves { IfOk result (λ v. Solves stack tree.now (table_of tree.now v.items)) }
-{
-    Ok(Vec::new(alloc))
-}
-
 /// The status of a document that was laid out.
 fn done(overflow: bool) -> Status
     ensures { result.0 ≡ (if overflow then 8 else 0) }
@@ -86,9 +75,10 @@ fn boxes_of(alloc: Global, tree: &Tree) -> Result<Decided, AllocError>
     requires { IsTreeOf stack tree.now }
     ensures { IfOk result (λ d. LaysOut tree.now (answer_of d)) }
 {
-    let areas = solve(alloc, tree)?;
-    let status = done(shows_overflow(tree, &areas));
-    let text = print_boxes(alloc, tree, &areas)?;
+    let solved = solve(alloc, tree)?;
+    let areas = solved.as_slice();
+    let status = done(shows_overflow(tree, areas));
+    let text = print_boxes(alloc, tree, areas)?;
     Ok(Decided { status, text })
 }
 

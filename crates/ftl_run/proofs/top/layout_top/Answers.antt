@@ -1,4 +1,4 @@
-use Rattle.std.proofs.Common.{◌≡◌, inl, inr, refl, arith}
+use Rattle.std.proofs.Common.{◌≡◌, ℕ, List, inl, inr, refl, subst, arith}
 use Rattle.std.specs.Io.KnownBytes.{Appends}
 use Rattle.ftl_edge.specs.Sink.{AppendsFront}
 use Rattle.ftl_run.specs.Answer.{Answer}
@@ -13,7 +13,7 @@ returns-in-Ok-write_whole-clause-status g c =
 
 pub returns-in-Ok-write_whole-clause-text : goal.returns-in-Ok-write_whole-clause-text
 returns-in-Ok-write_whole-clause-text g c =
-    of_known (texts c.args.words.now) (g.S.Source.remaining c.args.source.now) (answer_of c.in-Ok.decided) _ c.in-Ok.ensures.answer (λ _. ?)
+    of_known (texts c.args.words.now) (g.S.Source.remaining c.args.source.now) (answer_of c.in-Ok.decided) _ c.in-Ok.ensures.answer (λ _. subst (λ (text : List ℕ). Appends (g.K.Sink.written c.args.sink.now) (g.K.Sink.written c.write_whole.new.sink) text) c.deref.ensures.value c.in-Ok-write_whole.ensures.whole)
 
 pub returns-in-Ok-write_whole-clause-no_excuse : goal.returns-in-Ok-write_whole-clause-no_excuse
 returns-in-Ok-write_whole-clause-no_excuse g c _ _ =
@@ -32,7 +32,8 @@ returns-in-Ok-clause-faults g c =
     record {
       write = λ _. c.in-Err.ensures.cause;
       front =
-        λ _. of_known (texts c.args.words.now) (g.S.Source.remaining c.args.source.now) (answer_of c.in-Ok.decided) _ c.in-Ok.ensures.answer ?;
+        λ _. of_known (texts c.args.words.now) (g.S.Source.remaining c.args.source.now) (answer_of c.in-Ok.decided) _ c.in-Ok.ensures.answer
+            (subst (λ (text : List ℕ). AppendsFront (g.K.Sink.written c.args.sink.now) (g.K.Sink.written c.write_whole.new.sink) text) c.deref.ensures.value c.in-Err.ensures.front);
       read = λ e. absurd (omega (arith, e));
       nothing = λ e. absurd (omega (arith, e));
     }
