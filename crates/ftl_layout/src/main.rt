@@ -2,17 +2,29 @@
 #![tactic(auto)]
 
 use ftl_edge::{StdSink, StdSource};
-use ftl_run::layout_top;
+use ftl_run::{Status, layout_top};
+use std::env;
 use std::io;
 use std::process::ExitCode;
+use std::rt::Env;
 
-fn main(rt: HostRuntime) -> io::Result<ExitCode> {
+/// The words after the program's name.
+fn words(rt: &(impl Env + AllocGlobal)) -> io::Result<Vec<String>> {
     let mut words = Vec::new(rt.alloc());
-    for word in std::env::args(&rt)?.skip(1) {
+    for word in env::args(rt)?.skip(1) {
         words.push(word)?;
     }
-    let mut source = StdSource::new(&rt);
-    let mut sink = StdSink::new(&rt);
-    let status = layout_top(rt.alloc(), words.as_slice(), &mut source, &mut sink);
-    Ok(ExitCode::from(status.0))
+    Ok(words)
+}
+
+fn main(rt: HostRuntime) -> ExitCode {
+    let status = match words(&rt) {
+        Ok(words) => {
+            let mut source = StdSource::new(&rt);
+            let mut sink = StdSink::new(&rt);
+            layout_top(rt.alloc(), words.as_slice(), &mut source, &mut sink)
+        }
+        Err(_) => Status::OUT_OF_MEMORY,
+    };
+    ExitCode::from(status.0)
 }
