@@ -1,14 +1,13 @@
 -- Each node of a tree of a grammar fits its class and its place.
-use Rattle.std.proofs.Common.{◌≡◌, ℕ, zero, suc, Bool, true, false, cond, eqb, List, ℤ, refl, sym, ap, ◌∙◌, subst}
+use Rattle.std.proofs.Common.{◌≡◌, ℕ, zero, suc, Bool, true, false, cond, eqb, refl, subst}
 use Rattle.ftl_model.specs.Tree.{Forest, none, tree, IsTree, class_of, child_of, inputs_of, below_of, from_kid}
 use Rattle.ftl_model.specs.TreeOf.{IsTreeOf, FitBelow, FitsClass, FitsChild}
 use Rattle.ftl_model.specs.Path.{Path, top, down, at, Has, class_at, inputs_at}
 use Rattle.ftl_model.specs.AttributeGrammar.{AttributeGrammar}
-use Rattle.ftl_model.proofs.Kids.{from_kid-other, from_kid-next, from_kid-here, child-from_kid}
+use Rattle.ftl_model.proofs.Kids.{child-from_kid}
 use Rattle.ftl_model.proofs.Standing.{has_parent}
 
 module _ {V : Type 0} (g : AttributeGrammar V) where
-
   -- the trees from a kid on fit where the trees do
   pub fit_from : (above : ℕ) (f : Forest) (c k : ℕ) → FitBelow g above f → FitBelow g above (from_kid c k f)
   fit_from above none c k h = tt

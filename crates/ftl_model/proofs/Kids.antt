@@ -1,7 +1,7 @@
 -- Kids of a node among the trees below it, by child and number.
 use Rattle.std.proofs.Common.{◌≡◌, ℕ, zero, suc, ◌+◌, Bool, true, false, eqb, refl, List, ℤ}
 use Rattle.std.proofs.lemmas.Bool.{eqb-true}
-use Rattle.ftl_model.specs.Tree.{Forest, none, tree, IsTree, child_of, size, count_in, from_kid, nodes_before}
+use Rattle.ftl_model.specs.Tree.{Forest, none, tree, IsTree, child_of, size, from_kid, nodes_before}
 
 -- past a tree of another child
 pub from_kid-other : (c kid k d : ℕ) (i : List ℤ) (b s : Forest) → eqb d c ≡ false → from_kid c kid (tree k d i b s) ≡ from_kid c kid s

@@ -1,13 +1,13 @@
 -- Preorder numbers: `node_at` and `number_of` undo each other.
-use Rattle.std.proofs.Common.{◌≡◌, ℕ, zero, suc, ◌+◌, ◌<◌, ◌≤◌, Bool, true, false, eqb, cond, refl, sym, ◌∙◌, ap, subst, arith, List, [], ◌∷◌, ◌++◌, ℤ, length, drop, get_or, map, append_assoc, length-append, add-zero}
+use Rattle.std.proofs.Common.{◌≡◌, ℕ, zero, suc, ◌+◌, ◌<◌, Bool, true, false, eqb, cond, refl, sym, ◌∙◌, ap, subst, arith, List, ◌∷◌, ◌++◌, ℤ, length, get_or, map, length-append}
 use Rattle.std.specs.List.{range_with_len, AllByRecursion}
-use Rattle.std.proofs.lemmas.List.{map-append, append-nil, drop-drop, drop-append-le, get_or-drop, get_or-map}
-use Rattle.std.proofs.lemmas.List.FromFn.{length-range_with_len, get_or-range_with_len}
-use Rattle.std.proofs.lemmas.Bool.{eqb-true, eq-eqb}
-use Rattle.ftl_model.specs.Tree.{Forest, none, tree, IsTree, child_of, below_of, size, count_in, from_kid, nodes_before}
+use Rattle.std.proofs.lemmas.List.{map-append, get_or-map}
+use Rattle.std.proofs.lemmas.List.FromFn.{get_or-range_with_len}
+use Rattle.std.proofs.lemmas.Bool.{eq-eqb}
+use Rattle.ftl_model.specs.Tree.{Forest, none, tree, IsTree, below_of, size, from_kid, nodes_before}
 use Rattle.ftl_model.specs.Path.{Path, top, down, at, Has, number_of, one_more, nodes_below, preorder, node_at}
 use Rattle.ftl_model.proofs.Each.{each-append, each_at}
-use Rattle.ftl_model.proofs.Kids.{from_kid-other, from_kid-next, from_kid-here, nodes_before-other, nodes_before-next, nodes_before-here, child-from_kid}
+use Rattle.ftl_model.proofs.Kids.{from_kid-other, from_kid-next, from_kid-here, nodes_before-other, nodes_before-next, nodes_before-here}
 
 -- what is left of the trees below a node, so many kids of each child and so many nodes having come
 pub record Left (t : Forest) (p : Path) (seen : ℕ → ℕ) (f : Forest) (passed : ℕ) : Type 0 where
@@ -30,6 +30,7 @@ left_next t p seen passed k d i b s h =
     from : (c kid n : ℕ) (same : Bool) → eqb d c ≡ same → n ≡ cond same (suc (seen c)) (seen c) + kid → from_kid c n (below_of (at t p)) ≡ from_kid c kid s
     from c kid n true e m = h.from c (suc kid) n (omega (arith, m)) ∙ from_kid-next c kid k d i b s e
     from c kid n false e m = h.from c kid n m ∙ from_kid-other c kid k d i b s e
+
     before : (c kid n : ℕ) (same : Bool) → eqb d c ≡ same → n ≡ cond same (suc (seen c)) (seen c) + kid → nodes_before c n (below_of (at t p)) ≡ passed + suc (size b) + nodes_before c kid s
     before c kid n true e m = omega (arith, h.before c (suc kid) n (omega (arith, m)), nodes_before-next c kid k d i b s e)
     before c kid n false e m = omega (arith, h.before c kid n m, nodes_before-other c kid k d i b s e)

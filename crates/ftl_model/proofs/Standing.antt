@@ -1,8 +1,7 @@
 -- Where a node stands in preorder: at its number, with the nodes below it behind it.
-use Rattle.std.proofs.Common.{◌≡◌, ℕ, zero, suc, ◌+◌, ◌<◌, ◌≤◌, Bool, true, false, eqb, cond, refl, sym, ◌∙◌, ap, subst, arith, List, [], ◌∷◌, ◌++◌, ℤ, length, drop, get_or, append_assoc, length-append}
+use Rattle.std.proofs.Common.{◌≡◌, ℕ, zero, suc, ◌+◌, ◌<◌, ◌≤◌, Bool, true, false, eqb, cond, refl, sym, ◌∙◌, ap, subst, arith, List, [], ◌∷◌, ◌++◌, ℤ, length, drop, get_or, append_assoc}
 use Rattle.std.proofs.lemmas.List.{append-nil, drop-drop, drop-append-le, drop_at, get_or-drop, length-drop}
-use Rattle.std.proofs.lemmas.Bool.{eqb-true}
-use Rattle.ftl_model.specs.Tree.{Forest, none, tree, IsTree, class_of, child_of, below_of, size, from_kid, nodes_before}
+use Rattle.ftl_model.specs.Tree.{Forest, none, tree, IsTree, child_of, below_of, size, from_kid, nodes_before}
 use Rattle.ftl_model.specs.Path.{Path, top, down, at, Has, number_of, one_more, nodes_below, preorder, node_at}
 use Rattle.ftl_model.proofs.Kids.{from_kid-other, from_kid-next, from_kid-here, nodes_before-other, nodes_before-next, nodes_before-here, child-from_kid}
 use Rattle.ftl_model.proofs.Numbering.{length-nodes_below, length-preorder}
@@ -107,14 +106,14 @@ stands t (down c k p) h =
     record {
       rest = nodes_below p (one_more first.child from.come) first.beside ++ up.rest;
       nodes =
-        (let e : suc (n + m) ≡ n + suc m = omega arith in ap (λ j. drop j (preorder t)) e)
-        ∙ sym (drop-drop (suc m) n (preorder t))
-        ∙ ap (drop (suc m)) up.nodes
-        ∙ drop-append-le m (nodes_below p (λ c. 0) b) up.rest within
-        ∙ ap (λ r. r ++ up.rest) (from.nodes ∙ ap (nodes_below p from.come) first.is)
-        ∙ append_assoc (q ∷ nodes_below q (λ c. 0) first.below) (nodes_below p (one_more first.child from.come) first.beside) up.rest
-        ∙ ap (λ r. r ∷ nodes_below r (λ c. 0) first.below ++ (nodes_below p (one_more first.child from.come) first.beside ++ up.rest)) same
-        ∙ ap (λ f. down c k p ∷ nodes_below (down c k p) (λ c. 0) (below_of f) ++ (nodes_below p (one_more first.child from.come) first.beside ++ up.rest)) (sym first.is);
+          (let e : suc (n + m) ≡ n + suc m = omega arith in ap (λ j. drop j (preorder t)) e)
+          ∙ sym (drop-drop (suc m) n (preorder t))
+          ∙ ap (drop (suc m)) up.nodes
+          ∙ drop-append-le m (nodes_below p (λ c. 0) b) up.rest within
+          ∙ ap (λ r. r ++ up.rest) (from.nodes ∙ ap (nodes_below p from.come) first.is)
+          ∙ append_assoc (q ∷ nodes_below q (λ c. 0) first.below) (nodes_below p (one_more first.child from.come) first.beside) up.rest
+          ∙ ap (λ r. r ∷ nodes_below r (λ c. 0) first.below ++ (nodes_below p (one_more first.child from.come) first.beside ++ up.rest)) same
+          ∙ ap (λ f. down c k p ∷ nodes_below (down c k p) (λ c. 0) (below_of f) ++ (nodes_below p (one_more first.child from.come) first.beside ++ up.rest)) (sym first.is);
     }
 
 pub number_of-lt : (t : Forest) (p : Path) → Has t p → number_of t p < suc (size (below_of t))

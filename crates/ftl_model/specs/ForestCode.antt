@@ -1,5 +1,5 @@
 -- How a value that is a family of trees is told from another: by the list of its nodes.
-use Rattle.std.specs.Prelude.{◌≡◌, ℕ, List, [], ◌∷◌, map, ℤ, refl}
+use Rattle.std.specs.Prelude.{ℕ, List, ℤ, refl}
 use Rattle.std.specs.Coded.{Coded, code_by, coded×, coded_ℕ, coded_ℤ, coded_list}
 use Rattle.ftl_model.specs.Tree.{Forest}
 use Rattle.ftl_model.specs.Shape.{Shape, shape, shapes, forest_of}

@@ -1,6 +1,5 @@
 -- A family of trees as a list of its nodes in preorder, each with how many nodes stand below it.
-use Rattle.std.specs.Prelude.{◌≡◌, ℕ, zero, suc, ◌+◌, ◌≤◌, List, [], ◌∷◌, ◌++◌, length, take, drop, ℤ, refl}
-use Rattle.std.specs.Coded.{Coded, code_by, coded×, coded_ℕ, coded_ℤ, coded_list}
+use Rattle.std.specs.Prelude.{ℕ, zero, suc, List, [], ◌∷◌, ◌++◌, length, take, drop, ℤ}
 use Rattle.ftl_model.specs.Tree.{Forest, none, tree, size}
 
 pub record Shape : Type 0 where

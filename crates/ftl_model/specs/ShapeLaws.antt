@@ -1,8 +1,8 @@
 -- No tree is lost in the list of its nodes.
-use Rattle.std.proofs.Common.{◌≡◌, ℕ, zero, suc, ◌+◌, ◌≤◌, List, [], ◌∷◌, ◌++◌, length, take, drop, ℤ, refl, sym, ap, ◌∙◌, arith, length-append}
+use Rattle.std.proofs.Common.{◌≡◌, ℕ, zero, suc, ◌≤◌, ◌∷◌, ◌++◌, length, drop, refl, ap, ◌∙◌, arith, length-append}
 use Rattle.std.proofs.lemmas.List.{take_at, drop_at}
 use Rattle.ftl_model.specs.Tree.{Forest, none, tree, size}
-use Rattle.ftl_model.specs.Shape.{Shape, shape, shapes, forest_within, forest_of}
+use Rattle.ftl_model.specs.Shape.{shape, shapes, forest_within, forest_of}
 
 pub length-shapes : (f : Forest) → length (shapes f) ≡ size f
 length-shapes none = refl

@@ -19,9 +19,10 @@ use Rattle.ftl_tree.proofs.Access.{is_tree}
 -- each element of a list is contained in it
 each_contained : (front xs : List ℕ) → AllByRecursion (λ a. Contains (front ++ xs) a) xs
 each_contained front [] = tt
-each_contained front (x ∷ xs) =
-    ((length front, omega (arith, length-append front (x ∷ xs)), get_or_at front x xs x (length front) refl),
-    subst (λ (ys : List ℕ). AllByRecursion (λ a. Contains ys a) xs) (append_assoc front (x ∷ []) xs) (each_contained (front ++ (x ∷ [])) xs))
+each_contained front (x ∷ xs) = (
+  (length front, omega (arith, length-append front (x ∷ xs)), get_or_at front x xs x (length front) refl),
+  subst (λ (ys : List ℕ). AllByRecursion (λ a. Contains ys a) xs) (append_assoc front (x ∷ []) xs) (each_contained (front ++ (x ∷ [])) xs),
+)
 
 -- a node shows attributes of its interface alone
 shown_is_shared : (class : ℕ) → stack_shown class ≡ stack.shared (stack.interface class)
@@ -48,7 +49,6 @@ list_any-same f g P (x ∷ xs) each same =
     ap (λ y. y || list_any f xs) (same x each.0) ∙ ap (λ ys. g x || ys) (list_any-same f g P xs each.1 same)
 
 module _ (t : Forest) (r s : Instance → Value) (h : IsTreeOf stack t) (same : (i : Instance) → IsInstance stack t i → r i ≡ s i) where
-
   shown_same : (p : Path) → Has t p → (a : ℕ) → Contains (stack_shown (class_at t p)) a → r (instance_of p a) ≡ s (instance_of p a)
   shown_same p has a shown = same (instance_of p a) (has, shown_has (class_at t p) a shown)
 
@@ -56,8 +56,8 @@ module _ (t : Forest) (r s : Instance → Value) (h : IsTreeOf stack t) (same : 
   line_same p has =
       ap (λ fields. decimal (number_of t p) ++ codes " " ++ stack_class_name (class_at t p) ++ fields ++ codes "\n")
       (flat_map-same (field_text stack_names r p) (field_text stack_names s p) (λ a. Contains (stack_shown (class_at t p)) a) (stack_shown (class_at t p))
-          (each_contained [] (stack_shown (class_at t p)))
-          (λ a shown. ap (λ v. codes " " ++ stack_names.attribute_name a ++ codes "=" ++ value_text v) (shown_same p has a shown)))
+      (each_contained [] (stack_shown (class_at t p)))
+      (λ a shown. ap (λ v. codes " " ++ stack_names.attribute_name a ++ codes "=" ++ value_text v) (shown_same p has a shown)))
 
   pub boxes-same : boxes stack_names t r ≡ boxes stack_names t s
   boxes-same =
@@ -67,5 +67,5 @@ module _ (t : Forest) (r s : Instance → Value) (h : IsTreeOf stack t) (same : 
   shows_overflow-same =
       list_any-same (λ p. list_any (λ a. is_overflow (r (instance_of p a))) (stack_shown (class_at t p))) (λ p. list_any (λ a. is_overflow (s (instance_of p a))) (stack_shown (class_at t p))) (Has t) (preorder t) (has-preorder t (is_tree t h))
       (λ p has. list_any-same (λ a. is_overflow (r (instance_of p a))) (λ a. is_overflow (s (instance_of p a))) (λ a. Contains (stack_shown (class_at t p)) a) (stack_shown (class_at t p))
-          (each_contained [] (stack_shown (class_at t p)))
-          (λ a shown. ap is_overflow (shown_same p has a shown)))
+      (each_contained [] (stack_shown (class_at t p)))
+      (λ a shown. ap is_overflow (shown_same p has a shown)))

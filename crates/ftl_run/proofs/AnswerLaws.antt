@@ -64,6 +64,7 @@ page_answer bytes = go (cases_lt 67108864 (length bytes))
         let table = (one_stack_list page.0 (page_is_tree bytes page.0 page.1)).some_solves in
         (laid_out page.0 table.0, boxes_of page.1 table.1)
     decided short (inr none) = (refused 4 (codes "refused page: form not built"), not_built short none)
+
     go : (67108864 < length bytes) ⊎ (length bytes ≤ 67108864) → (a : Answer) × IsAnswer run_words bytes a
     go (inl long) = (refused 4 (codes "refused page: too long"), too_long long)
     go (inr short) = decided short (page_decided bytes short)

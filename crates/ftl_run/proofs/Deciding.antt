@@ -28,8 +28,8 @@ lays_out t s a h solves status text =
       values = list.0;
       solves = list.1;
       answer =
-        ap (λ n. record { status = n; text = a.text }) (status ∙ ap (λ b. cond b 8 0) (shows_overflow-same t s v h agree))
-        ∙ ap (λ x. record { status = cond (shows_overflow stack_names t v) 8 0; text = x }) (text ∙ boxes-same t s v h agree);
+          ap (λ n. record { status = n; text = a.text }) (status ∙ ap (λ b. cond b 8 0) (shows_overflow-same t s v h agree))
+          ∙ ap (λ x. record { status = cond (shows_overflow stack_names t v) 8 0; text = x }) (text ∙ boxes-same t s v h agree);
     }
 
 pub laid_out_status : (t : Forest) (a : Answer) → LaysOut t a → IsAnswerStatus a.status
@@ -58,10 +58,11 @@ one_word (v ∷ []) w text is low high at bytes eq = go is refl
     go true e =
         let run : text ≡ codes "run" = pointwise-true text (codes "run") (sym eq ∙ e) in
         ((λ _. ap (λ x. x ∷ []) (ap string_bytes (sym at) ∙ sym bytes ∙ run)), (λ _. e))
-    go false e =
-        ((λ t. absurd (let f : true ≡ false = sym t ∙ e in cc)),
-        (λ h.
-            let v_is : string_bytes v ≡ codes "run" = cc in
-            let run : text ≡ codes "run" = bytes ∙ ap string_bytes at ∙ v_is in
-            let yes_is : is ≡ true = eq ∙ ap (λ x. pointwise eqb x (codes "run")) run in
-            absurd (let f : true ≡ false = sym yes_is ∙ e in cc)))
+    go false e = (
+      (λ t. absurd (let f : true ≡ false = sym t ∙ e in cc)),
+      (λ h.
+          let v_is : string_bytes v ≡ codes "run" = cc in
+          let run : text ≡ codes "run" = bytes ∙ ap string_bytes at ∙ v_is in
+          let yes_is : is ≡ true = eq ∙ ap (λ x. pointwise eqb x (codes "run")) run in
+          absurd (let f : true ≡ false = sym yes_is ∙ e in cc)),
+    )

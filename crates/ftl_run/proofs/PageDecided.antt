@@ -34,6 +34,7 @@ document_decided bytes = go (sheet_rows (state (scanned bytes) no_rows)) refl
     at_end : (s : State) → sheet_rows (state (scanned bytes) no_rows) ≡ Some s → (s.text ≡ no_symbols) ⊎ (s.text ≡ no_symbols → ⊥) → Decided (IsDocument bytes)
     at_end s e (inl end) = let found = document_found bytes s.text s.rows e end in inl (found.tree, found.document)
     at_end s e (inr more) = inr (no_document_with_more bytes s.text s.rows e more)
+
     go : (outcome : Option State) → sheet_rows (state (scanned bytes) no_rows) ≡ outcome → Decided (IsDocument bytes)
     go None e = inr (no_document bytes e)
     go (Some s) e = at_end s e (no_symbols_or s.text)
@@ -44,8 +45,8 @@ page_decided bytes short = go (same_bytes (take (length heading) bytes) heading)
     go : (is : Bool) → same_bytes (take (length heading) bytes) heading ≡ is → Decided (IsDocument (drop (length heading) bytes)) → Decided (IsPage bytes)
     go false e document =
         inr (λ t p.
-            let front : take (length heading) bytes ≡ heading = ap (take (length heading)) p.lines ∙ take_at heading p.body (length heading) refl in
-            let same : same_bytes (take (length heading) bytes) heading ≡ true = ap (λ xs. same_bytes xs heading) front ∙ same_bytes_of heading in
-            cc)
+        let front : take (length heading) bytes ≡ heading = ap (take (length heading)) p.lines ∙ take_at heading p.body (length heading) refl in
+        let same : same_bytes (take (length heading) bytes) heading ≡ true = ap (λ xs. same_bytes xs heading) front ∙ same_bytes_of heading in
+        cc)
     go true e (inl found) = inl (found.0, page_found bytes (drop (length heading) bytes) found.0 short (same_bytes-true (take (length heading) bytes) heading e) refl found.1)
     go true e (inr none) = inr (λ t p. none t (page_document bytes (drop (length heading) bytes) t refl p))

@@ -40,7 +40,7 @@ pub record FaultsHaveCauses (status : ℕ) (words : List (List ℕ)) (told writt
 pub record ReadsInput (status : ℕ) (words : List (List ℕ)) (told left : Option (List ℕ)) (taken_before taken : ℕ) : Type 0 where
   pub untouched : words ≢ run_words → (left ≡ told) × (taken ≡ taken_before) × (status ≢ 3)
   pub to_its_end : status ≢ 3 → status ≢ 9 → words ≡ run_words
-    → OfAnswer words told (λ a. a ≢ refused 4 (codes "refused page: too long") → left ≡ Some [])
+      → OfAnswer words told (λ a. a ≢ refused 4 (codes "refused page: too long") → left ≡ Some [])
 
 -- exactly one list of values solves the page's document
 abbrev pub OneTable : List (List ℕ) → Option (List ℕ) → Type 0

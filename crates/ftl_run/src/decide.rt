@@ -90,7 +90,11 @@ fn lay_out(alloc: Global, bytes: &[u8]) -> Result<Decided, AllocError>
 {
     match read_stack_page(alloc, bytes) {
         Ok(tree) => boxes_of(alloc, &tree),
-        Err(StackFault::NotBuilt) => refusal(alloc, Status::PAGE_REFUSED, b"refused page: form not built"),
+        Err(StackFault::NotBuilt) => refusal(
+            alloc,
+            Status::PAGE_REFUSED,
+            b"refused page: form not built",
+        ),
         Err(StackFault::OutOfMemory) => Err(AllocError),
     }
 }
@@ -105,14 +109,22 @@ fn read_and_lay_out<S: Source>(alloc: Global, source: &mut S) -> Result<Decided,
 {
     match read_all(alloc, source, MAX_PAGE) {
         Ok(bytes) => Ok(lay_out(alloc, &bytes)?),
-        Err(ReadAllFault::TooLong) => Ok(refusal(alloc, Status::PAGE_REFUSED, b"refused page: too long")?),
+        Err(ReadAllFault::TooLong) => Ok(refusal(
+            alloc,
+            Status::PAGE_REFUSED,
+            b"refused page: too long",
+        )?),
         Err(ReadAllFault::ReadFault) => Err(Undecided::ReadFault),
         Err(ReadAllFault::OutOfMemory) => Err(Undecided::OutOfMemory),
     }
 }
 
 /// The answer to the words and to the page that the source has left. Words that are no command leave the source alone.
-pub fn decide<S: Source>(alloc: Global, words: &[String], source: &mut S) -> Result<Decided, Undecided>
+pub fn decide<S: Source>(
+    alloc: Global,
+    words: &[String],
+    source: &mut S,
+) -> Result<Decided, Undecided>
     ensures answer { IfOk result (λ d. IfSome (S.remaining source.old) (λ left. IsAnswer (texts words.now) left (answer_of d))) }
     ensures status { IfOk result (λ d. IsAnswerStatus d.status.0) }
     ensures end { IfOk result (λ d. texts words.now ≡ run_words → answer_of d ≢ refused 4 (codes "refused page: too long")

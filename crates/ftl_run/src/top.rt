@@ -14,7 +14,12 @@ use std::alloc::Global;
 /// For every page, where it is accepted, exactly one table gives each attribute of each node the value
 /// of its rule, and the bytes written are that table's boxes in preorder, with values out of range as
 /// `overflow`; otherwise they are the one refusal line that the definitions name.
-pub fn layout_top<S: Source, K: Sink>(alloc: Global, words: &[String], source: &mut S, sink: &mut K) -> Status
+pub fn layout_top<S: Source, K: Sink>(
+    alloc: Global,
+    words: &[String],
+    source: &mut S,
+    sink: &mut K,
+) -> Status
     // The status is the answer's, or tells a fault or want of memory.
     ensures status { OfAnswer (texts words.now) (S.remaining source.old)
         (λ a. (result.0 ≡ a.status) ⊎ IsTrouble result.0) }

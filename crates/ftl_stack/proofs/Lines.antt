@@ -1,21 +1,21 @@
 -- The line of a node and the line of its area are one.
-use Rattle.std.proofs.Common.{◌≡◌, ℕ, zero, suc, ◌+◌, ◌<◌, ◌||◌, Bool, true, false, cond, eqb, List, [], ◌∷◌, ◌++◌, length, take, drop, get_or, refl, sym, ap, ◌∙◌, subst, arith}
+use Rattle.std.proofs.Common.{◌≡◌, ℕ, ◌+◌, ◌<◌, ◌||◌, Bool, true, false, cond, eqb, List, [], ◌∷◌, ◌++◌, length, take, drop, get_or, refl, sym, ap, ◌∙◌, arith}
 use Rattle.std.specs.Prelude.{codes}
 use Rattle.std.specs.List.{flat_map, list_any}
 use Rattle.std.specs.Fmt.{decimal}
-use Rattle.std.proofs.lemmas.List.{take_more, flat_map_more, at_drop_more, at_drop_all, get_or_default, take_all, get_or_read}
-use Rattle.ftl_model.specs.Values.{Value, overflow}
-use Rattle.ftl_model.specs.Tree.{Forest, below_of, size}
+use Rattle.std.proofs.lemmas.List.{take_more, flat_map_more, at_drop_more, at_drop_all, take_all, get_or_read}
+use Rattle.ftl_model.specs.Values.{overflow}
+use Rattle.ftl_model.specs.Tree.{Forest, size}
 use Rattle.ftl_model.specs.TreeOf.{IsTreeOf}
 use Rattle.ftl_model.specs.Path.{Path, top, class_at, number_of, preorder, node_at}
-use Rattle.ftl_model.specs.Boxes.{Names, node_line, field_text, boxes, is_overflow, shows_overflow, value_text}
-use Rattle.ftl_model.specs.Solves.{Instance, instance_of}
+use Rattle.ftl_model.specs.Boxes.{node_line, field_text, boxes, is_overflow}
+use Rattle.ftl_model.specs.Solves.{instance_of}
 use Rattle.ftl_model.specs.Stack.{stack}
-use Rattle.ftl_model.specs.StackNames.{stack_names, stack_class_name, stack_attribute_name, stack_shown}
+use Rattle.ftl_model.specs.StackNames.{stack_names, stack_class_name, stack_shown}
 use Rattle.ftl_model.proofs.Numbering.{length-preorder, number_of-node_at}
 use Rattle.ftl_tree.proofs.Access.{size-one}
 use Rattle.ftl_stack.specs.declared.area.Area.{Area}
-use Rattle.ftl_stack.specs.TableOf.{area_at, area_value, table_of}
+use Rattle.ftl_stack.specs.TableOf.{area_at, table_of}
 use Rattle.ftl_stack.specs.Text.{shown_value, value_field, area_fields, area_line, area_overflows}
 
 fields_are : (t : Forest) (areas : List Area) (p : Path) → area_fields (class_at t p) (area_at t areas p) ≡ flat_map (field_text stack_names (table_of t areas) p) (stack_shown (class_at t p))
@@ -38,7 +38,6 @@ line_is t areas p =
 
 -- the area that stands at a node's number
 module _ (t : Forest) (areas : List Area) (n : ℕ) (area : Area) (is : IsTreeOf stack t) (within : n < size t) (all : length areas ≡ size t) (found : area ≡ get_or areas n area) where
-
   here : number_of t (node_at t n) ≡ n
   here = number_of-node_at t n (omega (arith, size-one t is, within))
 
@@ -69,7 +68,7 @@ module _ (t : Forest) (areas : List Area) (n : ℕ) (area : Area) (is : IsTreeOf
       let f : Path → Bool = λ p. list_any (λ a. is_overflow (table_of t areas (instance_of p a))) (stack_shown (class_at t p)) in
       at_drop_more (list_any f) (preorder t) n top in_order
       ∙ ap (λ b. b || list_any f (drop (n + 1) (preorder t)))
-          (sym (e ∙ ap (area_overflows (class_at t (node_at t n))) area_is ∙ overflows_are t areas (node_at t n)))
+      (sym (e ∙ ap (area_overflows (class_at t (node_at t n))) area_is ∙ overflows_are t areas (node_at t n)))
 
 -- all lines
 pub lines_all : (t : Forest) (areas : List Area) (n : ℕ) → IsTreeOf stack t → n ≡ size t → flat_map (node_line stack_names t (table_of t areas)) (take n (preorder t)) ≡ boxes stack_names t (table_of t areas)

@@ -1,5 +1,5 @@
 -- Which documents the rows that were read are, and when there is none.
-use Rattle.std.proofs.Common.{◌≡◌, ℕ, ◌+◌, ◌≤◌, ◌&&◌, Bool, true, false, eqb, List, [], ◌∷◌, ◌++◌, length, take, drop, Option, Some, None, refl, sym, ap, ◌∙◌, subst, arith}
+use Rattle.std.proofs.Common.{◌≡◌, ℕ, ◌≤◌, ◌&&◌, Bool, true, false, eqb, List, [], ◌∷◌, ◌++◌, length, take, drop, Option, Some, None, refl, sym, ap, ◌∙◌, subst}
 use lib.Pointwise.{pointwise}
 use Rattle.std.proofs.lemmas.Bool.{eqb-true}
 use Rattle.std.proofs.lemmas.List.{append-nil, append_cancel_left, take-append-drop, drop_at}
@@ -20,7 +20,7 @@ use Rattle.ftl_tree.proofs.ScannerSound.{scanned_scans}
 use Rattle.ftl_tree.proofs.RowShapes.{tree_of-rows_of, are_rows_of}
 use Rattle.ftl_tree.proofs.SpelledRows.{no_rows}
 use Rattle.ftl_tree.proofs.SpelledComplete.{sheet_rows_complete}
-use Rattle.ftl_tree.proofs.SpelledDocument.{DocumentRead, sheet_rows_sound}
+use Rattle.ftl_tree.proofs.SpelledDocument.{sheet_rows_sound}
 use Rattle.ftl_tree.proofs.SpelledSmall.{scans_small}
 use Rattle.ftl_tree.proofs.SpelledTree.{spelled_is_tree}
 use Rattle.ftl_tree.proofs.SpelledOnce.{spells_one}
@@ -51,18 +51,18 @@ document_found bytes text rows is end =
     let read = sheet_rows_sound (scanned bytes) (state text rows) is in
     let whole : (scanned bytes).whole ≡ true = sym read.whole ∙ ap (λ (s : Scanned). s.whole) end in
     let symbols : (scanned bytes).symbols ≡ read.front =
-      read.split ∙ ap (λ (s : Scanned). read.front ++ s.symbols) end ∙ append-nil read.front
+    read.split ∙ ap (λ (s : Scanned). read.front ++ s.symbols) end ∙ append-nil read.front
     in
     record {
       tree = read.t;
       document =
-        record {
-          symbols = read.front;
-          scans = subst (λ (ss : List Symbol). Scans bytes ss) symbols (scanned_scans bytes whole);
-          spells = read.spells;
-          deep = read.deep;
-          large = read.large;
-        };
+          record {
+            symbols = read.front;
+            scans = subst (λ (ss : List Symbol). Scans bytes ss) symbols (scanned_scans bytes whole);
+            spells = read.spells;
+            deep = read.deep;
+            large = read.large;
+          };
       rows_are = read.rows;
     }
 
@@ -74,7 +74,7 @@ document_is_tree bytes t d = spelled_is_tree d.symbols t d.spells (scans_small b
 pub one_document : (bytes : List ℕ) (t u : Forest) → IsDocument bytes t → IsDocument bytes u → t ≡ u
 one_document bytes t u d e =
     let same : d.symbols ≡ e.symbols =
-      ap (λ (s : Scanned). s.symbols) (sym (scans_scanned bytes d.symbols d.scans) ∙ scans_scanned bytes e.symbols e.scans)
+    ap (λ (s : Scanned). s.symbols) (sym (scans_scanned bytes d.symbols d.scans) ∙ scans_scanned bytes e.symbols e.scans)
     in
     spells_one e.symbols t u (subst (λ (ss : List Symbol). SpellsDocument ss t) same d.spells) e.spells
 
@@ -111,7 +111,7 @@ page_found bytes body t short front rest d =
 pub page_document : (bytes body : List ℕ) (t : Forest) → body ≡ drop (length heading) bytes → IsPage bytes t → IsDocument body t
 page_document bytes body t rest p =
     let same : p.body ≡ body =
-      sym (drop_at heading p.body (length heading) refl) ∙ ap (drop (length heading)) (sym p.lines) ∙ sym rest
+    sym (drop_at heading p.body (length heading) refl) ∙ ap (drop (length heading)) (sym p.lines) ∙ sym rest
     in
     subst (λ (b : List ℕ). IsDocument b t) same p.document
 

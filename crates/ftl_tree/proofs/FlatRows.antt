@@ -1,18 +1,15 @@
 -- The rows of a tree are its nodes in preorder.
-use Rattle.std.proofs.Common.{◌≡◌, ℕ, zero, suc, ◌+◌, ◌-◌, ◌<◌, ◌≤◌, Bool, true, false, List, [], ◌∷◌, ◌++◌, ℤ, length, take, drop, get_or, map, refl, sym, ap, ◌∙◌, subst, arith, append_assoc, length-append}
+use Rattle.std.proofs.Common.{◌≡◌, ℕ, suc, ◌+◌, List, ◌∷◌, ◌++◌, ℤ, map, refl, sym, ap, ◌∙◌, subst, arith}
 use Rattle.std.specs.List.{flat_map}
-use Rattle.std.proofs.lemmas.List.{map-append, append-nil, take_at, drop_at, get_or-map}
+use Rattle.std.proofs.lemmas.List.{map-append, append-nil}
 use Rattle.std.proofs.lemmas.Grind.{flat_map-append}
-use Rattle.ftl_model.specs.Tree.{Forest, none, tree, IsTree, class_of, child_of, inputs_of, below_of, size}
-use Rattle.ftl_model.specs.TreeOf.{IsTreeOf, FitBelow}
-use Rattle.ftl_model.specs.Path.{Path, top, down, at, Has, class_at, child_at, kid_at, inputs_at, size_at, number_of, one_more, nodes_below, preorder, node_at}
-use Rattle.ftl_model.specs.Shape.{Shape, shape, shapes, forest_of}
-use Rattle.ftl_model.specs.ShapeLaws.{forest_of-shapes}
+use Rattle.ftl_model.specs.Tree.{Forest, none, tree, class_of, inputs_of, below_of, size}
+use Rattle.ftl_model.specs.TreeOf.{IsTreeOf}
+use Rattle.ftl_model.specs.Path.{Path, top, down, inputs_at, number_of, one_more, nodes_below, preorder}
 use Rattle.ftl_model.specs.Stack.{stack}
-use Rattle.ftl_model.proofs.Numbering.{Left, left_all, left_next, left_below, at-left, number-left, length-preorder}
+use Rattle.ftl_model.proofs.Numbering.{Left, left_all, left_next, left_below, at-left, number-left}
 use Rattle.ftl_tree.specs.declared.rows.Node.{Node}
-use Rattle.ftl_tree.specs.Rows.{RowLists, node_rows, input_rows, rows_of, row_at, parent_number}
-use Rattle.ftl_tree.specs.Flat.{shapes_of, tree_of, input_width, AreRows}
+use Rattle.ftl_tree.specs.Rows.{node_rows, input_rows, row_at}
 
 pub node_rows-left : (t : Forest) (p : Path) (seen : ℕ → ℕ) (f : Forest) (passed : ℕ) → Left t p seen f passed → node_rows (number_of t p) (suc (number_of t p + passed)) seen f ≡ map (row_at t) (nodes_below p seen f)
 node_rows-left t p seen none passed h = refl
@@ -72,4 +69,4 @@ input_rows-preorder t h = go (one_tree t h)
     go one =
         subst (λ (f : Forest). input_rows f ≡ flat_map (inputs_at f) (preorder f)) (sym one.is)
         (let f = tree one.class 0 one.inputs one.below none in
-            ap (λ xs. one.inputs ++ xs) (append-nil (input_rows one.below) ∙ input_rows-left f top (λ c. 0) one.below 0 (left_all f top)))
+        ap (λ xs. one.inputs ++ xs) (append-nil (input_rows one.below) ∙ input_rows-left f top (λ c. 0) one.below 0 (left_all f top)))

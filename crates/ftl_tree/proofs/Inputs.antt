@@ -1,19 +1,18 @@
 -- Where the inputs of a node stand among the inputs of all.
-use Rattle.std.proofs.Common.{◌≡◌, ℕ, zero, suc, ◌+◌, ◌-◌, ◌<◌, ◌≤◌, List, [], ◌∷◌, ◌++◌, ℤ, pos, length, get_or, take, drop, map, sum_by, refl, sym, ap, ◌∙◌, subst, arith, length-append, length-drop, ◌⊎◌, inl, inr}
+use Rattle.std.proofs.Common.{◌≡◌, ℕ, zero, suc, ◌+◌, ◌-◌, ◌<◌, List, [], ◌∷◌, ◌++◌, ℤ, pos, length, get_or, take, drop, map, sum_by, refl, sym, ap, ◌∙◌, subst, arith, length-append, length-drop, ◌⊎◌, inl, inr}
 use Rattle.std.specs.List.{flat_map, AllByRecursion}
-use Rattle.std.proofs.lemmas.List.{drop-drop, drop_at, get_or-drop, get_or_append_left, take-map, length-map}
+use Rattle.std.proofs.lemmas.List.{drop-drop, drop_at, get_or-drop, get_or_append_left, take-map}
 use Rattle.std.proofs.lemmas.List.Sums.{sum_by-cons}
-use Rattle.ftl_model.specs.Tree.{Forest, below_of, size}
+use Rattle.ftl_model.specs.Tree.{Forest, size}
 use Rattle.ftl_model.specs.TreeOf.{IsTreeOf}
 use Rattle.ftl_model.specs.Path.{Path, top, at, Has, class_at, inputs_at, preorder, node_at}
-use Rattle.ftl_model.specs.Values.{Value, number}
+use Rattle.ftl_model.specs.Values.{number}
 use Rattle.ftl_model.specs.Stack.{stack, word, word_iw, word_ih}
-use Rattle.ftl_model.proofs.Each.{each_at}
 use Rattle.ftl_model.proofs.Fits.{fits_at}
 use Rattle.ftl_model.proofs.Numbering.{length-preorder, has-node_at, has-preorder}
 use Rattle.ftl_tree.specs.declared.rows.Node.{Node}
 use Rattle.ftl_tree.specs.declared.tree.Offsets.{Offsets}
-use Rattle.ftl_tree.specs.Rows.{RowLists, rows_of, row_at}
+use Rattle.ftl_tree.specs.Rows.{RowLists, row_at}
 use Rattle.ftl_tree.specs.Flat.{input_width, attribute_width, offsets_from}
 use Rattle.ftl_tree.proofs.FlatRows.{input_rows-preorder}
 use Rattle.ftl_tree.proofs.Access.{Kept, nodes_are, length-nodes, size-one, is_tree}
@@ -64,16 +63,16 @@ pub inputs_stand : (lists : RowLists) (t : Forest) (n : ℕ) → Kept lists t �
 inputs_stand lists t n h k =
     let all = preorder t in
     let before : inputs_before n lists.nodes ≡ sum_by (λ p. length (inputs_at t p)) (take n all) =
-      ap (inputs_before n) (nodes_are lists t h)
-      ∙ ap (sum_by (λ (node : Node). input_width node.class)) (take-map (row_at t) n all)
-      ∙ widths t (take n all) h.is_tree (each-take (Has t) n all (has-preorder t (is_tree t h.is_tree)))
+    ap (inputs_before n) (nodes_are lists t h)
+    ∙ ap (sum_by (λ (node : Node). input_width node.class)) (take-map (row_at t) n all)
+    ∙ widths t (take n all) h.is_tree (each-take (Has t) n all (has-preorder t (is_tree t h.is_tree)))
     in
     record {
       rest = flat_map (inputs_at t) (drop (suc n) all);
       stand =
-        ap (λ m. drop m lists.inputs) before
-        ∙ ap (drop (sum_by (λ p. length (inputs_at t p)) (take n all))) (ap (λ (r : RowLists). r.inputs) h.rows ∙ input_rows-preorder t h.is_tree)
-        ∙ part (inputs_at t) all n top (omega (arith, length-preorder t, size-one t h.is_tree));
+          ap (λ m. drop m lists.inputs) before
+          ∙ ap (drop (sum_by (λ p. length (inputs_at t p)) (take n all))) (ap (λ (r : RowLists). r.inputs) h.rows ∙ input_rows-preorder t h.is_tree)
+          ∙ part (inputs_at t) all n top (omega (arith, length-preorder t, size-one t h.is_tree));
     }
 
 -- the two inputs of a word
@@ -86,18 +85,23 @@ word_input lists t n a place h k is which = go which
   where
     two : length (inputs_at t (node_at t n)) ≡ 2
     two = (fits_at stack t (node_at t n) h.is_tree (has-node_at t n (is_tree t h.is_tree) (omega (arith, size-one t h.is_tree, k)))).class.count ∙ ap (λ c. stack.input_count c) is
+
     inside : (i : ℕ) → i < 2 → get_or lists.inputs (inputs_before n lists.nodes + i) (pos 0) ≡ get_or (inputs_at t (node_at t n)) i (pos 0)
     inside i small = let s = inputs_stand lists t n h k in
         sym (get_or-drop (inputs_before n lists.nodes) lists.inputs i (pos 0))
         ∙ ap (λ xs. get_or xs i (pos 0)) s.stand
         ∙ get_or_append_left (inputs_at t (node_at t n)) s.rest (pos 0) i (omega (arith, two, small))
+
     room : (i : ℕ) → i < 2 → inputs_before n lists.nodes + i < length lists.inputs
     room i small = let s = inputs_stand lists t n h k in
         omega (arith, ap length s.stand, length-drop (inputs_before n lists.nodes) lists.inputs, length-append (inputs_at t (node_at t n)) s.rest, two, small)
+
     given : (i : ℕ) → i < 2 → (a ≡ word_iw) × (i ≡ 0) → WordInput lists t n a (inputs_before n lists.nodes + i)
     given i small w = record { within = room i small; value = ap (λ b. stack.given (class_at t (node_at t n)) b (inputs_at t (node_at t n))) w.0 ∙ ap number (ap (λ j. get_or (inputs_at t (node_at t n)) j (pos 0)) (sym w.1) ∙ sym (inside i small)) }
+
     given_second : (i : ℕ) → i < 2 → (a ≡ word_ih) × (i ≡ 1) → WordInput lists t n a (inputs_before n lists.nodes + i)
     given_second i small w = record { within = room i small; value = ap (λ b. stack.given (class_at t (node_at t n)) b (inputs_at t (node_at t n))) w.0 ∙ ap number (ap (λ j. get_or (inputs_at t (node_at t n)) j (pos 0)) (sym w.1) ∙ sym (inside i small)) }
+
     go : ((a ≡ word_iw) × (place ≡ 0)) ⊎ ((a ≡ word_ih) × (place ≡ 1)) → WordInput lists t n a (inputs_before n lists.nodes + place)
     go (inl w) = given place (omega (arith, w.1)) w
     go (inr w) = given_second place (omega (arith, w.1)) w

@@ -1,5 +1,5 @@
 -- One turn of reading the boxes of a column.
-use Rattle.std.proofs.Common.{◌≡◌, ℕ, zero, suc, ◌+◌, ◌-◌, ◌<◌, Bool, true, false, cond, List, [], ◌∷◌, Option, Some, None, refl, sym, ap, ◌∙◌, subst, arith}
+use Rattle.std.proofs.Common.{◌≡◌, ℕ, zero, suc, ◌+◌, ◌-◌, ◌<◌, true, false, cond, [], Option, Some, None, sym, ap, ◌∙◌, arith}
 use Rattle.ftl_tree.specs.declared.symbol.Symbol.{Symbol}
 use Rattle.ftl_tree.specs.Scanning.{Scanned, with_symbol}
 use Rattle.ftl_tree.specs.Rows.{RowLists}
@@ -18,7 +18,6 @@ unfolding kids_within
 no_turn box turns kid s h = ap (λ m. kids_within box m kid s) h
 
 module _ (box : ℕ → Symbol → State → Option State) (turns kid : ℕ) (old new : Scanned) (rows : RowLists) where
-
   pub closes : (symbol : Symbol) → 0 < turns → old ≡ with_symbol symbol new → is_closing symbol ≡ true → kids_within box turns kid (state old rows) ≡ Some (state new rows)
   closes symbol h taken closing =
       one_turn box turns kid (state old rows) h

@@ -1,9 +1,8 @@
 -- Runs of bytes at the front of a list.
-use Rattle.std.proofs.Common.{◌≡◌, ℕ, zero, suc, ◌+◌, ◌<◌, ◌≤◌, Bool, true, false, cond, List, [], ◌∷◌, ◌++◌, length, take, drop, refl, sym, ap, ◌∙◌, subst, arith}
+use Rattle.std.proofs.Common.{◌≡◌, ℕ, suc, ◌+◌, ◌<◌, Bool, true, false, cond, List, [], ◌∷◌, ◌++◌, length, take, drop, refl, ap, ◌∙◌, arith}
 use Rattle.std.specs.List.{AllByRecursion, prefix_len}
-use Rattle.std.proofs.lemmas.List.{take_at, drop_at}
 use Rattle.ftl_tree.specs.Symbols.{EndsRun, is_blank}
-use Rattle.ftl_tree.specs.Scanning.{unblanked, is_nothing}
+use Rattle.ftl_tree.specs.Scanning.{unblanked}
 
 -- a run ends where the first byte behind it fails
 pub prefix_len-run : (p : ℕ → Bool) (text bytes : List ℕ) → AllByRecursion (λ b. p b ≡ true) text → EndsRun p bytes → prefix_len p (text ++ bytes) ≡ length text

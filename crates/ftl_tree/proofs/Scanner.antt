@@ -1,18 +1,18 @@
 -- The scanner finds exactly the symbols that the bytes are.
-use Rattle.std.proofs.Common.{◌≡◌, ℕ, zero, suc, ◌+◌, ◌<◌, ◌≤◌, ◌&&◌, Bool, true, false, cond, leb, List, [], ◌∷◌, ◌++◌, length, take, drop, Option, Some, None, refl, sym, ap, ◌∙◌, subst, arith, length-append}
+use Rattle.std.proofs.Common.{◌≡◌, ℕ, zero, suc, ◌<◌, ◌≤◌, true, false, cond, leb, List, [], ◌∷◌, ◌++◌, length, Some, refl, sym, ap, ◌∙◌, arith, length-append}
 use Rattle.std.specs.List.{AllByRecursion, prefix_len}
 use Rattle.std.specs.Char.{is_ascii_alphabetic, is_ascii_digit}
 use Rattle.std.specs.Str.Parse.{digits_value}
 use Rattle.std.proofs.lemmas.Bool.Decides.{nat_tests}
-use Rattle.std.proofs.lemmas.List.{take_at, drop_at, take-append-drop}
+use Rattle.std.proofs.lemmas.List.{take_at, drop_at}
 use Rattle.ftl_tree.specs.declared.symbol.Terminal.{Terminal}
 use Rattle.ftl_tree.specs.declared.symbol.Terminal.TheVariants.{Sheet, Column, Word, Body, Kids, Iw, Ih, LeftBrace, RightBrace, LeftBracket, RightBracket, Equals}
 use Rattle.ftl_tree.specs.declared.symbol.Symbol.{Symbol}
 use Rattle.ftl_tree.specs.declared.symbol.Symbol.TheVariants.{Fixed, Number}
 use Rattle.ftl_tree.specs.Symbols.{Scans, nothing, blank, word, mark, numeral, IsNumeral, EndsRun, is_blank, is_mark, text_of}
-use Rattle.ftl_tree.specs.Scanning.{words, marks, written_so, word_at, number_at, mark_at, symbol_at, unblanked, next_symbol, number_of_digits, fixed_before, number_before, Scanned, scanned, scanned_within, scanned_step, is_nothing, with_symbol}
-use Rattle.ftl_tree.proofs.Runs.{prefix_len-run, ends_run, some_pass, unblanked-blank, unblanked-other}
-use Rattle.ftl_tree.proofs.ScanningLemmas.{word_at_some, found_among, passes-take}
+use Rattle.ftl_tree.specs.Scanning.{word_at, number_at, mark_at, symbol_at, unblanked, next_symbol, number_of_digits, Scanned, scanned, scanned_within, scanned_step, is_nothing, with_symbol}
+use Rattle.ftl_tree.proofs.Runs.{prefix_len-run, unblanked-blank, unblanked-other}
+use Rattle.ftl_tree.proofs.ScanningLemmas.{word_at_some}
 
 letter_is_no_blank : (b : ℕ) → is_ascii_alphabetic b ≡ true → is_blank b ≡ false
 letter_is_no_blank b h = grind (arith, nat_tests, h)
@@ -77,6 +77,7 @@ next_number (b ∷ text) bytes n h ends =
         let few : leb (length text) 10 ≡ true = let f = h.few in grind (arith, nat_tests) in
         let small : leb (digits_value 10 text) 2147483647 ≡ true = let v = h.value in let s = h.small in let m : digits_value 10 text ≤ 2147483647 = omega arith in grind (arith, nat_tests) in
         rw (few, small) (ap Some (sym h.value))
+
     taken : (text bytes : List ℕ) (n : ℕ) → prefix_len is_ascii_digit (text ++ bytes) ≡ length text → number_of_digits text ≡ Some n → number_at (text ++ bytes) ≡ Some (Number n, bytes)
     taken text bytes n run is =
         rw (run, take_at text bytes (length text) refl, drop_at text bytes (length text) refl, is) refl

@@ -1,5 +1,5 @@
 -- What the scanner finds are the symbols that the bytes are.
-use Rattle.std.proofs.Common.{◌≡◌, ℕ, zero, suc, ◌+◌, ◌<◌, ◌≤◌, ◌&&◌, Bool, true, false, cond, leb, List, [], ◌∷◌, ◌++◌, length, take, drop, Option, Some, None, unwrap_or, refl, sym, ap, ◌∙◌, subst, arith}
+use Rattle.std.proofs.Common.{◌≡◌, ℕ, zero, suc, ◌<◌, ◌≤◌, ◌&&◌, Bool, true, false, cond, leb, List, [], ◌∷◌, ◌++◌, length, take, drop, Option, Some, None, unwrap_or, refl, sym, ap, ◌∙◌, subst, arith}
 use Rattle.std.specs.List.{AllByRecursion, prefix_len}
 use Rattle.std.specs.Char.{is_ascii_alphabetic, is_ascii_digit}
 use Rattle.std.specs.Str.Parse.{digits_value}
@@ -8,9 +8,9 @@ use Rattle.std.proofs.lemmas.List.{take-append-drop}
 use Rattle.ftl_tree.specs.declared.symbol.Terminal.{Terminal}
 use Rattle.ftl_tree.specs.declared.symbol.Symbol.{Symbol}
 use Rattle.ftl_tree.specs.declared.symbol.Symbol.TheVariants.{Fixed, Number}
-use Rattle.ftl_tree.specs.Symbols.{Scans, nothing, blank, word, mark, numeral, IsNumeral, EndsRun, is_blank, is_mark, text_of}
-use Rattle.ftl_tree.specs.Scanning.{words, marks, written_so, word_at, number_at, mark_at, symbol_at, unblanked, next_symbol, number_of_digits, fixed_before, number_before, Scanned, scanned, scanned_within, scanned_step, is_nothing, with_symbol}
-use Rattle.ftl_tree.proofs.Runs.{prefix_len-run, ends_run, some_pass, unblanked-blank, unblanked-other}
+use Rattle.ftl_tree.specs.Symbols.{Scans, nothing, blank, word, mark, numeral, IsNumeral, is_blank}
+use Rattle.ftl_tree.specs.Scanning.{words, marks, written_so, word_at, number_at, mark_at, symbol_at, unblanked, next_symbol, number_of_digits, fixed_before, number_before, scanned, scanned_within, scanned_step, is_nothing}
+use Rattle.ftl_tree.proofs.Runs.{ends_run, some_pass, unblanked-blank, unblanked-other}
 use Rattle.ftl_tree.proofs.ScanningLemmas.{found_among, passes-take}
 
 -- white space before symbols plays no part
@@ -56,9 +56,9 @@ word_goes bytes after s h =
     let n = prefix_len is_ascii_alphabetic bytes in
     fixed_goes bytes (drop n bytes) after (written_so words (take n bytes)) s
     (λ t found ss scans.
-        let is = found_among false words (take n bytes) t (refl, (refl, (refl, (refl, (refl, (refl, (refl, tt))))))) found in
-        subst (λ (b : List ℕ). Scans b (Fixed t ∷ ss)) (ap (λ x. x ++ drop n bytes) is.1 ∙ take-append-drop n bytes)
-        (word is.0 (ends_run is_ascii_alphabetic bytes) scans))
+    let is = found_among false words (take n bytes) t (refl, (refl, (refl, (refl, (refl, (refl, (refl, tt))))))) found in
+    subst (λ (b : List ℕ). Scans b (Fixed t ∷ ss)) (ap (λ x. x ++ drop n bytes) is.1 ∙ take-append-drop n bytes)
+    (word is.0 (ends_run is_ascii_alphabetic bytes) scans))
     h
 
 mark_goes : (b : ℕ) (rest after : List ℕ) (s : Symbol) → mark_at b rest ≡ Some (s, after) → Goes (b ∷ rest) s after
@@ -66,8 +66,8 @@ unfolding mark_at
 mark_goes b rest after s h =
     fixed_goes (b ∷ rest) rest after (written_so marks (b ∷ [])) s
     (λ t found ss scans.
-        let is = found_among true marks (b ∷ []) t (refl, (refl, (refl, (refl, (refl, tt))))) found in
-        subst (λ (x : List ℕ). Scans (x ++ rest) (Fixed t ∷ ss)) is.1 (mark is.0 scans))
+    let is = found_among true marks (b ∷ []) t (refl, (refl, (refl, (refl, (refl, tt))))) found in
+    subst (λ (x : List ℕ). Scans (x ++ rest) (Fixed t ∷ ss)) is.1 (mark is.0 scans))
     h
 
 -- a run of digits that has a number is its numeral
@@ -89,8 +89,8 @@ number_at_goes b bytes after s digit h =
     let n = prefix_len is_ascii_digit (b ∷ bytes) in
     number_goes (b ∷ bytes) (drop n (b ∷ bytes)) after (number_of_digits (take n (b ∷ bytes))) s
     (λ value found ss scans.
-        subst (λ (x : List ℕ). Scans x (Number value ∷ ss)) (take-append-drop n (b ∷ bytes))
-        (numeral (numeral_of (take n (b ∷ bytes)) value (passes-take is_ascii_digit (b ∷ bytes)) (some_pass is_ascii_digit b bytes digit) found) (ends_run is_ascii_digit (b ∷ bytes)) scans))
+    subst (λ (x : List ℕ). Scans x (Number value ∷ ss)) (take-append-drop n (b ∷ bytes))
+    (numeral (numeral_of (take n (b ∷ bytes)) value (passes-take is_ascii_digit (b ∷ bytes)) (some_pass is_ascii_digit b bytes digit) found) (ends_run is_ascii_digit (b ∷ bytes)) scans))
     h
 
 symbol_goes : (bytes after : List ℕ) (s : Symbol) → symbol_at bytes ≡ Some (s, after) → Goes bytes s after

@@ -1,5 +1,5 @@
 -- One symbol after another: what is scanned of the bytes behind a symbol.
-use Rattle.std.proofs.Common.{◌≡◌, ℕ, zero, suc, ◌+◌, ◌-◌, ◌<◌, ◌≤◌, Bool, true, false, cond, List, [], ◌∷◌, ◌++◌, length, take, drop, Option, Some, None, unwrap_or, refl, sym, ap, ◌∙◌, subst, arith, length-drop}
+use Rattle.std.proofs.Common.{◌≡◌, ℕ, zero, suc, ◌+◌, ◌<◌, ◌≤◌, Bool, true, false, cond, List, [], ◌∷◌, length, take, drop, Option, Some, None, refl, sym, ap, ◌∙◌, arith, length-drop}
 use Rattle.std.specs.List.{prefix_len}
 use Rattle.std.specs.Char.{is_ascii_alphabetic, is_ascii_digit}
 use Rattle.ftl_tree.specs.declared.symbol.Terminal.{Terminal}
@@ -8,7 +8,7 @@ use Rattle.ftl_tree.specs.declared.symbol.Symbol.TheVariants.{Fixed, Number}
 use Rattle.ftl_tree.specs.Symbols.{is_blank}
 use Rattle.ftl_tree.specs.Scanning.{words, marks, written_so, word_at, number_at, mark_at, symbol_at, unblanked, next_symbol, number_of_digits, fixed_before, number_before, Scanned, scanned, scanned_within, scanned_step, is_nothing, with_symbol, no_symbols}
 use Rattle.std.proofs.lemmas.List.{drop_all}
-use Rattle.ftl_tree.proofs.ScannerSound.{Found, same_rest, nothing_left}
+use Rattle.ftl_tree.proofs.ScannerSound.{same_rest, nothing_left}
 
 fixed_rest : (rest after : List ℕ) (found : Option Terminal) (s : Symbol) → fixed_before rest found ≡ Some (s, after) → rest ≡ after
 fixed_rest rest after None s h = absurd (cc)

@@ -1,5 +1,5 @@
 -- A tree of the stack grammar in flat rows: which tree the rows are, and what is kept beside them.
-use Rattle.std.specs.Prelude.{◌≡◌, ℕ, ◌+◌, ◌-◌, ◌≤◌, List, [], ◌∷◌, length, take, drop, ℤ, sum_by, ◌⊎◌}
+use Rattle.std.specs.Prelude.{◌≡◌, ℕ, ◌+◌, ◌-◌, ◌≤◌, List, [], ◌∷◌, length, take, drop, ℤ, ◌⊎◌}
 use Rattle.ftl_model.specs.Tree.{Forest, size}
 use Rattle.ftl_model.specs.TreeOf.{IsTreeOf}
 use Rattle.ftl_model.specs.Path.{Path, class_at}

@@ -1,5 +1,5 @@
 -- The fields of a tree: its rows, and where the instances and the inputs of each node begin.
-use Rattle.std.specs.Prelude.{◌≡◌, ℕ, List, sum_by}
+use Rattle.std.specs.Prelude.{◌≡◌, sum_by}
 use Rattle.ftl_model.specs.Tree.{Forest}
 use Rattle.ftl_tree.specs.Rows.{RowLists}
 use Rattle.ftl_tree.specs.Flat.{AreRows, tree_of, offsets_from, attribute_width}

@@ -1,6 +1,6 @@
 -- Reading the rows of a stack document, symbol by symbol. Each step takes a state to the next, or refuses.
-use Rattle.std.specs.Prelude.{◌≡◌, ◌≢◌, ℕ, zero, suc, ◌+◌, ◌-◌, ◌==◌, Bool, true, false, if◌then◌else◌, List, [], ◌∷◌, ◌++◌, length, slice_set, slice_index_or, Option, Some, None, Result, Ok, Err, ℤ, pos}
-use Rattle.ftl_model.specs.Stack.{sheet, column, word, only_child}
+use Rattle.std.specs.Prelude.{◌≡◌, ◌≢◌, ℕ, zero, suc, ◌+◌, ◌==◌, Bool, false, if◌then◌else◌, List, [], ◌∷◌, ◌++◌, length, Option, Some, None, Result, Ok, Err, pos}
+use Rattle.ftl_model.specs.Stack.{sheet, column, word}
 use Rattle.ftl_tree.specs.declared.symbol.Terminal.{Terminal}
 use Rattle.ftl_tree.specs.declared.symbol.Terminal.TheVariants.{Sheet, Column, Word, Body, Kids, Iw, Ih, LeftBrace, RightBrace, LeftBracket, RightBracket, Equals}
 use Rattle.ftl_tree.specs.declared.symbol.Symbol.{Symbol}
@@ -28,7 +28,6 @@ ReadsNumber (Ok n) outcome new = outcome ≡ Some (n, new)
 ReadsNumber (Err e) outcome new = e ≢ OutOfMemory → outcome ≡ None
 
 infixl 10 ◌>>=◌
-
 abbrev pub ◌>>=◌ : {A B : Type 0} → Option A → (A → Option B) → Option B
 None >>= f = None
 (Some a) >>= f = f a

@@ -8,6 +8,8 @@ mod reader;
 mod rows;
 mod symbol;
 mod symbols;
+#[cfg(test)]
+mod tests;
 mod tree;
 
 pub use fault::StackFault;

@@ -9,7 +9,9 @@ use crate::symbols::Symbols;
 
 /// The classes of the stack grammar.
 pub(crate) const SHEET: u32 = 0;
+
 pub(crate) const COLUMN: u32 = 1;
+
 pub(crate) const WORD: u32 = 2;
 
 /// The most marks `{` that may be open.
@@ -144,7 +146,13 @@ impl<'a> Reader<'a> {
     /// Reads a box behind its name, where so many marks `{` may still be opened.
     #[cycle(boxes)]
     #[tactic(auto, unfolding(crate::specs::Reading::box_rows))]
-    fn read_box(&mut self, first: Symbol, parent: u32, kid: u32, depth: u32) -> Result<(), StackFault>
+    fn read_box(
+        &mut self,
+        first: Symbol,
+        parent: u32,
+        kid: u32,
+        depth: u32,
+    ) -> Result<(), StackFault>
         ensures grows { OnOk result (length self.old.rows.nodes ≤ length self.new.rows.nodes) }
         ensures reads { Reads result (reading.box_rows depth parent kid first (state self.old.symbols self.old.rows)) (state self.new.symbols self.new.rows) }
     {

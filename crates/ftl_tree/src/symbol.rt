@@ -62,7 +62,10 @@ fn digits(bytes: &[u8]) -> usize
     ensures run { result ≡ prefix_len is_ascii_digit bytes.now }
     ensures within { result ≤ length bytes.now }
 {
-    bytes.iter().take_while(|byte| byte.is_ascii_digit()).count()
+    bytes
+        .iter()
+        .take_while(|byte| byte.is_ascii_digit())
+        .count()
 }
 
 fn word(text: &[u8]) -> Option<Terminal>

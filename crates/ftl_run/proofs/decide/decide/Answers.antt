@@ -8,4 +8,4 @@ pub returns-in_ok-refusal-clause-answer : goal.returns-in_ok-refusal-clause-answ
 returns-in_ok-refusal-clause-answer g c =
     if_told_any (g.S.Source.remaining c.args.source.now)
     (λ left. subst (λ (a : Answer). IsAnswer (texts c.args.words.now) left a) (sym c.in_ok-refusal.ensures)
-        (bad_words (λ is. let yes_is = c.is_run.ensures.1 is in let other = c.if-is_run.false in cc)))
+    (bad_words (λ is. let yes_is = c.is_run.ensures.1 is in let other = c.if-is_run.false in cc)))

@@ -32,8 +32,8 @@ returns-in-Ok-clause-faults g c =
     record {
       write = λ _. c.in-Err.ensures.cause;
       front =
-        λ _. of_known (texts c.args.words.now) (g.S.Source.remaining c.args.source.now) (answer_of c.in-Ok.decided) _ c.in-Ok.ensures.answer
-            (subst (λ (text : List ℕ). AppendsFront (g.K.Sink.written c.args.sink.now) (g.K.Sink.written c.write_whole.new.sink) text) c.deref.ensures.value c.in-Err.ensures.front);
+          λ _. of_known (texts c.args.words.now) (g.S.Source.remaining c.args.source.now) (answer_of c.in-Ok.decided) _ c.in-Ok.ensures.answer
+          (subst (λ (text : List ℕ). AppendsFront (g.K.Sink.written c.args.sink.now) (g.K.Sink.written c.write_whole.new.sink) text) c.deref.ensures.value c.in-Err.ensures.front);
       read = λ e. absurd (omega (arith, e));
       nothing = λ e. absurd (omega (arith, e));
     }

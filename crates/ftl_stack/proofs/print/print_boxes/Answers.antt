@@ -1,4 +1,4 @@
-use Rattle.std.proofs.Common.{◌≡◌, ◌++◌, ◌∙◌, ap, sym, arith}
+use Rattle.std.proofs.Common.{◌++◌, ◌∙◌, ap, arith}
 use Rattle.ftl_stack.specs.Text.{area_line}
 use Rattle.ftl_stack.proofs.Lines.{lines_more, lines_all}
 use Rattle.ftl_stack.proofs.print.print_boxes.Goals as goal

@@ -1,5 +1,5 @@
 -- The reader starts with all symbols and no rows.
-use Rattle.std.proofs.Common.{◌≡◌, ◌∙◌, None, Some}
+use Rattle.std.proofs.Common.{◌∙◌, None, Some}
 use Rattle.std.proofs.lemmas.Result.{err_from_is_err_and}
 use Rattle.ftl_tree.specs.Reading.{state}
 use Rattle.ftl_tree.proofs.Documents.{from_start, no_document, no_document_with_more, document_found}
@@ -10,8 +10,8 @@ returns-in_err-sheet c =
     let p = err_from_is_err_and c.from_residual.result c.from_residual.ensures.1 in
     rw (p.1)
     (λ other. no_document c.args.document.now
-        (from_start c.args.document.now c.new.result c.new-2.result None c.new.ensures c.new-2.ensures
-            (c.in_err-sheet.ensures (λ same. other (p.2 ∙ same)))))
+    (from_start c.args.document.now c.new.result c.new-2.result None c.new.ensures c.new-2.ensures
+    (c.in_err-sheet.ensures (λ same. other (p.2 ∙ same)))))
 
 pub returns-then-not-is_finished : goal.returns-then-not-is_finished
 returns-then-not-is_finished c other =

@@ -1,4 +1,4 @@
-use Rattle.std.proofs.Common.{◌≡◌, ◌∙◌, sym, arith, length, take}
+use Rattle.std.proofs.Common.{◌≡◌, arith, length, take}
 use Rattle.std.proofs.lemmas.Result.{IfOk-weaker}
 use Rattle.ftl_model.specs.Tree.{Forest}
 use Rattle.ftl_tree.specs.Document.{IsDocument}
@@ -16,7 +16,7 @@ pub returns-clause-one : goal.returns-clause-one
 returns-clause-one c =
     IfOk-weaker c.read_document.result (λ t. IsDocument c.in-Some.document.now t) (λ t. (other : Forest) → IsPage c.args.bytes.now other → other ≡ t)
     (λ t d other p. one_page c.args.bytes.now other t p
-        (page_found c.args.bytes.now c.in-Some.document.now t (omega arith) (pointwise-true (take (length heading) c.args.bytes.now) heading c.in-Some.ensures.cases.0) c.in-Some.ensures.cases.1 d))
+    (page_found c.args.bytes.now c.in-Some.document.now t (omega arith) (pointwise-true (take (length heading) c.args.bytes.now) heading c.in-Some.ensures.cases.0) c.in-Some.ensures.cases.1 d))
     c.read_document.ensures.found
 
 pub returns-clause-not_built : goal.returns-clause-not_built

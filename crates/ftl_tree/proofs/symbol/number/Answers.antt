@@ -1,7 +1,6 @@
 -- The digits so far write less than 10 ^ 10.
-use Rattle.std.proofs.Common.{◌≡◌, ◌+◌, ◌*◌, ◌-◌, ◌<◌, ◌^◌, take, get_or, arith, ap, ◌∙◌, sym}
-use Rattle.std.specs.Str.Parse.{digits_value}
-use Rattle.ftl_tree.proofs.Digits.{value_bound, value_more, digit_of}
+use Rattle.std.proofs.Common.{◌+◌, ◌*◌, ◌-◌, get_or, arith, ap, ◌∙◌, sym}
+use Rattle.ftl_tree.proofs.Digits.{value_bound, value_more}
 use Rattle.ftl_tree.proofs.symbol.number.Goals as goal
 
 pub overflow_mul-value : goal.overflow_mul-value

@@ -1,4 +1,4 @@
-use Rattle.std.proofs.Common.{◌≡◌, ◌≤◌, ◌*◌, ◌++◌, drop, length}
+use Rattle.std.proofs.Common.{◌≡◌, ◌≤◌, ◌*◌, ◌++◌, drop}
 use Rattle.ftl_tree.specs.Flat.{offsets_from}
 use Rattle.ftl_tree.proofs.tree.node_offsets.Given as goal
 

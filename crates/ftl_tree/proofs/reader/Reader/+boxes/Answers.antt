@@ -1,7 +1,7 @@
 -- Each turn reads what the turns that are left read.
-use Rattle.std.proofs.Common.{◌≡◌, ◌+◌, ◌-◌, ◌<◌, length, None, sym, ◌∙◌, ap, arith, refl}
+use Rattle.std.proofs.Common.{◌≡◌, ◌+◌, ◌-◌, sym, ◌∙◌, ap, arith}
 use Rattle.std.proofs.lemmas.Result.{err_from_is_err_and}
-use Rattle.ftl_tree.specs.Reading.{state, kids_within, box_rows, Reads}
+use Rattle.ftl_tree.specs.Reading.{state, kids_within, box_rows}
 use Rattle.ftl_tree.proofs.KidsSteps.{closes, goes_on, is_refused, is_cut, no_turn}
 use Rattle.ftl_tree.proofs.reader.Reader.+boxes.Goals as goal
 
@@ -20,18 +20,18 @@ kids-returns-in_err-read_box-clause-reads t c =
     let p = err_from_is_err_and c.from_residual.result c.from_residual.ensures.1 in
     rw (p.1)
     (λ other.
-        sym c.loop-kid.invariant.reads
-        ∙ is_refused (box_rows c.args.depth c.args.parent) (1048577 - c.loop-kid.kid) c.loop-kid.kid c.loop-kid.self.symbols c.next.new.self c.loop-kid.self.rows c.in-Some.symbol (omega arith) c.in-Some.ensures.symbol (sym c.is_closing.ensures ∙ c.if-is_closing.false)
-            (c.in_err-read_box.ensures.reads (λ same. other (p.2 ∙ same))))
+    sym c.loop-kid.invariant.reads
+    ∙ is_refused (box_rows c.args.depth c.args.parent) (1048577 - c.loop-kid.kid) c.loop-kid.kid c.loop-kid.self.symbols c.next.new.self c.loop-kid.self.rows c.in-Some.symbol (omega arith) c.in-Some.ensures.symbol (sym c.is_closing.ensures ∙ c.if-is_closing.false)
+    (c.in_err-read_box.ensures.reads (λ same. other (p.2 ∙ same))))
 
 pub kids-loop-kid-preserved : goal.kids-loop-kid-preserved
 kids-loop-kid-preserved t c =
     let turns : 1048577 - (c.loop-kid.kid + 1) ≡ 1048577 - c.loop-kid.kid - 1 = omega arith in
     record {
       reads =
-        ap (λ n. kids_within (box_rows c.args.depth c.args.parent) n (c.loop-kid.kid + 1) (state c.read_box.new.self.symbols c.read_box.new.self.rows)) turns
-        ∙ sym (goes_on (box_rows c.args.depth c.args.parent) (1048577 - c.loop-kid.kid) c.loop-kid.kid c.loop-kid.self.symbols c.next.new.self c.loop-kid.self.rows c.in-Some.symbol (state c.read_box.new.self.symbols c.read_box.new.self.rows) (omega arith) c.in-Some.ensures.symbol (sym c.is_closing.ensures ∙ c.if-is_closing.false) c.in_ok-read_box.ensures.reads)
-        ∙ c.loop-kid.invariant.reads;
+          ap (λ n. kids_within (box_rows c.args.depth c.args.parent) n (c.loop-kid.kid + 1) (state c.read_box.new.self.symbols c.read_box.new.self.rows)) turns
+          ∙ sym (goes_on (box_rows c.args.depth c.args.parent) (1048577 - c.loop-kid.kid) c.loop-kid.kid c.loop-kid.self.symbols c.next.new.self c.loop-kid.self.rows c.in-Some.symbol (state c.read_box.new.self.symbols c.read_box.new.self.rows) (omega arith) c.in-Some.ensures.symbol (sym c.is_closing.ensures ∙ c.if-is_closing.false) c.in_ok-read_box.ensures.reads)
+          ∙ c.loop-kid.invariant.reads;
       grows = omega (arith, c.loop-kid.invariant.grows, c.in_ok-read_box.ensures.grows);
     }
 

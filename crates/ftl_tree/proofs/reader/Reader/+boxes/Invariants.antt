@@ -1,6 +1,6 @@
 -- A column's boxes may open one mark fewer than the column, and each step from a column to its boxes falls too.
 use Rattle.std.proofs.Common.{◌+◌, ◌*◌, ◌-◌, ◌≡◌, ◌≤◌, length}
-use Rattle.ftl_tree.specs.Reading.{State, state, kids_within, box_rows}
+use Rattle.ftl_tree.specs.Reading.{state, kids_within, box_rows}
 use Rattle.ftl_tree.proofs.reader.Reader.+boxes.Given as goal
 
 abbrev pub decreases-column_rest : goal.decreases-column_rest
@@ -17,6 +17,6 @@ abbrev pub invariant-kids-loop-kid : goal.invariant-kids-loop-kid
 invariant-kids-loop-kid l =
     record {
       reads : kids_within (box_rows l.depth l.parent) (1048577 - l.kid) l.kid (state l.self.symbols l.self.rows)
-        ≡ kids_within (box_rows l.depth l.parent) 1048577 0 (state l.fn.self.symbols l.fn.self.rows);
+          ≡ kids_within (box_rows l.depth l.parent) 1048577 0 (state l.fn.self.symbols l.fn.self.rows);
       grows : length l.fn.self.rows.nodes ≤ length l.self.rows.nodes;
     }

@@ -1,4 +1,4 @@
-use Rattle.std.proofs.Common.{◌≡◌, Bool, true, false, eqb, sym, ap, ◌∙◌, refl, length}
+use Rattle.std.proofs.Common.{◌≡◌, Bool, true, false, eqb, sym, ◌∙◌, refl, length}
 use Rattle.std.specs.Bool.{OnTrue, OnFalse}
 use Rattle.std.proofs.lemmas.Bool.{eqb-true, eq-eqb}
 use Rattle.ftl_tree.specs.Scanning.{no_symbols}

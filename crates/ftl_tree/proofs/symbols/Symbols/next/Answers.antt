@@ -1,4 +1,4 @@
-use Rattle.std.proofs.Common.{◌≡◌, sym, ap, ◌∙◌, refl}
+use Rattle.std.proofs.Common.{sym, ap, ◌∙◌, refl}
 use Rattle.ftl_tree.specs.Scanning.{Scanned}
 use Rattle.ftl_tree.proofs.ScannerSteps.{scanned_some, scanned_none}
 use Rattle.ftl_tree.proofs.symbols.Symbols.next.Goals as goal

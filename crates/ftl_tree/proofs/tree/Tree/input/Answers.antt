@@ -1,11 +1,11 @@
-use Rattle.std.proofs.Common.{◌≡◌, ◌+◌, ◌-◌, ◌<◌, length, get_or, pos, arith, rules, sym, ap, ◌∙◌, SFits, w32}
+use Rattle.std.proofs.Common.{◌+◌, ◌-◌, length, pos, arith, rules, sym, ap, ◌∙◌, SFits, w32}
 use Rattle.std.proofs.lemmas.Int.{ints}
 use Rattle.std.proofs.lemmas.List.{get_or_default}
 use Rattle.ftl_model.specs.Values.{number}
 use Rattle.ftl_tree.specs.declared.tree.Offsets.{Offsets}
 use Rattle.ftl_tree.specs.FlatTree.{rows_inside}
 use Rattle.ftl_tree.proofs.Access.{kept, length-nodes}
-use Rattle.ftl_tree.proofs.Inputs.{WordInput, input_at, length-offsets_from}
+use Rattle.ftl_tree.proofs.Inputs.{input_at, length-offsets_from}
 use Rattle.ftl_tree.proofs.tree.Tree.input.Goals as goal
 
 pub index-offsets-requires : goal.index-offsets-requires
@@ -29,4 +29,4 @@ returns c =
     let read = c.index.ensures in
     let from = c.from.ensures in
     w.value ∙ ap number (get_or_default lists.inputs (c.index-offsets.result.now.input + (c.args.attr - 5)) (pos 0) c.index.result.now w.within
-        ∙ sym read ∙ (let fits : SFits w32 c.index.result.now = search rules in omega (arith, ints, from)))
+    ∙ sym read ∙ (let fits : SFits w32 c.index.result.now = search rules in omega (arith, ints, from)))

@@ -1,4 +1,4 @@
-use Rattle.std.proofs.Common.{arith, ◌∙◌}
+use Rattle.std.proofs.Common.{arith}
 use Rattle.ftl_tree.specs.FlatTree.{rows_inside}
 use Rattle.ftl_tree.proofs.Access.{kept, length-nodes}
 use Rattle.ftl_tree.proofs.tree.Tree.node_count.Goals as goal

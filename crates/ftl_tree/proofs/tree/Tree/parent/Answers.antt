@@ -1,4 +1,4 @@
-use Rattle.std.proofs.Common.{◌≡◌, ap, ◌∙◌, Some}
+use Rattle.std.proofs.Common.{ap, ◌∙◌, Some}
 use Rattle.ftl_tree.specs.declared.rows.Node.{Node}
 use Rattle.ftl_tree.proofs.Access.{parent_is}
 use Rattle.ftl_tree.proofs.tree.Tree.parent.Goals as goal

@@ -1,0 +1,69 @@
+#!/usr/bin/env python3
+"""Lays out columns of words, flat and nested, of growing size, and prints nodes per second, peak memory
+and the growth from size to size.
+
+usage: bench/columns.py [PROGRAM]     PROGRAM is crates/ftl_layout/out/ftl_layout if left out
+"""
+import os
+import resource
+import subprocess
+import sys
+import tempfile
+import time
+
+TOP = os.path.dirname(os.path.dirname(os.path.abspath(__file__)))
+HEADING = "%page 1\n%grammar stack\n%schedule auto\n%document\n"
+SIZES = [10_000, 100_000, 1_000_000]
+
+
+def word(i):
+    return f"Word {{ iw = {10 + i % 40} ih = {8 + i % 9} }}"
+
+
+def flat(words):
+    """One column of so many words."""
+    body = "\n".join(word(i) for i in range(words))
+    return f"{HEADING}Sheet {{ body = Column {{ kids = [\n{body}\n] }} }}\n"
+
+
+def nested(nodes):
+    """A column of columns of eight words each, with so many nodes below it."""
+    group = "Column {{ kids = [ {} ] }}"
+    body = "\n".join(group.format(" ".join(word(8 * j + i) for i in range(8))) for j in range(nodes // 9))
+    return f"{HEADING}Sheet {{ body = Column {{ kids = [\n{body}\n] }} }}\n"
+
+
+def run(program, page):
+    """Seconds and peak memory in bytes of one run, and the lines that it wrote."""
+    with tempfile.TemporaryFile() as source, tempfile.TemporaryFile() as sink:
+        source.write(page.encode())
+        source.seek(0)
+        start = time.monotonic()
+        child = subprocess.Popen([program, "run"], stdin=source, stdout=sink)
+        _, status, usage = os.wait4(child.pid, 0)
+        seconds = time.monotonic() - start
+        child.returncode = os.waitstatus_to_exitcode(status)
+        if child.returncode != 0:
+            sys.exit(f"the program ended with {child.returncode}")
+        sink.seek(0)
+        lines = sink.read().count(b"\n")
+    return seconds, usage.ru_maxrss * 1024, lines
+
+
+def main():
+    program = sys.argv[1] if len(sys.argv) > 1 else os.path.join(TOP, "crates/ftl_layout/out/ftl_layout")
+    if not os.path.exists(program):
+        sys.exit(f"{program} is not built: run ./layout once")
+    print(f"{'document':8} {'nodes':>9} {'seconds':>9} {'nodes/s':>12} {'peak MiB':>9} {'bytes/byte':>10} {'growth':>7}")
+    for name, make in (("flat", flat), ("nested", nested)):
+        before = None
+        for size in SIZES:
+            page = make(size)
+            seconds, peak, nodes = min(run(program, page) for _ in range(3))
+            growth = "" if before is None else f"{seconds / before[0] / (nodes / before[1]):7.2f}"
+            print(f"{name:8} {nodes:9} {seconds:9.3f} {nodes / seconds:12.0f} {peak / 2**20:9.1f} {peak / len(page):10.2f} {growth:>7}")
+            before = (seconds, nodes)
+
+
+if __name__ == "__main__":
+    main()
