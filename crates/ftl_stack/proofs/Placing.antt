@@ -118,34 +118,34 @@ placing_more t old new n k kid a x y at count so_far this read x_is y_is =
 pub placing_all : (t : Forest) (old new : List Area) (n k kid : ℕ) → Node t n → Placing t old new n k kid → k ≡ kids_at t (node_at t n) 0 → KidsPlaced t new (node_at t n)
 placing_all t old new n k kid at h all j has = h.placed j (omega (arith, all, kid_is_counted t n j at has))
 
--- the kids of a column so far stand one below the other, and the next one belongs at x and y
-pub record Stacked (t : Forest) (old new : List Area) (n kid : ℕ) (x y : Value) : Type 0 where
+-- the kids of a column so far stand one below the other, the column stays, and the next kid belongs at y
+pub record Stacked (t : Forest) (old new : List Area) (n kid : ℕ) (y : Value) : Type 0 where
   pub k : ℕ
   pub placing : Placing t old new n k kid
-  pub left : x ≡ (area_at t new (node_at t n)).x
+  pub own : area_at t new (node_at t n) ≡ get_or old n no_area
   pub below : y ≡ kids_y_value k (λ o. table_of t new (seen_from (node_at t n) o))
 
-pub stacked_none : (t : Forest) (old : List Area) (n : ℕ) (x y : Value) → Node t n → x ≡ (get_or old n no_area).x → y ≡ (get_or old n no_area).y → Stacked t old old n (n + 1) x y
-stacked_none t old n x y at x_is y_is =
+pub stacked_none : (t : Forest) (old : List Area) (n : ℕ) (y : Value) → Node t n → y ≡ (get_or old n no_area).y → Stacked t old old n (n + 1) y
+stacked_none t old n y at y_is =
     let own = area_at-number t old (node_at t n) n at.number in
     record {
       k = 0;
       placing = placing_none t old n at;
-      left = x_is ∙ sym (ap (λ (b : Area). b.x) own);
+      own = own;
       below = y_is ∙ sym (ap (λ (b : Area). b.y) own);
     }
 
-pub stacked_more : (t : Forest) (old new : List Area) (n kid step : ℕ) (a : Area) (x y y' : Value) → Node t n → length new ≡ size t → class_at t (node_at t n) ≡ column → (h : Stacked t old new n kid x y) → Kid t n h.k kid → a ≡ get_or new kid no_area → step ≡ size_at t (node_at t kid) → y' ≡ sum_of y a.h → Stacked t old (set new kid (moved x y a)) n (kid + step) x y'
-stacked_more t old new n kid step a x y y' at count class h this read far y'_is =
+pub stacked_more : (t : Forest) (old new : List Area) (n kid step : ℕ) (a : Area) (x y y' : Value) → Node t n → length new ≡ size t → class_at t (node_at t n) ≡ column → (h : Stacked t old new n kid y) → Kid t n h.k kid → a ≡ get_or new kid no_area → x ≡ (get_or old n no_area).x → step ≡ size_at t (node_at t kid) → y' ≡ sum_of y a.h → Stacked t old (set new kid (moved x y a)) n (kid + step) y'
+stacked_more t old new n kid step a x y y' at count class h this read x_is far y'_is =
     let p = node_at t n in
-    let x_by : x ≡ kid_x_by t new p h.k = h.left ∙ sym (ap (λ c. (stack.child_rule c 0 box_x).value (kids_at t p) h.k (λ o. table_of t new (seen_from p o))) class) in
+    let x_by : x ≡ kid_x_by t new p h.k = x_is ∙ sym (ap (λ (b : Area). b.x) h.own) ∙ sym (ap (λ c. (stack.child_rule c 0 box_x).value (kids_at t p) h.k (λ o. table_of t new (seen_from p o))) class) in
     let y_by : y ≡ kid_y_by t new p h.k = h.below ∙ sym (ap (λ c. (stack.child_rule c 0 box_y).value (kids_at t p) h.k (λ o. table_of t new (seen_from p o))) class) in
     let here : area_at t (set new kid (moved x y a)) (down 0 h.k p) ≡ moved x y a = area_at-set_same t new (down 0 h.k p) kid (moved x y a) this.number (omega (arith, count, this.within)) in
     let own : area_at t (set new kid (moved x y a)) p ≡ area_at t new p = area_at-set_other t new p kid (moved x y a) (λ e. absurd (omega (arith, e, at.number, this.later))) in
     record {
       k = suc h.k;
       placing = subst (λ (m : ℕ). Placing t old (set new kid (moved x y a)) n (suc h.k) (kid + m)) (sym far) (placing_more t old new n h.k kid a x y at count h.placing this read x_by y_by);
-      left = h.left ∙ sym (ap (λ (b : Area). b.x) own);
+      own = own ∙ h.own;
       below = y'_is ∙ sym (ap (λ (b : Area). sum_of b.y b.h) here);
     }
 

@@ -46,7 +46,7 @@ loop-kid-preserved c =
     let kid = kid_here t c.args.node c.loop-kid.invariant.k c.loop-kid.kid at c.loop-kid.invariant.passed less in
     let area = c.index-areas-kid.result in
     let read = get_or_read c.args.areas.now c.loop-kid.kid area (omega (arith, c.requires.areas.count, kid.within)) c.index-areas-kid.is no_area in
-    folded_more t c.args.areas.now c.args.node c.loop-kid.kid c.subtree_size-kid.result c.loop-kid.w c.loop-kid.h c.greatest-w.result c.add-h.result area at c.loop-kid.invariant less read c.subtree_size-kid.ensures c.greatest-w.ensures c.add-h.ensures
+    folded_more t c.args.areas.now c.args.node c.loop-kid.kid c.subtree_size-kid.result c.loop-kid.w c.loop-kid.h _ _ area at c.loop-kid.invariant less read c.subtree_size-kid.ensures (cc) (cc)
 
 pub returns-clause-w : goal.returns-clause-w
 returns-clause-w c =

@@ -18,7 +18,7 @@ loop-kid-init c =
     let at = node c.args.tree.now c.args.node c.requires.areas.is_tree c.requires.node in
     let own = c.index-areas-node.result in
     let read = get_or_read c.args.areas.now c.args.node own (omega (arith, c.requires.areas.count, c.requires.node)) c.index-areas-node.is no_area in
-    stacked_none c.args.tree.now c.args.areas.now c.args.node own.x own.y at (ap (λ (a : Area). a.x) read) (ap (λ (a : Area). a.y) read)
+    stacked_none c.args.tree.now c.args.areas.now c.args.node own.y at (ap (λ (a : Area). a.y) read)
 
 pub bounds-areas-kid : goal.bounds-areas-kid
 bounds-areas-kid c =
@@ -58,7 +58,9 @@ loop-kid-preserved c =
     let count : length c.loop-kid.areas ≡ length c.args.areas.now = c.loop-kid.auto.areas in
     let area = c.index-areas-kid.result in
     let read = get_or_read c.loop-kid.areas c.loop-kid.kid area (omega (arith, c.requires.areas.count, count, kid.within)) c.index-areas-kid.is no_area in
-    stacked_more t c.args.areas.now c.loop-kid.areas c.args.node c.loop-kid.kid c.subtree_size-kid.result area c.index-areas-node.result.x c.loop-kid.y c.add-y.result at (count ∙ c.requires.areas.count) c.requires.column c.loop-kid.invariant kid read c.subtree_size-kid.ensures c.add-y.ensures
+    let own = get_or_read c.args.areas.now c.args.node c.index-areas-node.result (omega (arith, c.requires.areas.count, c.requires.node)) c.index-areas-node.is no_area in
+    stacked_more t c.args.areas.now c.loop-kid.areas c.args.node c.loop-kid.kid c.subtree_size-kid.result area _ c.loop-kid.y _ at (count ∙ c.requires.areas.count) c.requires.column c.loop-kid.invariant kid read
+    (ap (λ (a : Area). a.x) own) c.subtree_size-kid.ensures (cc)
 
 pub returns-clause-placed : goal.returns-clause-placed
 returns-clause-placed c =
