@@ -64,36 +64,46 @@ abbrev Holds : Forest → List Area → Path → ℕ → Type 0
 Holds t areas p a =
     table_of t areas (instance_of p a) ≡ equation_value stack t (table_of t areas) (stack.sort a) p a
 
-sheet_holds : (t : Forest) (areas : List Area) (p : Path) → IsSized t areas p → class_at t p ≡ sheet → Holds t areas p page_h
+sheet_holds : (t : Forest) (areas : List Area) (p : Path) → IsSized t areas p → class_at t p ≡ sheet
+    → Holds t areas p page_h
 sheet_holds t areas p sized class =
     sized.height
     ∙ ap (λ c. rule_value t (table_of t areas) (stack.self_rule c box_h) p 0) class
     ∙ sym (ap (λ c. rule_value t (table_of t areas) (stack.self_rule c page_h) p 0) class)
 
-x_holds : (t : Forest) (areas : List Area) (p : Path) → IsTreeOf stack t → AllPlaced t areas → Has t p → class_at t p ≢ sheet → Holds t areas p box_x
+x_holds : (t : Forest) (areas : List Area) (p : Path) → IsTreeOf stack t → AllPlaced t areas → Has t p
+    → class_at t p ≢ sheet → Holds t areas p box_x
 x_holds t areas top h placed has below = absurd (below (root_class t h))
 x_holds t areas (down c k q) h placed has below =
     let first : 0 ≡ c = sym (first_child (class_at t q) c (kid_stands stack t c k q h has).declared) in
     subst (λ (d : ℕ). Holds t areas (down d k q) box_x) first
     (placed q (has_parent t c k q has) k (subst (λ (d : ℕ). Has t (down d k q)) (sym first) has)).x
 
-y_holds : (t : Forest) (areas : List Area) (p : Path) → IsTreeOf stack t → AllPlaced t areas → Has t p → class_at t p ≢ sheet → Holds t areas p box_y
+y_holds : (t : Forest) (areas : List Area) (p : Path) → IsTreeOf stack t → AllPlaced t areas → Has t p
+    → class_at t p ≢ sheet → Holds t areas p box_y
 y_holds t areas top h placed has below = absurd (below (root_class t h))
 y_holds t areas (down c k q) h placed has below =
     let first : 0 ≡ c = sym (first_child (class_at t q) c (kid_stands stack t c k q h has).declared) in
     subst (λ (d : ℕ). Holds t areas (down d k q) box_y) first
     (placed q (has_parent t c k q has) k (subst (λ (d : ℕ). Has t (down d k q)) (sym first) has)).y
 
-holds : (t : Forest) (areas : List Area) (p : Path) (a : ℕ) → IsTreeOf stack t → AllSized t areas → AllPlaced t areas → Has t p → HasAttribute (class_at t p) a → Holds t areas p a
-holds t areas p a h sized placed has (of_page class e) = subst (λ (b : ℕ). Holds t areas p b) (sym e) (sheet_holds t areas p (sized p has) class)
-holds t areas p a h sized placed has (has_x below e) = subst (λ (b : ℕ). Holds t areas p b) (sym e) (x_holds t areas p h placed has below)
-holds t areas p a h sized placed has (has_y below e) = subst (λ (b : ℕ). Holds t areas p b) (sym e) (y_holds t areas p h placed has below)
-holds t areas p a h sized placed has (has_w below e) = subst (λ (b : ℕ). Holds t areas p b) (sym e) ((sized p has).width below)
-holds t areas p a h sized placed has (has_h below e) = subst (λ (b : ℕ). Holds t areas p b) (sym e) (sized p has).height
+holds : (t : Forest) (areas : List Area) (p : Path) (a : ℕ) → IsTreeOf stack t → AllSized t areas
+    → AllPlaced t areas → Has t p → HasAttribute (class_at t p) a → Holds t areas p a
+holds t areas p a h sized placed has (of_page class e) = subst (λ (b : ℕ). Holds t areas p b) (sym e)
+    (sheet_holds t areas p (sized p has) class)
+holds t areas p a h sized placed has (has_x below e) = subst (λ (b : ℕ). Holds t areas p b) (sym e)
+    (x_holds t areas p h placed has below)
+holds t areas p a h sized placed has (has_y below e) = subst (λ (b : ℕ). Holds t areas p b) (sym e)
+    (y_holds t areas p h placed has below)
+holds t areas p a h sized placed has (has_w below e) = subst (λ (b : ℕ). Holds t areas p b) (sym e)
+    ((sized p has).width below)
+holds t areas p a h sized placed has (has_h below e) = subst (λ (b : ℕ). Holds t areas p b) (sym e)
+    (sized p has).height
 holds t areas p a h sized placed has (has_iw e) = subst (λ (b : ℕ). Holds t areas p b) (sym e) refl
 holds t areas p a h sized placed has (has_ih e) = subst (λ (b : ℕ). Holds t areas p b) (sym e) refl
 
-pub solved : (t : Forest) (areas : List Area) → IsTreeOf stack t → AllSized t areas → AllPlaced t areas → Solves stack t (table_of t areas)
+pub solved : (t : Forest) (areas : List Area) → IsTreeOf stack t → AllSized t areas → AllPlaced t areas
+    → Solves stack t (table_of t areas)
 solved t areas h sized placed i is =
     holds t areas i.node i.attribute h sized placed is.0
     (has_attribute (class_at t i.node) i.attribute (fits_at stack t i.node h is.0).class.known is.1)

@@ -44,20 +44,23 @@ among (tree c d i b s) zero a h =
 among (tree c d i b s) (suc k) a h =
     let less : suc k < count_in 0 (tree c 0 i b s) = subst (λ (e : ℕ). suc k < count_in 0 (tree c e i b s)) a.0 h in
     let later = among s k a.1 (omega (arith, less)) in
-    subst (λ (e : ℕ). Among (tree c e i b s) (suc k)) (sym a.0) (record { is = later.is; next = omega (arith, later.next) })
+    subst (λ (e : ℕ). Among (tree c e i b s) (suc k)) (sym a.0)
+    (record { is = later.is; next = omega (arith, later.next) })
 
 -- past the last kid all nodes have come
 all_before : (f : Forest) → AllFirst f → nodes_before 0 (count_in 0 f) f ≡ size f
 all_before none a = refl
 all_before (tree c d i b s) a =
-    subst (λ (e : ℕ). let f = tree c e i b s in nodes_before 0 (count_in 0 f) f ≡ size f) (sym a.0) (omega (arith, all_before s a.1))
+    subst (λ (e : ℕ). let f = tree c e i b s in nodes_before 0 (count_in 0 f) f ≡ size f) (sym a.0)
+    (omega (arith, all_before s a.1))
 
 -- no more nodes come before a kid than there are
 before_within : (f : Forest) (k : ℕ) → AllFirst f → nodes_before 0 k f ≤ size f
 before_within none k a = omega arith
 before_within (tree c d i b s) zero a = omega (arith, none_before (tree c d i b s) a)
 before_within (tree c d i b s) (suc k) a =
-    subst (λ (e : ℕ). nodes_before 0 (suc k) (tree c e i b s) ≤ size (tree c e i b s)) (sym a.0) (omega (arith, before_within s k a.1))
+    subst (λ (e : ℕ). nodes_before 0 (suc k) (tree c e i b s) ≤ size (tree c e i b s)) (sym a.0)
+    (omega (arith, before_within s k a.1))
 
 -- a tree that is there is one of so many
 is_counted : (f : Forest) (k : ℕ) → AllFirst f → IsTree (from_kid 0 k f) → k < count_in 0 f
@@ -80,7 +83,16 @@ size-one (tree k d i b s) h = ap (λ (f : Forest). suc (size b + size f)) h.4 �
 pub end_within : (t : Forest) (p : Path) → IsTreeOf stack t → Has t p → number_of t p + size_at t p ≤ size t
 end_within t p h has =
     let s = stands t p has in
-    omega (arith, length-drop (number_of t p) (preorder t), ap length s.nodes, length-preorder t, size-one t h, length-append (nodes_below p (λ c. 0) (below_of (at t p))) s.rest, length-nodes_below p (λ c. 0) (below_of (at t p)))
+    omega (
+      arith,
+      length-drop (number_of t p) (preorder t),
+      ap length s.nodes,
+      length-preorder t,
+      size-one t h,
+      length-append (nodes_below p (λ c. 0) (below_of (at t p))) s.rest,
+      length-nodes_below p (λ c. 0)
+          (below_of (at t p)),
+    )
 
 -- a node of a stack tree, with its number
 pub record Node (t : Forest) (n : ℕ) : Type 0 where
@@ -99,7 +111,8 @@ node t n h within =
       is_tree = h;
       has = has;
       number = number;
-      kids = all_first (class_at t (node_at t n)) (below_of (at t (node_at t n))) (fits_at stack t (node_at t n) h has).below;
+      kids = all_first (class_at t (node_at t n)) (below_of (at t (node_at t n)))
+          (fits_at stack t (node_at t n) h has).below;
       end = omega (arith, end_within t (node_at t n) h has, number);
     }
 
@@ -128,10 +141,15 @@ pub record Kid (t : Forest) (n k kid : ℕ) : Type 0 where
 
 pub passed_none : (t : Forest) (n : ℕ) → Node t n → Passed t n 0 (n + 1)
 passed_none t n h =
-    record { within = omega arith; number = omega (arith, h.number, none_before (below_of (at t (node_at t n))) h.kids) }
+    record {
+      within = omega arith;
+      number = omega
+          (arith, h.number, none_before (below_of (at t (node_at t n))) h.kids);
+    }
 
 -- a kid of a counted number stands there
-pub kid_counted : (t : Forest) (n k : ℕ) → Node t n → k < kids_at t (node_at t n) 0 → Kid t n k (number_of t (down 0 k (node_at t n)))
+pub kid_counted : (t : Forest) (n k : ℕ) → Node t n → k < kids_at t (node_at t n) 0
+    → Kid t n k (number_of t (down 0 k (node_at t n)))
 kid_counted t n k h counted =
     let p = node_at t n in
     let kid = number_of t (down 0 k p) in
@@ -140,7 +158,8 @@ kid_counted t n k h counted =
     let here : node_at t kid ≡ down 0 k p = node-of t kid (down 0 k p) this.is refl in
     let wide : size_at t (node_at t kid) ≡ suc (size (below_of (from_kid 0 k f))) = ap (size_at t) here in
     let next : number_of t (down 0 (suc k) p) ≡ kid + size_at t (node_at t kid) = omega (arith, this.next, wide) in
-    let end : kid + size_at t (node_at t kid) ≤ n + size_at t p = omega (arith, next, before_within f (suc k) h.kids, h.number) in
+    let end : kid + size_at t (node_at t kid) ≤ n + size_at t p = omega
+    (arith, next, before_within f (suc k) h.kids, h.number) in
     record {
       has = this.is;
       number = refl;
@@ -152,17 +171,27 @@ kid_counted t n k h counted =
     }
 
 -- before the end of a node stands a kid
-pub kid_here : (t : Forest) (n k kid : ℕ) → Node t n → Passed t n k kid → kid < n + size_at t (node_at t n) → Kid t n k kid
+pub kid_here : (t : Forest) (n k kid : ℕ) → Node t n → Passed t n k kid → kid < n + size_at t (node_at t n)
+    → Kid t n k kid
 kid_here t n k kid h passed less = go (cases_lt k (kids_at t (node_at t n) 0))
   where
     go : (k < kids_at t (node_at t n) 0) ⊎ (kids_at t (node_at t n) 0 ≤ k) → Kid t n k kid
     go (inl counted) = subst (λ (m : ℕ). Kid t n k m) passed.number (kid_counted t n k h counted)
     go (inr past) =
         let all : k ≡ count_in 0 (below_of (at t (node_at t n))) = omega (arith, passed.within) in
-        absurd (omega (arith, ap (λ j. number_of t (down 0 j (node_at t n))) all, all_before (below_of (at t (node_at t n))) h.kids, passed.number, less, h.number))
+        absurd (omega (
+          arith,
+          ap (λ j. number_of t (down 0 j (node_at t n))) all,
+          all_before
+              (below_of (at t (node_at t n))) h.kids,
+          passed.number,
+          less,
+          h.number,
+        ))
 
 -- at the end of a node all kids were passed
-pub all_passed : (t : Forest) (n k kid : ℕ) → Node t n → Passed t n k kid → n + size_at t (node_at t n) ≤ kid → k ≡ kids_at t (node_at t n) 0
+pub all_passed : (t : Forest) (n k kid : ℕ) → Node t n → Passed t n k kid → n + size_at t (node_at t n) ≤ kid
+    → k ≡ kids_at t (node_at t n) 0
 all_passed t n k kid h passed end = go (cases_lt k (kids_at t (node_at t n) 0))
   where
     go : (k < kids_at t (node_at t n) 0) ⊎ (kids_at t (node_at t n) 0 ≤ k) → k ≡ kids_at t (node_at t n) 0
@@ -170,10 +199,12 @@ all_passed t n k kid h passed end = go (cases_lt k (kids_at t (node_at t n) 0))
     go (inr past) = omega (arith, past, passed.within)
 
 -- a kid that stands there is one of so many
-pub kid_of : (t : Forest) (n k : ℕ) → Node t n → Has t (down 0 k (node_at t n)) → Kid t n k (number_of t (down 0 k (node_at t n)))
+pub kid_of : (t : Forest) (n k : ℕ) → Node t n → Has t (down 0 k (node_at t n))
+    → Kid t n k (number_of t (down 0 k (node_at t n)))
 kid_of t n k h has = kid_counted t n k h (is_counted (below_of (at t (node_at t n))) k h.kids has)
 
-pub kid_is_counted : (t : Forest) (n k : ℕ) → Node t n → Has t (down 0 k (node_at t n)) → k < kids_at t (node_at t n) 0
+pub kid_is_counted : (t : Forest) (n k : ℕ) → Node t n → Has t (down 0 k (node_at t n))
+    → k < kids_at t (node_at t n) 0
 kid_is_counted t n k h has = is_counted (below_of (at t (node_at t n))) k h.kids has
 
 -- a sheet has one kid
@@ -183,17 +214,24 @@ sheet_kids t n h is =
     (subst (λ (c : ℕ). 0 < stack.child_count c) (sym is) (omega arith)) (ap (λ c. stack.is_list c 0) is)
 
 -- a word has none
-pub word_kids : (t : Forest) (n k : ℕ) → Node t n → class_at t (node_at t n) ≡ word → Has t (down 0 k (node_at t n)) → ⊥
+pub word_kids : (t : Forest) (n k : ℕ) → Node t n → class_at t (node_at t n) ≡ word → Has t (down 0 k (node_at t n))
+    → ⊥
 word_kids t n k h is has =
-    absurd (omega (arith, subst (λ (c : ℕ). 0 < stack.child_count c) is (kid_stands stack t 0 k (node_at t n) h.is_tree has).declared))
+    absurd (omega (
+      arith,
+      subst (λ (c : ℕ). 0 < stack.child_count c) is
+          (kid_stands stack t 0 k (node_at t n) h.is_tree has).declared,
+    ))
 
 -- the kid of a sheet is the next node
 pub body : (t : Forest) (n : ℕ) → Node t n → class_at t (node_at t n) ≡ sheet → Kid t n 0 (n + 1)
 body t n h is =
-    subst (λ (m : ℕ). Kid t n 0 m) (passed_none t n h).number (kid_counted t n 0 h (omega (arith, sheet_kids t n h is)))
+    subst (λ (m : ℕ). Kid t n 0 m) (passed_none t n h).number
+    (kid_counted t n 0 h (omega (arith, sheet_kids t n h is)))
 
 -- before a kid stands each of the kids before it
-pub kid_before : (t : Forest) (q : Path) (k : ℕ) → IsTreeOf stack t → Has t q → Has t (down 0 (suc k) q) → Has t (down 0 k q)
+pub kid_before : (t : Forest) (q : Path) (k : ℕ) → IsTreeOf stack t → Has t q → Has t (down 0 (suc k) q)
+    → Has t (down 0 k q)
 kid_before t q k h has later =
     let f = below_of (at t q) in
     let first = all_first (class_at t q) f (fits_at stack t q h has).below in

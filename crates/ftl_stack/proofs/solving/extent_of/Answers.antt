@@ -12,25 +12,35 @@ use Rattle.ftl_stack.proofs.solving.extent_of.Goals as goal
 pub bounds-areas-node : goal.bounds-areas-node
 bounds-areas-node c =
     let at = node c.args.tree.now c.args.node c.requires.areas.is_tree c.requires.node in
-    omega (arith, c.requires.areas.count, (body c.args.tree.now c.args.node at (sym c.class.ensures ∙ c.in-0.is)).within)
+    omega (
+      arith,
+      c.requires.areas.count,
+      (body c.args.tree.now c.args.node at (sym c.class.ensures ∙ c.in-0.is)).within,
+    )
 
 pub bounds-areas-node-in-0 : goal.bounds-areas-node-in-0
 bounds-areas-node-in-0 c =
     let at = node c.args.tree.now c.args.node c.requires.areas.is_tree c.requires.node in
-    omega (arith, c.requires.areas.count, (body c.args.tree.now c.args.node at (sym c.class.ensures ∙ c.in-0.is)).within)
+    omega (
+      arith,
+      c.requires.areas.count,
+      (body c.args.tree.now c.args.node at (sym c.class.ensures ∙ c.in-0.is)).within,
+    )
 
 pub input-requires-clause-attr : goal.input-requires-clause-attr
 input-requires-clause-attr c =
     let t = c.args.tree.now in
     let at = node t c.args.node c.requires.areas.is_tree c.requires.node in
-    let class : class_at t (node_at t c.args.node) ≡ word = omega (arith, class_known t c.args.node at, c.class.ensures) in
+    let class : class_at t (node_at t c.args.node) ≡ word = omega
+    (arith, class_known t c.args.node at, c.class.ensures) in
     (class, inl refl)
 
 pub input-requires-in_default-clause-attr : goal.input-requires-in_default-clause-attr
 input-requires-in_default-clause-attr c =
     let t = c.args.tree.now in
     let at = node t c.args.node c.requires.areas.is_tree c.requires.node in
-    let class : class_at t (node_at t c.args.node) ≡ word = omega (arith, class_known t c.args.node at, c.class.ensures) in
+    let class : class_at t (node_at t c.args.node) ≡ word = omega
+    (arith, class_known t c.args.node at, c.class.ensures) in
     (class, inr refl)
 
 pub returns-in-0-clause-h : goal.returns-in-0-clause-h
@@ -39,7 +49,8 @@ returns-in-0-clause-h c =
     let areas = c.args.areas.now in
     let at = node t c.args.node c.requires.areas.is_tree c.requires.node in
     let class = sym c.class.ensures ∙ c.in-0.is in
-    let read = get_or_default areas (c.args.node + 1) c.index-areas-node.result no_area (omega (arith, c.requires.areas.count, (body t c.args.node at class).within)) in
+    let read = get_or_default areas (c.args.node + 1) c.index-areas-node.result no_area
+    (omega (arith, c.requires.areas.count, (body t c.args.node at class).within)) in
     sheet_height t areas c.args.node (get_or areas (c.args.node + 1) c.index-areas-node.result) at class read
 
 pub returns-in_default-clause-w : goal.returns-in_default-clause-w
@@ -49,7 +60,9 @@ returns-in_default-clause-w c _ =
     let at = node t c.args.node c.requires.areas.is_tree c.requires.node in
     let class : class_at t p ≡ word = omega (arith, class_known t c.args.node at, c.class.ensures) in
     let fits : SFits w64 c.input.result = search rules in
-    c.num-in_default.ensures ∙ ap value_of (to_z-of_z w64 c.input.result fits) ∙ given_value t c.args.node word_iw c.input.result at c.input.ensures ∙ sym (word_width t c.args.areas.now p class)
+    c.num-in_default.ensures ∙ ap value_of (to_z-of_z w64 c.input.result fits)
+    ∙ given_value t c.args.node word_iw c.input.result at c.input.ensures
+    ∙ sym (word_width t c.args.areas.now p class)
 
 pub returns-in_default-clause-h : goal.returns-in_default-clause-h
 returns-in_default-clause-h c =
@@ -58,4 +71,6 @@ returns-in_default-clause-h c =
     let at = node t c.args.node c.requires.areas.is_tree c.requires.node in
     let class : class_at t p ≡ word = omega (arith, class_known t c.args.node at, c.class.ensures) in
     let fits : SFits w64 c.input-in_default.result = search rules in
-    c.num-in_default-2.ensures ∙ ap value_of (to_z-of_z w64 c.input-in_default.result fits) ∙ given_value t c.args.node word_ih c.input-in_default.result at c.input-in_default.ensures ∙ sym (word_height t c.args.areas.now p class)
+    c.num-in_default-2.ensures ∙ ap value_of (to_z-of_z w64 c.input-in_default.result fits)
+    ∙ given_value t c.args.node word_ih c.input-in_default.result at c.input-in_default.ensures
+    ∙ sym (word_height t c.args.areas.now p class)

@@ -23,9 +23,12 @@ returns-clause-placed c =
     let at = node t c.args.node c.requires.areas.is_tree c.requires.node in
     let this = body t c.args.node at c.requires.sheet in
     let area = c.index-areas-body.result in
-    let read = get_or_read c.args.areas.now (c.args.node + 1) area (omega (arith, c.requires.areas.count, this.within)) c.index-areas-body.is no_area in
-    let placing = body_placed t c.args.areas.now c.args.node area c.num.result c.num-2.result at c.requires.areas.count c.requires.sheet read c.num.ensures c.num-2.ensures this in
-    placing_all t c.args.areas.now _ c.args.node 1 (c.args.node + 1 + size_at t (node_at t (c.args.node + 1))) at placing (sym (sheet_kids t c.args.node at c.requires.sheet))
+    let read = get_or_read c.args.areas.now (c.args.node + 1) area
+    (omega (arith, c.requires.areas.count, this.within)) c.index-areas-body.is no_area in
+    let placing = body_placed t c.args.areas.now c.args.node area c.num.result c.num-2.result at
+    c.requires.areas.count c.requires.sheet read c.num.ensures c.num-2.ensures this in
+    placing_all t c.args.areas.now _ c.args.node 1 (c.args.node + 1 + size_at t (node_at t (c.args.node + 1))) at
+    placing (sym (sheet_kids t c.args.node at c.requires.sheet))
 
 pub returns-clause-others : goal.returns-clause-others
 returns-clause-others c =
@@ -33,5 +36,7 @@ returns-clause-others c =
     let at = node t c.args.node c.requires.areas.is_tree c.requires.node in
     let this = body t c.args.node at c.requires.sheet in
     let area = c.index-areas-body.result in
-    let read = get_or_read c.args.areas.now (c.args.node + 1) area (omega (arith, c.requires.areas.count, this.within)) c.index-areas-body.is no_area in
-    (body_placed t c.args.areas.now c.args.node area c.num.result c.num-2.result at c.requires.areas.count c.requires.sheet read c.num.ensures c.num-2.ensures this).others
+    let read = get_or_read c.args.areas.now (c.args.node + 1) area
+    (omega (arith, c.requires.areas.count, this.within)) c.index-areas-body.is no_area in
+    (body_placed t c.args.areas.now c.args.node area c.num.result c.num-2.result at c.requires.areas.count
+    c.requires.sheet read c.num.ensures c.num-2.ensures this).others

@@ -14,7 +14,14 @@ loop-node-preserved c =
     let t = c.args.tree.now in
     let last = c.loop-node.node - 1 in
     let extent = c.extent_of-extent in
-    let area : Area = record { x = c.index-areas-node.result.x; y = c.index-areas-node.result.y; w = extent.result.w; h = extent.result.h } in
+    let area : Area = record {
+      x = c.index-areas-node.result.x;
+      y = c.index-areas-node.result.y;
+      w = extent.result.w;
+      h = extent.result.h;
+    } in
     let next : last + 1 ≡ c.loop-node.node = omega arith in
-    sized_more t c.loop-node.areas last area (omega (arith, c.requires.count, c.loop-node.auto.areas, c.loop-node.auto.node, c.node_count-node.ensures.count))
-    (subst (λ (m : ℕ). SizedFrom t c.loop-node.areas m) (sym next) c.loop-node.invariant) extent.ensures.w extent.ensures.h
+    sized_more t c.loop-node.areas last area
+    (omega (arith, c.requires.count, c.loop-node.auto.areas, c.loop-node.auto.node, c.node_count-node.ensures.count))
+    (subst (λ (m : ℕ). SizedFrom t c.loop-node.areas m) (sym next) c.loop-node.invariant) extent.ensures.w
+    extent.ensures.h

@@ -17,7 +17,11 @@ returns-clause-solves c =
     let sized : List Area = c.set_sizes.new.areas in
     let placed : List Area = c.set_places.new.areas in
     let after_sizes : List Area = drop (length sized) c.in_ok-areas.areas.items in
-    let lent : c.deref_mut-2.result.now ≡ sized = c.deref_mut-2.ensures.value ∙ take_at sized after_sizes len (c.set_sizes.auto.areas ∙ c.deref_mut.ensures.len) in
-    let sizes : AllSized t placed = λ p has. all_sized-same t c.deref_mut-2.result.now placed p c.set_places.ensures.sizes (subst (λ (xs : List Area). AllSized t xs) (sym lent) c.set_sizes.ensures p has) in
-    let back = take_at placed (drop (length placed) (take len (sized ++ after_sizes))) len (c.set_places.auto.areas ∙ c.deref_mut-2.ensures.len) in
-    subst (λ (xs : List Area). Solves stack t (table_of t xs)) (sym back) (solved t placed c.node_count-count.ensures.is_tree sizes c.set_places.ensures.places)
+    let lent : c.deref_mut-2.result.now ≡ sized = c.deref_mut-2.ensures.value
+    ∙ take_at sized after_sizes len (c.set_sizes.auto.areas ∙ c.deref_mut.ensures.len) in
+    let sizes : AllSized t placed = λ p has. all_sized-same t c.deref_mut-2.result.now placed p
+    c.set_places.ensures.sizes (subst (λ (xs : List Area). AllSized t xs) (sym lent) c.set_sizes.ensures p has) in
+    let back = take_at placed (drop (length placed) (take len (sized ++ after_sizes))) len
+    (c.set_places.auto.areas ∙ c.deref_mut-2.ensures.len) in
+    subst (λ (xs : List Area). Solves stack t (table_of t xs)) (sym back)
+    (solved t placed c.node_count-count.ensures.is_tree sizes c.set_places.ensures.places)
