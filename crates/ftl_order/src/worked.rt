@@ -36,8 +36,8 @@ pub fn accepted_schedules()
     ensures inorder { IsOrdered chain chain_inorder }
 {}
 
-/// A law: schedules that are refused, at the pair that is not ordered or the attribute that does not
-/// stand once.
+/// A law: schedules that are refused, at the pair that is not ordered, or at the attribute that
+/// does not stand once.
 pub fn refused_schedules()
     ensures heights_topdown { LeavesUnordered stack heights_topdown
         (column_reads_height (for_self column box_h)) }
