@@ -13,7 +13,7 @@ use Rattle.ftl_order.specs.Schedule.{Schedule, spot_of}
 use Rattle.ftl_order.specs.LegalOrder.{IsStep, MustPrecede, IsLegalOrder}
 use Rattle.ftl_order.specs.WorkedSchedules.{sizes_then_places, places_beside}
 use Rattle.ftl_order.specs.WorkedSteps.{the_sheet, the_column, x_first, y_first, sheet_first, without_y, two_words_order}
-use Rattle.ftl_order.proofs.OrderRank.{is_listed_instance}
+use Rattle.ftl_order.proofs.Instances.{is_listed_instance}
 use Rattle.ftl_order.proofs.Rising.{Rising, rising_at, map_has}
 use Rattle.ftl_order.proofs.StackLawful.{each_in, not_among}
 
@@ -34,7 +34,7 @@ module _ (s : Schedule) (t : Forest) (order : List Instance) (steps : AllByRecur
         steps = each_in (IsStep stack t) order steps;
         all = λ i step.
             each_in (λ i. stack.sort i.attribute ≢ input → Contains order i) (instances stack t) all i
-            (is_listed_instance stack (spot_of s) t i step.0) step.1;
+            (is_listed_instance stack t i step.0) step.1;
         once = distinct_by_map (instance_number stack t) order once;
         legal = λ m n d less below. rising_at (Kept s) order kept m n d less below;
       }

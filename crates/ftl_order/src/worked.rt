@@ -3,6 +3,7 @@ ghost use Rattle.std.specs.List.{AllByRecursion};
 ghost use Rattle.ftl_model.specs.Values.{overflow};
 ghost use Rattle.ftl_model.specs.Solves.{Instance, instance_of};
 ghost use Rattle.ftl_model.specs.Stack.{stack, column, word, box_y, box_h, word_iw};
+ghost use Rattle.ftl_model.specs.Table.{SolvesList};
 ghost use Rattle.ftl_model.specs.TreeOf.{IsTreeOf};
 ghost use Rattle.ftl_model.specs.AttributeGrammar.{self_read};
 ghost use Rattle.ftl_model.specs.Worked.{numbers, empty_column, two_words, two_words_values};
@@ -16,7 +17,7 @@ ghost use Rattle.ftl_order.specs.LegalOrder.{IsLegalOrder, run};
 ghost use Rattle.ftl_order.specs.WorkedSchedules.{sizes_then_places, places_beside, heights_topdown, places_first, width_twice, y_missing, kids_read_prev_h, sheet_reads_height, column_reads_height, stack_pairs, slanted, slanted_pair, Orders, LeavesUnordered};
 ghost use Rattle.ftl_order.specs.WorkedRows.{IsOrderedCase, ordered_rows, refused_rows};
 ghost use Rattle.ftl_order.specs.WorkedSteps.{the_column, first_word, second_word, MustBe, IsFree, in_order, in_no_order, two_words_inputs, two_words_order, x_first, y_first, sheet_first, without_y};
-ghost use Rattle.ftl_order.specs.Chain.{chain, chain_topdown, chain_inorder, a_reads_b, three_kids, chain_order};
+ghost use Rattle.ftl_order.specs.Chain.{chain, chain_topdown, chain_inorder, a_reads_b, three_kids, three_kids_values, chain_order};
 
 /// A law: the stack grammar and the chain grammar are lawful.
 pub fn worked_grammars_are_lawful()
@@ -59,7 +60,7 @@ pub fn a_chain_of_three()
         ≡ chain_order }
     ensures values { run chain three_kids overflow chain_order
         (numbers (0 ∷ (0 ∷ (0 ∷ (0 ∷ (0 ∷ (0 ∷ [])))))))
-        ≡ numbers (1 ∷ (2 ∷ (2 ∷ (3 ∷ (3 ∷ (5 ∷ [])))))) }
+        ≡ three_kids_values }
 {}
 
 /// A law: each row of the table of ordered reads, at one case or more, and that an input has no
@@ -92,4 +93,10 @@ pub fn legal_orders_of_an_empty_column()
     ensures y_first { IsLegalOrder stack (spot_of places_beside) empty_column y_first }
     ensures sheet_first { IsLegalOrder stack (spot_of places_beside) empty_column sheet_first → ⊥ }
     ensures without_y { IsLegalOrder stack (spot_of places_beside) empty_column without_y → ⊥ }
+{}
+
+/// A law: the worked tables solve, so they are the only ones.
+pub fn worked_tables_solve()
+    ensures two_words { SolvesList stack two_words overflow two_words_values }
+    ensures three_kids { SolvesList chain three_kids overflow three_kids_values }
 {}
