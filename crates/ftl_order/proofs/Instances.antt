@@ -182,3 +182,13 @@ module _ {V : Type 0} (g : AttributeGrammar V) (t : Forest) where
       ap (λ m. get_or (instances g t) m d) (sym here.number)
       ∙ instance_at_number i.node i.attribute d here.valid.0 here.valid.1 in
       (subst (IsInstance g t) (sym is) here.valid, ap (instance_number g t) is ∙ here.number)
+
+  -- each instance stands in the list
+  pub is_listed_instance : (i : Instance) → IsInstance g t i → Contains (instances g t) i
+  is_listed_instance i valid = (
+    instance_number g t i,
+    (let w = number_within i.node i.attribute valid.0 valid.1 in
+        let e = length-instances in
+        let z : instance_number g t i < length (instances g t) = omega (arith, w, e) in z),
+    instance_at_number i.node i.attribute i valid.0 valid.1,
+  )

@@ -13,12 +13,12 @@ use Rattle.ftl_order.specs.Schedule.{Schedule, Placing, HasOneKind, spot_of, pas
 use Rattle.ftl_order.specs.Ordered.{EachPairOrdered}
 use Rattle.ftl_order.specs.Sequence.{sorted_by}
 use Rattle.ftl_order.specs.LegalOrder.{IsStep, MustPrecede, IsLegalOrder, StandsBefore}
-use Rattle.ftl_order.proofs.Instances.{length-instances, instance_here}
+use Rattle.ftl_order.proofs.Instances.{length-instances, instance_here, is_listed_instance}
 use Rattle.ftl_order.proofs.Lists.{distinct_by_number, in_filter, filter_has, distinct-filter, in_sorted, sorted_has, distinct-sorted, sorted_rises}
 use Rattle.ftl_order.proofs.TreeEquations.{inside_by}
 use Rattle.ftl_order.proofs.Near.{reads_near}
 use Rattle.ftl_order.proofs.Rows.{near_precedes}
-use Rattle.ftl_order.proofs.OrderRank.{step_rank, step_rises, is_listed_instance}
+use Rattle.ftl_order.proofs.OrderRank.{step_rank, step_rises}
 
 -- the attributes of one stage and pass stand in one pass
 pub spot_of-one_kind : (s : Schedule) → HasOneKind (spot_of s)
@@ -120,7 +120,7 @@ module _ {V : Type 0} (g : AttributeGrammar V) (at : Placing) (t : Forest) (one_
         steps = order_steps;
         all = λ i step.
             sorted_has (step_rank g at t) steps i
-            (filter_has (λ x. is_computed (g.sort x.attribute)) (instances g t) i (is_listed_instance g at t i step.0)
+            (filter_has (λ x. is_computed (g.sort x.attribute)) (instances g t) i (is_listed_instance g t i step.0)
             (computed (g.sort i.attribute) step.1));
         once =
             distinct-sorted (step_rank g at t) steps

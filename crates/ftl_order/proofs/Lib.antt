@@ -26,3 +26,4 @@ pub mod Weights
 pub mod WorkedOrders
 pub mod WorkedPairs
 pub mod WorkedReads
+pub mod WorkedTables

@@ -6,13 +6,14 @@ use Rattle.ftl_model.specs.AttributeGrammar.{AttributeGrammar, Read, self_read, 
 use Rattle.ftl_model.specs.TreeOf.{IsTreeOf}
 use Rattle.ftl_model.specs.Solves.{Instance, IsInstance, seen_from}
 use Rattle.ftl_model.proofs.Standing.{has_parent}
+use Rattle.ftl_model.proofs.Fits.{kid_stands}
 use Rattle.ftl_order.specs.Lawful.{IsLawful, OfClass, OfChild, IsOwnSort, MayReadForSelf, MayReadForChild}
 use Rattle.ftl_order.specs.Reads.{RuleReads, EquationReads, Reads}
 use Rattle.ftl_order.specs.Schedule.{Placing}
 use Rattle.ftl_order.specs.Pairs.{RuleName, for_self, for_child, Where, same_class, parent_class, child_class, Writes, WritesOwn, WritesKid, is_by_prev, child_read}
 use Rattle.ftl_order.specs.Ordered.{block_of, VisitPlace, place_of, ChildRow, IsOrderedRead, EachPairOrdered}
 use Rattle.ftl_order.specs.LegalOrder.{Turn, turn_by, turn_of, TurnNear, IsNearBefore}
-use Rattle.ftl_order.proofs.Kids.{child_fits, class_known}
+use Rattle.ftl_order.proofs.Kids.{class_known}
 use Rattle.ftl_order.proofs.TreeEquations.{inherited_of_child, root_inherits_nothing, self_sees_instances, child_sees_instances}
 use Rattle.ftl_order.proofs.Rows.{turn, same_visit_near, parent_near, child_near, lift_row, own_block}
 
@@ -34,7 +35,7 @@ module _ {V : Type 0} (g : AttributeGrammar V) (law : IsLawful g) (at : Placing)
   own_near input p a e h of y ky ordered = inl e
   own_near inherited top a e h of y ky ordered = absurd (root_inherits_nothing g law t fits a h of e)
   own_near inherited (down c k q) a e h of y ky ordered =
-      let fit = child_fits g t fits c k q h in
+      let fit = kid_stands g t c k q fits h in
       let x : VisitPlace = record { attribute = a; block = 1; child = c } in
       inr (lift_row at parent_class (self_read a) x y q (down c k q) k ky
       (ordered parent_class (for_child (class_at t q) c a)
@@ -72,7 +73,7 @@ module _ {V : Type 0} (g : AttributeGrammar V) (law : IsLawful g) (at : Placing)
       same_visit_near (at y.attribute).kind at (is_by_prev r) p x y n ky row (λ same. no_later same.0 same.1)
       (λ prev. (earlier prev).1)))
   kid_near synthesized p d n a e of h r child y ky earlier no_later ordered =
-      let fit = child_fits g t fits d n p h in
+      let fit = kid_stands g t d n p fits h in
       let x : VisitPlace = record { attribute = a; block = 2; child = 0 } in
       inr (lift_row at child_class r x y (down d n p) p 0 ky
       (subst (λ s. IsOrderedRead at child_class r (record { attribute = a; block = block_of s; child = 0 }) y) e
@@ -184,7 +185,7 @@ module _ {V : Type 0} (g : AttributeGrammar V) (law : IsLawful g) (at : Placing)
     near_by inherited top b e h of j reads = absurd (root_inherits_nothing g law t fits b h of e)
     near_by inherited (down c k p) b e h of j reads =
         let known = class_known g t fits p (has_parent t c k p h) in
-        let declared = (child_fits g t fits c k p h).declared in
+        let declared = (kid_stands g t c k p fits h).declared in
         let shared = inherited_of_child g law t fits b c k p h of e in
         subst (λ x. NearOrInput x (turn p (record { attribute = b; block = 1; child = c }) k)) (sym reads.4)
         (child_read_near p c k b h reads.0

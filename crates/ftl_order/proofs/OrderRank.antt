@@ -1,11 +1,11 @@
 -- A number that rises from each step to those that it must precede, and so falls along the reads.
-use Rattle.std.proofs.Common.{◌≡◌, ◌⊎◌, ℕ, suc, ◌+◌, ◌-◌, ◌<◌, ◌≤◌, refl, sym, ap, subst, inl, inr, ⊎_elim, arith, List, [], ◌∷◌, length, Contains}
+use Rattle.std.proofs.Common.{◌≡◌, ◌⊎◌, ℕ, suc, ◌+◌, ◌-◌, ◌<◌, ◌≤◌, refl, sym, ap, subst, inl, inr, ⊎_elim, arith, List, [], ◌∷◌, length}
 use Rattle.ftl_model.specs.Tree.{Forest, size, below_of}
 use Rattle.ftl_model.specs.Path.{Path, top, down, at as tree_at, Has, Above}
 use Rattle.ftl_model.specs.AttributeGrammar.{AttributeGrammar, Sort, input, inherited, synthesized, local}
 use Rattle.ftl_model.specs.TreeOf.{IsTreeOf}
 use Rattle.ftl_model.specs.Solves.{Instance, IsInstance, rule_node}
-use Rattle.ftl_model.specs.Table.{instances, instance_number}
+use Rattle.ftl_model.specs.Table.{instances}
 use Rattle.ftl_model.proofs.Standing.{has_parent}
 use Rattle.ftl_order.specs.Lawful.{IsLawful}
 use Rattle.ftl_order.specs.Reads.{EquationReads, Reads, FallsAlongReads}
@@ -13,7 +13,7 @@ use Rattle.ftl_order.specs.Schedule.{PassKind, topdown, bottomup, inorder, Placi
 use Rattle.ftl_order.specs.Ordered.{EachPairOrdered}
 use Rattle.ftl_order.specs.LegalOrder.{Turn, turn_of, KeyFirst, Before, address, FirstInPass, TurnPrecedes, MustPrecede}
 use Rattle.ftl_order.proofs.Kids.{kid_size, below_size}
-use Rattle.ftl_order.proofs.Instances.{length-instances, instance_at_number, number_within}
+use Rattle.ftl_order.proofs.Instances.{is_listed_instance}
 use Rattle.ftl_order.proofs.TreeEquations.{inside_by}
 use Rattle.ftl_order.proofs.Weights.{weight, before_weight, sum_of_all, all_below, total_by, at_most_total_of}
 use Rattle.ftl_order.proofs.Near.{reads_near}
@@ -105,19 +105,10 @@ module _ {V : Type 0} (g : AttributeGrammar V) (at : Placing) (t : Forest) where
   abbrev pub step_rank : Instance → ℕ
   step_rank i = weight base digit_count (digits_of i)
 
-  pub is_listed_instance : (i : Instance) → IsInstance g t i → Contains (instances g t) i
-  is_listed_instance i valid = (
-    instance_number g t i,
-    (let w = number_within g t i.node i.attribute valid.0 valid.1 in
-        let e = length-instances g t in
-        let z : instance_number g t i < length (instances g t) = omega (arith, w, e) in z),
-    instance_at_number g t i.node i.attribute i valid.0 valid.1,
-  )
-
   pub step_rises : HasOneKind at → (i j : Instance) → IsInstance g t i → MustPrecede g at i j
       → step_rank i < step_rank j
   step_rises one_kind i j valid first =
-      let listed = is_listed_instance i valid in
+      let listed = is_listed_instance g t i valid in
       let deep = depth_within t (turn_of g i).visit (visit_there t (g.sort i.attribute) i.node valid.0) in
       before_weight base digit_count (digits_of i) (digits_of j) (omega arith)
       (all_below base (digits_of i)

@@ -9,11 +9,12 @@ use Rattle.ftl_model.specs.AttributeGrammar.{AttributeGrammar, Sort, input, inhe
 use Rattle.ftl_model.specs.TreeOf.{IsTreeOf}
 use Rattle.ftl_model.specs.Solves.{Instance, instance_of, attributes_of}
 use Rattle.ftl_model.proofs.Standing.{has_parent}
+use Rattle.ftl_model.proofs.Fits.{fits_at}
 use Rattle.ftl_order.specs.Lawful.{IsLawful, OfClass}
 use Rattle.ftl_order.specs.Schedule.{Schedule, Spot, IsOnePass, IsAttribute, EachStandsOnce, spot_of, inorder}
 use Rattle.ftl_order.specs.LegalOrder.{IsStep, turn_of, Before, address, FirstInPass, MustPrecede, StandsBefore}
 use Rattle.ftl_order.specs.Sequence.{keyed, steps_at, sequence_below, sequence}
-use Rattle.ftl_order.proofs.Kids.{node_fits, class_known, root_there}
+use Rattle.ftl_order.proofs.Kids.{class_known, root_there}
 use Rattle.ftl_order.proofs.TreeEquations.{root_inherits_nothing}
 use Rattle.ftl_order.proofs.Spots.{own_keys}
 use Rattle.ftl_order.proofs.Rising.{Rising, rising-append, before_once, rising_at, map_has}
@@ -65,7 +66,7 @@ module _ {V : Type 0} (g : AttributeGrammar V) (law : IsLawful g) (s : Schedule)
       let bs = sequence_below g at x top (λ c. 0) (below_of t) in
       let ss = steps_at g at x synthesized (class_of t) top in
       let within = below_rises g law at x keys (below_of t) (class_of t) 0 top (λ c. 0)
-      (node_fits g t fits top (root_there g t fits)).below
+      (fits_at g t top fits (root_there g t fits)).below
       (starts_anywhere g law at x keys (below_of t)) in
       let lg = local_goes g at x (class_of t) top in
       let sg = synthesized_goes g at x (class_of t) top in

@@ -9,10 +9,11 @@ use Rattle.ftl_model.specs.Solves.{Instance, seen_from}
 use Rattle.ftl_model.specs.Values.{overflow}
 use Rattle.ftl_model.specs.Stack.{stack}
 use Rattle.ftl_model.proofs.Standing.{has_parent}
+use Rattle.ftl_model.proofs.Fits.{kid_stands}
 use Rattle.ftl_order.specs.Lawful.{OfClass}
 use Rattle.ftl_order.specs.Reads.{RuleReads, EquationReads, FallsAlongReads}
 use Rattle.ftl_order.specs.OneTable.{ExactlyOneTable, ExactlyOneList}
-use Rattle.ftl_order.proofs.Kids.{kid_size, below_size, class_known, child_fits}
+use Rattle.ftl_order.proofs.Kids.{kid_size, below_size, class_known}
 use Rattle.ftl_order.proofs.TreeEquations.{inside_by, one_table_by, root_inherits_nothing}
 use Rattle.ftl_order.proofs.OneList.{one_list_by}
 use Rattle.ftl_order.proofs.StackLawful.{stack_lawful, self_rules_have, child_rules_have}
@@ -135,7 +136,7 @@ module _ (t : Forest) (fits : IsTreeOf stack t) where
   falls_by inherited (down c k p) a e h of j there reads =
       subst (λ x. stack_rank t x < suc (suc (size t)) + suc (k + way_length p)) (sym reads.4)
       (child_falls (class_at t p) c a (class_known stack t fits p (has_parent t c k p h))
-      (child_fits stack t fits c k p h).declared
+      (kid_stands stack t c k p fits h).declared
       k reads.0 reads.2 t p reads.1 reads.3)
   falls_by synthesized p a e h of j there reads = own_rule_falls p a h j there reads
   falls_by local p a e h of j there reads = own_rule_falls p a h j there reads

@@ -7,10 +7,11 @@ use Rattle.ftl_model.specs.AttributeGrammar.{AttributeGrammar, Read, self_read, 
 use Rattle.ftl_model.specs.TreeOf.{IsTreeOf}
 use Rattle.ftl_model.specs.Solves.{Instance, instance_of, IsInstance, seen_from, equation_value}
 use Rattle.ftl_model.proofs.Standing.{has_parent}
+use Rattle.ftl_model.proofs.Fits.{fits_at, kid_stands}
 use Rattle.ftl_order.specs.Lawful.{IsLawful, IsSingle, OfClass, OfChild, MayReadForSelf, MayReadForChild, IsOwnSort}
 use Rattle.ftl_order.specs.Reads.{RuleReads, EquationReads, Reads, FallsAlongReads}
 use Rattle.ftl_order.specs.OneTable.{ExactlyOneTable}
-use Rattle.ftl_order.proofs.Kids.{kid_exists, kid_counted, node_fits, child_fits, class_known, root_interface}
+use Rattle.ftl_order.proofs.Kids.{kid_exists, kid_counted, class_known, root_interface}
 use Rattle.ftl_order.proofs.EquationSystem.{System, solutions_agree, solution, solution_solves}
 
 -- an inherited attribute of a class is one of its interface
@@ -35,7 +36,7 @@ module _ {V : Type 0} (g : AttributeGrammar V) (law : IsLawful g) (t : Forest) (
   pub inherited_of_child : (a c k : ℕ) (p : Path) → Has t (down c k p) → OfClass g (class_at t (down c k p)) a
       → g.sort a ≡ inherited → OfChild g (class_at t p) c a
   inherited_of_child a c k p h of e =
-      subst (λ i. Contains (g.shared i) a) (child_fits g t fits c k p h).interface
+      subst (λ i. Contains (g.shared i) a) (kid_stands g t c k p fits h).interface
       (inherited_is_shared g law (class_at t (down c k p)) a (class_known g t fits (down c k p) h) of e)
 
   -- a kid that is there has the attributes of its child's interface
@@ -45,12 +46,12 @@ module _ {V : Type 0} (g : AttributeGrammar V) (law : IsLawful g) (t : Forest) (
       let there : Has t (down c k p) = kid_exists c k (below_of (at t p)) below in (
         there,
         Contains-append_left (g.shared (g.interface (class_at t (down c k p)))) (g.private (class_at t (down c k p))) a
-            (subst (λ i. Contains (g.shared i) a) (sym (child_fits g t fits c k p there).interface) of),
+            (subst (λ i. Contains (g.shared i) a) (sym (kid_stands g t c k p fits there).interface) of),
       )
 
   pub single_there : (c : ℕ) (p : Path) → Has t p → IsSingle g (class_at t p) c → 0 < kids_at t p c
   single_there c p h single =
-      let e : kids_at t p c ≡ 1 = (node_fits g t fits p h).itself.singles c single.0 single.1 in
+      let e : kids_at t p c ≡ 1 = (fits_at g t p fits h).class.singles c single.0 single.1 in
       omega arith
 
   -- what a rule for the node itself sees is there
@@ -107,7 +108,7 @@ module _ {V : Type 0} (g : AttributeGrammar V) (law : IsLawful g) (t : Forest) (
       let above = has_parent t c k p h in
       subst (IsInstance g t) (sym reads.4)
       (child_sees_instances p c k h reads.0
-      (law.child_reads (class_at t p) c a (class_known g t fits p above) (child_fits g t fits c k p h).declared
+      (law.child_reads (class_at t p) c a (class_known g t fits p above) (kid_stands g t c k p fits h).declared
       (inherited_of_child a c k p h of e) e k reads.0 reads.2)
       reads.1 reads.3)
   inside_by synthesized p a e h of j reads = own_inside p a h of (inl e) j reads
@@ -130,7 +131,7 @@ module _ {V : Type 0} (g : AttributeGrammar V) (law : IsLawful g) (t : Forest) (
   alone_by r s inherited top a e h of same = absurd (root_inherits_nothing a h of e)
   alone_by r s inherited (down c k p) a e h of same =
       let above = has_parent t c k p h in
-      law.child_alone (class_at t p) c a (class_known g t fits p above) (child_fits g t fits c k p h).declared
+      law.child_alone (class_at t p) c a (class_known g t fits p above) (kid_stands g t c k p fits h).declared
       (inherited_of_child a c k p h of e) e k (kids_at t p) (λ o. r (seen_from p o)) (λ o. s (seen_from p o))
       (λ read in_it o sees. same (seen_from p o) (read, o, in_it, sees, refl))
   alone_by r s synthesized p a e h of same = own_alone r s p a h of (inl e) same

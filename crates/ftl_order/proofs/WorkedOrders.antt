@@ -1,18 +1,19 @@
 -- Legal and illegal orders of the steps of a sheet over an empty column.
 use Rattle.std.proofs.Common.{◌≡◌, ◌≢◌, ℕ, refl, ap, lit<, arith, rules, List, [], ◌∷◌, map, Contains}
 use Rattle.std.specs.List.{AllByRecursion}
+use Rattle.ftl_model.specs.Tree.{Forest}
 use Rattle.ftl_model.specs.Path.{top}
 use Rattle.ftl_model.specs.AttributeGrammar.{input}
 use Rattle.ftl_model.specs.Solves.{Instance, instance_of}
 use Rattle.ftl_model.specs.Stack.{stack, box_y, page_h}
 use Rattle.ftl_model.specs.Table.{instances, instance_number}
-use Rattle.ftl_model.specs.Worked.{empty_column}
+use Rattle.ftl_model.specs.Worked.{empty_column, two_words}
 use Rattle.ftl_order.specs.Lawful.{AreDistinct}
-use Rattle.ftl_order.specs.Schedule.{spot_of}
+use Rattle.ftl_order.specs.Schedule.{Schedule, spot_of}
 use Rattle.ftl_order.specs.LegalOrder.{IsStep, MustPrecede, IsLegalOrder}
-use Rattle.ftl_order.specs.WorkedSchedules.{places_beside}
-use Rattle.ftl_order.specs.WorkedSteps.{the_sheet, the_column, x_first, y_first, sheet_first, without_y}
-use Rattle.ftl_order.proofs.OrderRank.{is_listed_instance}
+use Rattle.ftl_order.specs.WorkedSchedules.{sizes_then_places, places_beside}
+use Rattle.ftl_order.specs.WorkedSteps.{the_sheet, the_column, x_first, y_first, sheet_first, without_y, two_words_order}
+use Rattle.ftl_order.proofs.Instances.{is_listed_instance}
 use Rattle.ftl_order.proofs.Rising.{Rising, rising_at, map_has}
 use Rattle.ftl_order.proofs.StackLawful.{each_in, not_among}
 
@@ -21,21 +22,21 @@ distinct_by_map f [] h = tt
 distinct_by_map f (x ∷ xs) h = ((λ again. h.0 (map_has f xs x again)), distinct_by_map f xs h.1)
 
 -- no step must precede one that stands before it
-abbrev Kept : Instance → Instance → Type 0
-Kept i j = MustPrecede stack (spot_of places_beside) j i → ⊥
+abbrev Kept : Schedule → Instance → Instance → Type 0
+Kept s i j = MustPrecede stack (spot_of s) j i → ⊥
 
-module _ (order : List Instance) (steps : AllByRecursion (IsStep stack empty_column) order)
-    (all : AllByRecursion (λ i. stack.sort i.attribute ≢ input → Contains order i) (instances stack empty_column))
-    (once : AreDistinct (map (instance_number stack empty_column) order)) (kept : Rising Kept order) where
-  legal_by : IsLegalOrder stack (spot_of places_beside) empty_column order
+module _ (s : Schedule) (t : Forest) (order : List Instance) (steps : AllByRecursion (IsStep stack t) order)
+    (all : AllByRecursion (λ i. stack.sort i.attribute ≢ input → Contains order i) (instances stack t))
+    (once : AreDistinct (map (instance_number stack t) order)) (kept : Rising (Kept s) order) where
+  legal_by : IsLegalOrder stack (spot_of s) t order
   legal_by =
       record {
-        steps = each_in (IsStep stack empty_column) order steps;
+        steps = each_in (IsStep stack t) order steps;
         all = λ i step.
-            each_in (λ i. stack.sort i.attribute ≢ input → Contains order i) (instances stack empty_column) all i
-            (is_listed_instance stack (spot_of places_beside) empty_column i step.0) step.1;
-        once = distinct_by_map (instance_number stack empty_column) order once;
-        legal = λ m n d less below. rising_at Kept order kept m n d less below;
+            each_in (λ i. stack.sort i.attribute ≢ input → Contains order i) (instances stack t) all i
+            (is_listed_instance stack t i step.0) step.1;
+        once = distinct_by_map (instance_number stack t) order once;
+        legal = λ m n d less below. rising_at (Kept s) order kept m n d less below;
       }
 
 column_step : (a : ℕ) → stack.sort a ≢ input → Contains (1 ∷ (2 ∷ (3 ∷ (4 ∷ [])))) a
@@ -71,7 +72,7 @@ y_step = column_step 2 (λ e. (let z : ⊥ = grind arith in z)) (1, lit< tt, ref
 
 pub x_first_legal : IsLegalOrder stack (spot_of places_beside) empty_column x_first
 x_first_legal =
-    legal_by x_first (w_step, (h_step, (sheet_step, (x_step, (y_step, tt))))) (
+    legal_by places_beside empty_column x_first (w_step, (h_step, (sheet_step, (x_step, (y_step, tt))))) (
       (λ c. (2, lit< tt, refl)),
       (
         (λ c. (3, lit< tt, refl)),
@@ -83,7 +84,7 @@ x_first_legal =
 
 pub y_first_legal : IsLegalOrder stack (spot_of places_beside) empty_column y_first
 y_first_legal =
-    legal_by y_first (w_step, (h_step, (sheet_step, (y_step, (x_step, tt))))) (
+    legal_by places_beside empty_column y_first (w_step, (h_step, (sheet_step, (y_step, (x_step, tt))))) (
       (λ c. (2, lit< tt, refl)),
       (
         (λ c. (4, lit< tt, refl)),
@@ -109,3 +110,73 @@ without_y_illegal h =
       ),
     )
     (instance_of the_column box_y) (h.all (instance_of the_column box_y) y_step) refl
+
+abbrev KeptAll : Schedule → List Instance → Type 0
+KeptAll s [] = Unit {0}
+KeptAll s (i ∷ is) = AllByRecursion (Kept s i) is × KeptAll s is
+
+kept_rising : (s : Schedule) (order : List Instance) → KeptAll s order → Rising (Kept s) order
+kept_rising s [] h = tt
+kept_rising s (i ∷ is) h = (each_in (Kept s i) is h.0, kept_rising s is h.1)
+
+two_words_kept : KeptAll sizes_then_places two_words_order
+two_words_kept = search rules
+
+two_words_steps : AllByRecursion (IsStep stack two_words) two_words_order
+two_words_steps = search rules
+
+two_words_all : AllByRecursion (λ i. stack.sort i.attribute ≢ input → Contains two_words_order i) (instances stack two_words)
+two_words_all = (
+  (λ c. (6, lit< tt, refl)),
+  (
+    (λ c. (7, lit< tt, refl)),
+    (
+      (λ c. (8, lit< tt, refl)),
+      (
+        (λ c. (4, lit< tt, refl)),
+        (
+          (λ c. (5, lit< tt, refl)),
+          (
+            (λ c. (9, lit< tt, refl)),
+            (
+              (λ c. (11, lit< tt, refl)),
+              (
+                (λ c. (2, lit< tt, refl)),
+                (
+                  (λ c. (3, lit< tt, refl)),
+                  (
+                    (λ c. absurd (c refl)),
+                    (
+                      (λ c. absurd (c refl)),
+                      (
+                        (λ c. (10, lit< tt, refl)),
+                        (
+                          (λ c. (12, lit< tt, refl)),
+                          (
+                            (λ c. (0, lit< tt, refl)),
+                            (
+                              (λ c. (1, lit< tt, refl)),
+                              ((λ c. absurd (c refl)), ((λ c. absurd (c refl)), tt)),
+                            ),
+                          ),
+                        ),
+                      ),
+                    ),
+                  ),
+                ),
+              ),
+            ),
+          ),
+        ),
+      ),
+    ),
+  ),
+)
+
+two_words_once : AreDistinct (map (instance_number stack two_words) two_words_order)
+two_words_once = search (rules, not_among)
+
+pub two_words_legal : IsLegalOrder stack (spot_of sizes_then_places) two_words two_words_order
+two_words_legal =
+    legal_by sizes_then_places two_words two_words_order two_words_steps two_words_all two_words_once
+    (kept_rising sizes_then_places two_words_order two_words_kept)

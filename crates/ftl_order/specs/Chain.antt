@@ -7,6 +7,7 @@ use Rattle.ftl_model.specs.Tree.{Forest, none, tree}
 use Rattle.ftl_model.specs.Path.{top, down}
 use Rattle.ftl_model.specs.AttributeGrammar.{AttributeGrammar, Rule, prev_read, Occurrence, kid, inherited}
 use Rattle.ftl_model.specs.Solves.{Instance, instance_of}
+use Rattle.ftl_model.specs.Worked.{numbers}
 use Rattle.ftl_order.specs.Schedule.{topdown, inorder, Schedule}
 use Rattle.ftl_order.specs.Pairs.{for_child, same_class, Pair}
 use Rattle.ftl_order.specs.WorkedSchedules.{stage, pair_of}
@@ -72,3 +73,7 @@ abbrev pub chain_order : List Instance
 chain_order =
     chain_step 0 0
     ∷ (chain_step 0 1 ∷ (chain_step 1 0 ∷ (chain_step 1 1 ∷ (chain_step 2 0 ∷ (chain_step 2 1 ∷ [])))))
+
+-- a and b of each kid
+abbrev pub three_kids_values : List Value
+three_kids_values = numbers (1 ∷ (2 ∷ (2 ∷ (3 ∷ (3 ∷ (5 ∷ []))))))

@@ -49,9 +49,9 @@ Before (x ∷ xs) [] = ⊥
 Before (x ∷ xs) (y ∷ ys) = (x < y) ⊎ ((x ≡ y) × Before xs ys)
 
 -- The sequence of an inorder pass at a node: the locals; for each child and each kid, the kid's inherited attributes
--- and
--- then the kid's sequence; the synthesized attributes. A step's address names, from the root on, the block, the child
--- and the kid, then 0 for the attributes there and 1 for the kid's sequence; it ends in the place in the pass's list.
+-- and then the kid's sequence; the synthesized attributes. A step's address names, from the root on, the block, the
+-- child and the kid, then 0 for the attributes there and 1 for the kid's sequence; it ends in the place in the pass's
+-- list.
 abbrev pub way_to : Path → List ℕ → List ℕ
 way_to top rest = rest
 way_to (down c k p) rest = way_to p (1 ∷ (c ∷ (k ∷ (1 ∷ rest))))

@@ -2,6 +2,8 @@
 use Rattle.std.specs.Prelude.{ℕ, List, [], ◌∷◌}
 use Rattle.ftl_model.specs.Path.{Path, top, down}
 use Rattle.ftl_model.specs.Solves.{Instance, instance_of}
+use Rattle.ftl_model.specs.Values.{Value}
+use Rattle.ftl_model.specs.Worked.{numbers}
 use Rattle.ftl_model.specs.Stack.{stack, page_h, box_x, box_y, box_w, box_h}
 use Rattle.ftl_order.specs.Schedule.{Schedule, spot_of}
 use Rattle.ftl_order.specs.LegalOrder.{MustPrecede}
@@ -73,6 +75,11 @@ two_words_order =
     ∷ (instance_of first_word box_y
     ∷ (instance_of second_word box_y
     ∷ []))))))))))))
+
+-- the widths and heights of the words, and 0 for all that is to be computed
+abbrev pub two_words_inputs : List Value
+two_words_inputs =
+    numbers (0 ∷ (0 ∷ (0 ∷ (0 ∷ (0 ∷ (0 ∷ (0 ∷ (0 ∷ (0 ∷ (20 ∷ (10 ∷ (0 ∷ (0 ∷ (0 ∷ (0 ∷ (30 ∷ (15 ∷ [])))))))))))))))))
 
 -- A sheet over an empty column has five steps. Under bottomup { Page.h Box.w Box.h } ; topdown { Box.x } || topdown
 -- { Box.y } the two positions stand beside each other.

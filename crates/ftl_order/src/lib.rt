@@ -18,4 +18,5 @@ pub use one_table::{
 pub use worked::{
     a_chain_of_three, accepted_schedules, legal_orders_of_an_empty_column, refused_schedules,
     rows_of_ordered_reads, steps_of_two_words, the_pairs_of_stack, worked_grammars_are_lawful,
+    worked_tables_solve,
 };

@@ -3,6 +3,7 @@ ghost use Rattle.std.specs.List.{AllByRecursion};
 ghost use Rattle.ftl_model.specs.Values.{overflow};
 ghost use Rattle.ftl_model.specs.Solves.{Instance, instance_of};
 ghost use Rattle.ftl_model.specs.Stack.{stack, column, word, box_y, box_h, word_iw};
+ghost use Rattle.ftl_model.specs.Table.{SolvesList};
 ghost use Rattle.ftl_model.specs.TreeOf.{IsTreeOf};
 ghost use Rattle.ftl_model.specs.AttributeGrammar.{self_read};
 ghost use Rattle.ftl_model.specs.Worked.{numbers, empty_column, two_words, two_words_values};
@@ -15,8 +16,8 @@ ghost use Rattle.ftl_order.specs.Ordered.{IsOrdered};
 ghost use Rattle.ftl_order.specs.LegalOrder.{IsLegalOrder, run};
 ghost use Rattle.ftl_order.specs.WorkedSchedules.{sizes_then_places, places_beside, heights_topdown, places_first, width_twice, y_missing, kids_read_prev_h, sheet_reads_height, column_reads_height, stack_pairs, slanted, slanted_pair, Orders, LeavesUnordered};
 ghost use Rattle.ftl_order.specs.WorkedRows.{IsOrderedCase, ordered_rows, refused_rows};
-ghost use Rattle.ftl_order.specs.WorkedSteps.{the_column, first_word, second_word, MustBe, IsFree, in_order, in_no_order, two_words_order, x_first, y_first, sheet_first, without_y};
-ghost use Rattle.ftl_order.specs.Chain.{chain, chain_topdown, chain_inorder, a_reads_b, three_kids, chain_order};
+ghost use Rattle.ftl_order.specs.WorkedSteps.{the_column, first_word, second_word, MustBe, IsFree, in_order, in_no_order, two_words_inputs, two_words_order, x_first, y_first, sheet_first, without_y};
+ghost use Rattle.ftl_order.specs.Chain.{chain, chain_topdown, chain_inorder, a_reads_b, three_kids, three_kids_values, chain_order};
 
 /// A law: the stack grammar and the chain grammar are lawful.
 pub fn worked_grammars_are_lawful()
@@ -36,12 +37,15 @@ pub fn accepted_schedules()
     ensures inorder { IsOrdered chain chain_inorder }
 {}
 
-/// A law: schedules that are refused, at the pair that is not ordered or the attribute that does not
-/// stand once.
+/// A law: schedules that are refused, at the pair that is not ordered, or at the attribute that
+/// does not stand once.
 pub fn refused_schedules()
-    ensures heights_topdown { LeavesUnordered stack heights_topdown (column_reads_height (for_self column box_h)) }
-    ensures sheet_is_ordered { Orders stack heights_topdown (sheet_reads_height (for_self column box_h)) }
-    ensures later_stage { LeavesUnordered stack places_first (kids_read_prev_h (for_self column box_h)) }
+    ensures heights_topdown { LeavesUnordered stack heights_topdown
+        (column_reads_height (for_self column box_h)) }
+    ensures sheet_is_ordered { Orders stack heights_topdown
+        (sheet_reads_height (for_self column box_h)) }
+    ensures later_stage { LeavesUnordered stack places_first
+        (kids_read_prev_h (for_self column box_h)) }
     ensures other_pass { LeavesUnordered slanted places_beside slanted_pair }
     ensures topdown { LeavesUnordered chain chain_topdown a_reads_b }
     ensures inorder { Orders chain chain_inorder a_reads_b }
@@ -52,9 +56,11 @@ pub fn refused_schedules()
 /// A law: the chain's steps, kid by kid, compute its table.
 pub fn a_chain_of_three()
     ensures tree { IsTreeOf chain three_kids }
-    ensures sequence { sequence chain (spot_of chain_inorder) (spot_of chain_inorder 0) three_kids ≡ chain_order }
-    ensures values { run chain three_kids overflow chain_order (numbers (0 ∷ (0 ∷ (0 ∷ (0 ∷ (0 ∷ (0 ∷ [])))))))
-        ≡ numbers (1 ∷ (2 ∷ (2 ∷ (3 ∷ (3 ∷ (5 ∷ [])))))) }
+    ensures sequence { sequence chain (spot_of chain_inorder) (spot_of chain_inorder 0) three_kids
+        ≡ chain_order }
+    ensures values { run chain three_kids overflow chain_order
+        (numbers (0 ∷ (0 ∷ (0 ∷ (0 ∷ (0 ∷ (0 ∷ [])))))))
+        ≡ three_kids_values }
 {}
 
 /// A law: each row of the table of ordered reads, at one case or more, and that an input has no
@@ -62,7 +68,8 @@ pub fn a_chain_of_three()
 pub fn rows_of_ordered_reads()
     ensures ordered { AllByRecursion IsOrderedCase ordered_rows }
     ensures refused { AllByRecursion (λ x. IsOrderedCase x → ⊥) refused_rows }
-    ensures input { (place : Where) (w : RuleName) → Writes stack word (self_read word_iw) place w → ⊥ }
+    ensures input { (place : Where) (w : RuleName)
+        → Writes stack word (self_read word_iw) place w → ⊥ }
 {}
 
 /// A law: what steps of a column of two words read, which of them must come first, and the values
@@ -74,9 +81,9 @@ pub fn steps_of_two_words()
         ↔ ((j ≡ instance_of first_word box_y) ⊎ (j ≡ instance_of first_word box_h)) }
     ensures in_order { AllByRecursion (MustBe sizes_then_places) in_order }
     ensures in_no_order { AllByRecursion (IsFree sizes_then_places) in_no_order }
+    ensures legal { IsLegalOrder stack (spot_of sizes_then_places) two_words two_words_order }
     ensures values { run stack two_words overflow two_words_order
-        (numbers (0 ∷ (0 ∷ (0 ∷ (0 ∷ (0 ∷ (0 ∷ (0 ∷ (0 ∷ (0 ∷ (20 ∷ (10 ∷ (0 ∷ (0 ∷ (0 ∷ (0 ∷ (30 ∷ (15 ∷ []))))))))))))))))))
-        ≡ two_words_values }
+        two_words_inputs ≡ two_words_values }
 {}
 
 /// A law: passes beside each other may be done in either order; what reads comes last, and no step
@@ -86,4 +93,10 @@ pub fn legal_orders_of_an_empty_column()
     ensures y_first { IsLegalOrder stack (spot_of places_beside) empty_column y_first }
     ensures sheet_first { IsLegalOrder stack (spot_of places_beside) empty_column sheet_first → ⊥ }
     ensures without_y { IsLegalOrder stack (spot_of places_beside) empty_column without_y → ⊥ }
+{}
+
+/// A law: the worked tables solve, so they are the only ones.
+pub fn worked_tables_solve()
+    ensures two_words { SolvesList stack two_words overflow two_words_values }
+    ensures three_kids { SolvesList chain three_kids overflow three_kids_values }
 {}

@@ -1,3 +1,4 @@
+use Rattle.ftl_order.proofs.WorkedOrders.{two_words_legal}
 use Rattle.ftl_order.proofs.WorkedReads.{column_reads_heights, y_reads_before}
 use Rattle.ftl_order.proofs.worked.steps_of_two_words.Goals as goal
 
@@ -6,3 +7,6 @@ returns-clause-fold_reads c = column_reads_heights
 
 pub returns-clause-prev_reads : goal.returns-clause-prev_reads
 returns-clause-prev_reads c = y_reads_before
+
+pub returns-clause-legal : goal.returns-clause-legal
+returns-clause-legal c = two_words_legal
