@@ -3,10 +3,9 @@
 
 use ftl_edge::{StdSink, StdSource};
 use ftl_run::{Status, layout_top};
-use std::env;
-use std::io;
 use std::process::ExitCode;
 use std::rt::Env;
+use std::{env, io};
 
 /// The words after the program's name.
 fn words(rt: &(impl Env + AllocGlobal)) -> io::Result<Vec<String>> {
