@@ -1,5 +1,5 @@
 -- Any words and bytes have one answer.
-use Rattle.std.proofs.Common.{◌≡◌, ℕ, ◌<◌, ◌≤◌, Bool, true, false, cond, leb, List, [], ◌∷◌, ◌++◌, length, take, drop, Option, Some, None, IfSome, ◌⊎◌, inl, inr, refl, sym, ap, ◌∙◌, subst, arith}
+use Rattle.std.proofs.Common.{◌≡◌, ℕ, ◌<◌, ◌≤◌, Bool, true, false, List, [], ◌∷◌, length, Option, Some, None, IfSome, ◌⊎◌, inl, inr, refl, sym, ap, ◌∙◌, subst, arith}
 use Rattle.std.specs.Prelude.{codes}
 use Rattle.std.proofs.lemmas.Bool.{cases_lt}
 use Rattle.ftl_tree.specs.Scanning.{same_bytes}
@@ -8,13 +8,11 @@ use Rattle.ftl_run.proofs.PageDecided.{Decided, page_decided, same_bytes_of}
 use Rattle.ftl_model.specs.Values.{Value, overflow}
 use Rattle.ftl_model.specs.Tree.{Forest}
 use Rattle.ftl_model.specs.TreeOf.{IsTreeOf}
-use Rattle.ftl_model.specs.Table.{SolvesList, value_in}
-use Rattle.ftl_model.specs.Solves.{Instance, Solves}
+use Rattle.ftl_model.specs.Table.{SolvesList}
 use Rattle.ftl_model.specs.Stack.{stack}
-use Rattle.ftl_tree.specs.FirstForm.{IsPage, heading}
+use Rattle.ftl_tree.specs.FirstForm.{IsPage}
 use Rattle.ftl_tree.proofs.Documents.{document_is_tree, one_page}
-use Rattle.ftl_order.specs.OneTable.{ExactlyOneList}
-use Rattle.ftl_order.proofs.StackRank.{one_stack_list, one_stack_table}
+use Rattle.ftl_order.proofs.StackRank.{one_stack_list}
 use Rattle.ftl_run.specs.Headline.{OfAnswer, OneTable, IsAnswerStatus}
 use Rattle.ftl_run.specs.Answer.{Answer, IsAnswer, bad_words, too_long, not_built, boxes_of, refused, run_words, laid_out, HasOneAnswer}
 

@@ -1,18 +1,18 @@
 -- From what the layers below promise to the answer.
-use Rattle.std.proofs.Common.{◌≡◌, ℕ, ◌<◌, ◌≤◌, Bool, true, false, cond, eqb, List, [], ◌∷◌, ◌++◌, length, get_or, Option, Some, None, IfSome, IsTrue, ◌↔◌, ◌⊎◌, inl, inr, refl, sym, ap, ◌∙◌, subst, arith, map}
+use Rattle.std.proofs.Common.{◌≡◌, ℕ, ◌<◌, ◌≤◌, Bool, true, false, cond, eqb, List, [], ◌∷◌, length, get_or, Option, Some, None, IfSome, IsTrue, inl, inr, refl, sym, ap, ◌∙◌, subst, arith}
 use Rattle.std.specs.Prelude.{codes, String}
 use Rattle.std.specs.String.{string_bytes}
 use lib.Pointwise.{pointwise}
 use Rattle.ftl_model.specs.Values.{Value, overflow}
 use Rattle.ftl_model.specs.Tree.{Forest}
 use Rattle.ftl_model.specs.TreeOf.{IsTreeOf}
-use Rattle.ftl_model.specs.Table.{SolvesList, value_in}
+use Rattle.ftl_model.specs.Table.{value_in}
 use Rattle.ftl_model.specs.Boxes.{boxes, shows_overflow}
 use Rattle.ftl_model.specs.Solves.{Instance, Solves}
 use Rattle.ftl_model.specs.Stack.{stack}
 use Rattle.ftl_model.specs.StackNames.{stack_names}
 use Rattle.ftl_order.proofs.StackRank.{one_stack_list, one_stack_table}
-use Rattle.ftl_run.specs.Answer.{Answer, laid_out, run_words}
+use Rattle.ftl_run.specs.Answer.{Answer, run_words}
 use Rattle.ftl_run.specs.Headline.{texts, IsAnswerStatus}
 use Rattle.ftl_run.specs.Deciding.{LaysOut}
 use Rattle.ftl_run.proofs.Agreeing.{boxes-same, shows_overflow-same}

@@ -1,5 +1,5 @@
 -- The answer to words and bytes: a status and a text.
-use Rattle.std.specs.Prelude.{◌≡◌, ◌≢◌, ℕ, ◌<◌, ◌≤◌, ◌++◌, if◌then◌else◌, List, [], ◌∷◌, length, codes, map}
+use Rattle.std.specs.Prelude.{◌≡◌, ◌≢◌, ℕ, ◌<◌, ◌≤◌, ◌++◌, if◌then◌else◌, List, [], ◌∷◌, length, codes}
 use Rattle.ftl_model.specs.Values.{Value, overflow}
 use Rattle.ftl_model.specs.Tree.{Forest}
 use Rattle.ftl_model.specs.Table.{SolvesList, value_in}

@@ -1,5 +1,5 @@
 -- What was decided before anything is written.
-use Rattle.std.specs.Prelude.{◌≡◌, ℕ, List}
+use Rattle.std.specs.Prelude.{◌≡◌, List}
 use Rattle.ftl_model.specs.Values.{Value, overflow}
 use Rattle.ftl_model.specs.Tree.{Forest}
 use Rattle.ftl_model.specs.Table.{SolvesList}

@@ -1,8 +1,6 @@
 -- What the top call promises, over the answer to its words and to the bytes that its source had left.
-use Rattle.std.specs.Prelude.{◌≡◌, ◌≢◌, ℕ, ◌⊎◌, ◌++◌, List, [], Option, None, Some, codes, map, String}
+use Rattle.std.specs.Prelude.{◌≡◌, ◌≢◌, ℕ, ◌⊎◌, List, [], Option, None, Some, codes, map, String}
 use Rattle.std.specs.String.{string_bytes}
-use Rattle.std.specs.Io.KnownBytes.{Appends}
-use Rattle.ftl_edge.specs.Counts.{Rose}
 use Rattle.ftl_edge.specs.Sink.{AppendsFront}
 use Rattle.ftl_model.specs.Values.{overflow}
 use Rattle.ftl_model.specs.Tree.{Forest}

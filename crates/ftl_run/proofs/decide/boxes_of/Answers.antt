@@ -1,4 +1,4 @@
-use Rattle.std.proofs.Common.{◌≡◌, List, cond, ap, ◌∙◌, sym, subst}
+use Rattle.std.proofs.Common.{List, cond, ap, ◌∙◌, sym, subst}
 use Rattle.ftl_model.specs.Solves.{Solves}
 use Rattle.ftl_model.specs.Stack.{stack}
 use Rattle.ftl_stack.specs.declared.area.Area.{Area}

@@ -1,5 +1,5 @@
-use Rattle.std.proofs.Common.{◌≡◌, List, ℕ, true, false, sym, subst, ◌∙◌}
-use Rattle.ftl_run.specs.Answer.{Answer, IsAnswer, run_words, bad_words}
+use Rattle.std.proofs.Common.{sym, subst}
+use Rattle.ftl_run.specs.Answer.{Answer, IsAnswer, bad_words}
 use Rattle.ftl_run.specs.Headline.{texts}
 use Rattle.ftl_run.proofs.Deciding.{if_told_any}
 use Rattle.ftl_run.proofs.decide.decide.Goals as goal

@@ -1,4 +1,3 @@
-use Rattle.std.proofs.Common.{arith}
 use Rattle.ftl_run.proofs.Deciding.{one_word}
 use Rattle.ftl_run.proofs.decide.is_run.Goals as goal
 

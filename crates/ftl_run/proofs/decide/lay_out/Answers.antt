@@ -1,7 +1,6 @@
-use Rattle.std.proofs.Common.{◌≡◌, List, ℕ, sym, subst, ap, Err}
+use Rattle.std.proofs.Common.{◌≡◌, sym, subst, ap, Err}
 use Rattle.std.proofs.lemmas.Result.{IfOk-weaker}
 use Rattle.std.specs.Prelude.{codes}
-use Rattle.ftl_run.specs.declared.decide.Decided.{Decided}
 use Rattle.ftl_run.specs.Answer.{Answer, IsAnswer, run_words, refused, not_built, boxes_of}
 use Rattle.ftl_run.specs.Deciding.{LaysOut, answer_of}
 use Rattle.ftl_run.proofs.decide.lay_out.Goals as goal

@@ -1,4 +1,4 @@
-use Rattle.std.proofs.Common.{◌≡◌, sym, subst, ap, Err}
+use Rattle.std.proofs.Common.{sym, subst, ap, Err}
 use Rattle.ftl_run.specs.Answer.{Answer, IsAnswer, run_words, too_long}
 use Rattle.ftl_run.proofs.Deciding.{if_told}
 use Rattle.ftl_run.proofs.decide.read_and_lay_out.Goals as goal

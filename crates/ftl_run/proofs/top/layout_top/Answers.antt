@@ -1,9 +1,8 @@
-use Rattle.std.proofs.Common.{◌≡◌, ℕ, List, inl, inr, refl, subst, arith}
+use Rattle.std.proofs.Common.{ℕ, List, inl, refl, subst, arith}
 use Rattle.std.specs.Io.KnownBytes.{Appends}
 use Rattle.ftl_edge.specs.Sink.{AppendsFront}
-use Rattle.ftl_run.specs.Answer.{Answer}
 use Rattle.ftl_run.specs.Deciding.{answer_of}
-use Rattle.ftl_run.specs.Headline.{texts, OfAnswer, IsTrouble, FaultsHaveCauses}
+use Rattle.ftl_run.specs.Headline.{texts}
 use Rattle.ftl_run.proofs.AnswerLaws.{of_known, one_table_holds, not_a_write_fault}
 use Rattle.ftl_run.proofs.top.layout_top.Goals as goal
 
