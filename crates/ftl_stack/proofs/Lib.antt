@@ -2,4 +2,3 @@ pub mod Lines
 pub mod Placing
 pub mod Sizing
 pub mod Solved
-pub mod Walk

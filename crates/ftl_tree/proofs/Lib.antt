@@ -3,6 +3,7 @@ pub mod Digits
 pub mod Documents
 pub mod FlatRows
 pub mod Inputs
+pub mod InstanceOffsets
 pub mod KidsSteps
 pub mod RowShapes
 pub mod Runs
@@ -19,3 +20,4 @@ pub mod SpelledSmall
 pub mod SpelledSound
 pub mod SpelledSteps
 pub mod SpelledTree
+pub mod Walk

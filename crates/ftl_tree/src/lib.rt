@@ -3,6 +3,7 @@
 #![tactic(auto)]
 
 mod fault;
+mod kids;
 mod page;
 mod reader;
 mod rows;

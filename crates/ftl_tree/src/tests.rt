@@ -46,5 +46,14 @@ fn the_nodes_of_a_column_of_two_words(rt: HostRuntime) -> Result<(), Fail> {
     assert_eq!(rt; tree.subtree_size(0), 4);
     assert_eq!(rt; tree.subtree_size(1), 3);
     assert_eq!(rt; tree.subtree_size(2), 1);
+    assert_eq!(rt; tree.kid_count(0, 0), 1);
+    assert_eq!(rt; tree.kid_count(1, 0), 2);
+    assert_eq!(rt; tree.kid(0, 0, 0), 1);
+    assert_eq!(rt; tree.kid(1, 0, 1), 3);
+    assert_eq!(rt; tree.input(3, 5), 30);
+    assert_eq!(rt; tree.input(3, 6), 15);
+    assert_eq!(rt; tree.instance_count(), 17);
+    assert_eq!(rt; tree.instance(1, 4), 4);
+    assert_eq!(rt; tree.instance(3, 4), 14);
     Ok(())
 }

@@ -1,10 +1,12 @@
-ghost use Rattle.std.specs.Prelude.{◌≡◌, ◌<◌, ◌≤◌, length, sum_by, IfOk};
+ghost use Rattle.std.specs.Prelude.{◌≡◌, ◌<◌, ◌≤◌, length, sum_by, IfOk, Contains};
 ghost use Rattle.ftl_model.specs.Tree.{size};
 ghost use Rattle.ftl_model.specs.Path.{node_at, class_at, child_at, kid_at, kids_at, size_at, number_of, parent_of, inputs_at};
 ghost use Rattle.std.specs.Option.{option_map};
 ghost use Rattle.ftl_model.specs.TreeOf.{IsTreeOf};
 ghost use Rattle.ftl_model.specs.Stack.{stack};
 ghost use Rattle.ftl_model.specs.Values.{number};
+ghost use Rattle.ftl_model.specs.Solves.{attributes_of, instance_of};
+ghost use Rattle.ftl_model.specs.Table.{place_in, instance_count, instance_number};
 ghost use Rattle.ftl_tree.specs.Rows.{RowLists, row_at};
 ghost use Rattle.ftl_tree.specs.Flat.{AreRows, IsInputAt, tree_of, offsets_from, attribute_width, input_width};
 
@@ -121,10 +123,11 @@ pub struct Place {
 
 impl Tree {
     /// The row of a node.
-    fn row(&self, node: u32) -> Node
+    pub(crate) fn row(&self, node: u32) -> Node
         requires { node < size self.now }
         ensures row { result ≡ row_at self.now (node_at self.now node) }
         ensures is_tree { IsTreeOf stack self.now }
+        ensures large { size self.now ≤ 1048576 }
     {
         self.nodes[node as usize]
     }
@@ -190,5 +193,32 @@ impl Tree {
         let offsets = self.offsets[node as usize];
         let place = offsets.input as usize + (attr - FIRST_INPUT) as usize;
         i64::from(self.inputs[place])
+    }
+}
+
+/// The place of an attribute among those of its class.
+fn attribute_place(class: u32, attr: u32) -> u32
+    requires { Contains (attributes_of stack class) attr }
+    ensures { result ≡ place_in (attributes_of stack class) attr }
+{
+    if class == 0 { 0 } else { attr - 1 }
+}
+
+impl Tree {
+    /// How many attribute instances the tree has.
+    pub fn instance_count(&self) -> u32
+        ensures { result ≡ instance_count stack self.now }
+    {
+        self.instance_count
+    }
+
+    /// The number of an instance: by node, then by the number of the attribute.
+    pub fn instance(&self, node: u32, attr: u32) -> u32
+        requires node { node < size self.now }
+        requires attr { Contains (attributes_of stack (class_at self.now (node_at self.now node))) attr }
+        ensures { result ≡ instance_number stack self.now (instance_of (node_at self.now node) attr) }
+    {
+        let offsets = self.offsets[node as usize];
+        offsets.instance + attribute_place(self.class(node), attr)
     }
 }

@@ -16,3 +16,7 @@ returns-clause-row c =
 pub returns-clause-is_tree : goal.returns-clause-is_tree
 returns-clause-is_tree c =
     (kept (rows_inside c.self.inside) c.args.self.now c.self.invariant.rows c.self.view_is).is_tree
+
+pub returns-clause-large : goal.returns-clause-large
+returns-clause-large c =
+    (kept (rows_inside c.self.inside) c.args.self.now c.self.invariant.rows c.self.view_is).large

@@ -1,0 +1,10 @@
+use Rattle.std.proofs.Common.{◌≤◌, ◌+◌}
+use Rattle.ftl_model.specs.Tree.{size}
+use Rattle.ftl_model.specs.TreeOf.{IsTreeOf}
+use Rattle.ftl_model.specs.Stack.{stack}
+use Rattle.ftl_tree.proofs.Walk.{Passed}
+use Rattle.ftl_tree.proofs.tree.Tree.kid.Given as goal
+
+-- the kids so far were passed
+abbrev pub invariant-loop-passed : goal.invariant-loop-passed
+invariant-loop-passed l = Passed l.self l.node l._passed l.kid
