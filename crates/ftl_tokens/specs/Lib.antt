@@ -1,0 +1,6 @@
+pub mod Kinds
+pub mod Piece
+pub mod Run
+pub mod Scan
+pub mod Scans
+pub mod Tokenized
