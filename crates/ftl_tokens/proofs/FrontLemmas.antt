@@ -28,7 +28,7 @@ unfolding greatest
 greatest-suc test m passes = cond-true _ _ _ passes
 
 -- within a run each element passes, and past it one does not
-list_all-run : (p : ℕ → Bool) (n : ℕ) (xs : List ℕ) → n ≤ prefix_len p xs → list_all p (take n xs) ≡ true
+pub list_all-run : (p : ℕ → Bool) (n : ℕ) (xs : List ℕ) → n ≤ prefix_len p xs → list_all p (take n xs) ≡ true
 list_all-run p zero xs within = refl
 list_all-run p (suc n) [] within = refl
 list_all-run p (suc n) (x ∷ xs) within =
@@ -156,7 +156,7 @@ past_mark c cs no_word no_digit zero past within = absurd (omega arith)
 past_mark c cs no_word no_digit (suc k) past within =
     ap is_some (other_kind c (take k cs) no_word no_digit ∙ kind_of_mark-long (c ∷ take k cs) (omega (arith, length-take-le k cs (omega arith))))
 
-none-from_is_some : {A : Type 0} → (o : Option A) → is_some o ≡ false → o ≡ None
+pub none-from_is_some : {A : Type 0} → (o : Option A) → is_some o ≡ false → o ≡ None
 none-from_is_some None none = refl
 none-from_is_some (Some x) none = absurd (false≢true (sym none))
 

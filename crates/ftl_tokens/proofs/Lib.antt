@@ -4,4 +4,5 @@ pub mod NumberLemmas
 pub mod PieceLemmas
 pub mod RunLemmas
 pub mod ScanLemmas
+pub mod ScansLemmas
 pub mod TextLemmas

@@ -34,7 +34,7 @@ scan_from-skip (suc n) at (c ∷ cs) within =
     ∙ ap (λ place. scan_from place 0 (drop n cs)) (omega (arith, byte_length-cons c (take n cs)))
 
 -- what stands after a front of n characters
-scan_after : (at c n len : ℕ) (cs : List ℕ) → Spans (c ∷ cs) n len → scan_from (at + len_utf8 c) (n - 1) cs ≡ scan_from (at + len) 0 (drop n (c ∷ cs))
+pub scan_after : (at c n len : ℕ) (cs : List ℕ) → Spans (c ∷ cs) n len → scan_from (at + len_utf8 c) (n - 1) cs ≡ scan_from (at + len) 0 (drop n (c ∷ cs))
 scan_after at c zero len cs spans = absurd (omega (arith, spans.some))
 scan_after at c (suc n) len cs spans =
     let one : suc n - 1 ≡ n = omega arith in

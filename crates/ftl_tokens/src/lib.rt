@@ -16,11 +16,10 @@ mod word;
 
 pub use fault::TokenFault;
 pub use kind::{Kind, Token};
+pub use laws::law_of_scan;
 pub use name::Name;
 pub use scan::tokens;
 pub use scanned::Scanned;
-
-
 
 #[cfg(test)]
 mod tests;
