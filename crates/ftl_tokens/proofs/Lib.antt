@@ -6,3 +6,4 @@ pub mod RunLemmas
 pub mod ScanLemmas
 pub mod ScansLemmas
 pub mod TextLemmas
+pub mod TokenLemmas

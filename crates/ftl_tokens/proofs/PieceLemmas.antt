@@ -83,7 +83,7 @@ word_piece_is text kind len utf8 word len_is kind_is =
     )
 
 -- digits are their own UTF-8
-digits_are_bytes : (ds : List ℕ) → list_all is_ascii_digit ds ≡ true → encode_utf8_all ds ≡ ds
+pub digits_are_bytes : (ds : List ℕ) → list_all is_ascii_digit ds ≡ true → encode_utf8_all ds ≡ ds
 digits_are_bytes [] digits = refl
 digits_are_bytes (d ∷ ds) digits =
     let parts = and_parts (is_ascii_digit d) (list_all is_ascii_digit ds) digits in
