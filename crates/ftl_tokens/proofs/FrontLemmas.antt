@@ -172,9 +172,9 @@ front_of_one c cs no_word no_digit one =
     ⊎_elim
     (λ is_mark. ap (token_front (c ∷ cs)) (one ∙ cond-true _ _ _ is_mark) ∙ ap (λ found. token_if found 1) kind)
     (λ is_none.
-        ap (token_front (c ∷ cs)) (one ∙ cond-false _ _ _ is_none)
-        ∙ ap (λ found. token_if found 0) kind_of-nil
-        ∙ ap (λ found. token_if found 1) (sym (none-from_is_some (kind_of (c ∷ [])) is_none) ∙ kind))
+    ap (token_front (c ∷ cs)) (one ∙ cond-false _ _ _ is_none)
+    ∙ ap (λ found. token_if found 0) kind_of-nil
+    ∙ ap (λ found. token_if found 1) (sym (none-from_is_some (kind_of (c ∷ [])) is_none) ∙ kind))
     (cases_Bool (is_some (kind_of (c ∷ []))))
 
 -- one character alone

@@ -52,10 +52,10 @@ look_up-head c cs [] apart begins = refl
 look_up-head c cs (entry ∷ entries) apart begins =
     let parts = and_parts _ _ apart in
     let differs : bytes_eq (c ∷ cs) entry.0 ≡ false =
-      false_from_ne_true _
-      (λ same.
-          let heads : c ≡ get_or entry.0 0 32 = ap (λ (l : List ℕ). get_or l 0 32) ((bytes_eq-Decides (c ∷ cs) entry.0).0 same) in
-          false≢true (sym (not-true _ parts.0) ∙ ap begins_text (sym heads) ∙ begins)) in
+    false_from_ne_true _
+    (λ same.
+    let heads : c ≡ get_or entry.0 0 32 = ap (λ (l : List ℕ). get_or l 0 32) ((bytes_eq-Decides (c ∷ cs) entry.0).0 same) in
+    false≢true (sym (not-true _ parts.0) ∙ ap begins_text (sym heads) ∙ begins)) in
     cond-false _ _ _ differs ∙ look_up-head c cs entries parts.1 begins
 
 pub kind_of_mark-text : (c : ℕ) (cs : List ℕ) → begins_text c ≡ true → kind_of_mark (c ∷ cs) ≡ None
@@ -72,8 +72,8 @@ look_up-long n text [] short long = refl
 look_up-long n text (entry ∷ entries) short long =
     let parts = and_parts _ _ short in
     let differs : bytes_eq text entry.0 ≡ false =
-      false_from_ne_true _
-      (λ same. absurd (omega (arith, ap length ((bytes_eq-Decides text entry.0).0 same), leb-true (length entry.0) n parts.0))) in
+    false_from_ne_true _
+    (λ same. absurd (omega (arith, ap length ((bytes_eq-Decides text entry.0).0 same), leb-true (length entry.0) n parts.0))) in
     cond-false _ _ _ differs ∙ look_up-long n text entries parts.1 long
 
 pub kind_of_mark-long : (text : List ℕ) → 2 < length text → kind_of_mark text ≡ None
@@ -93,15 +93,15 @@ look_up-encodes cs (entry ∷ entries) ascii =
     let rest = look_up-encodes cs entries parts.1 in
     ⊎_elim
     (λ same.
-        let text = (bytes_eq-Decides cs entry.0).0 same in
-        cond-true _ _ _ ((bytes_eq-Decides (encode_utf8_all cs) entry.0).1 (ap encode_utf8_all text ∙ own)) ∙ sym (cond-true _ _ _ same))
+    let text = (bytes_eq-Decides cs entry.0).0 same in
+    cond-true _ _ _ ((bytes_eq-Decides (encode_utf8_all cs) entry.0).1 (ap encode_utf8_all text ∙ own)) ∙ sym (cond-true _ _ _ same))
     (λ differs.
-        let apart : bytes_eq (encode_utf8_all cs) entry.0 ≡ false =
-          false_from_ne_true _
-          (λ same.
-              let text = encodes_same cs entry.0 ((bytes_eq-Decides (encode_utf8_all cs) entry.0).0 same ∙ sym own) in
-              false≢true (sym differs ∙ (bytes_eq-Decides cs entry.0).1 text)) in
-        cond-false _ _ _ apart ∙ rest ∙ sym (cond-false _ _ _ differs))
+    let apart : bytes_eq (encode_utf8_all cs) entry.0 ≡ false =
+    false_from_ne_true _
+    (λ same.
+    let text = encodes_same cs entry.0 ((bytes_eq-Decides (encode_utf8_all cs) entry.0).0 same ∙ sym own) in
+    false≢true (sym differs ∙ (bytes_eq-Decides cs entry.0).1 text)) in
+    cond-false _ _ _ apart ∙ rest ∙ sym (cond-false _ _ _ differs))
     (cases_Bool (bytes_eq cs entry.0))
 
 reserved_words_are_ascii : are_ascii reserved_words ≡ true

@@ -45,11 +45,11 @@ look_up-other text (entry ∷ entries) other =
     ⊎_elim
     (λ number. absurd (false≢true (sym (cond-true (is_number_kind entry.1) false (have_no_number entries) number) ∙ other)))
     (λ this.
-        let rest = look_up-other text entries (sym (cond-false (is_number_kind entry.1) false (have_no_number entries) this) ∙ other) in
-        ⊎_elim
-        (λ same. subst is_other (sym (cond-true _ _ _ same)) this)
-        (λ differs. subst is_other (sym (cond-false _ _ _ differs)) rest)
-        (cases_Bool (bytes_eq text entry.0)))
+    let rest = look_up-other text entries (sym (cond-false (is_number_kind entry.1) false (have_no_number entries) this) ∙ other) in
+    ⊎_elim
+    (λ same. subst is_other (sym (cond-true _ _ _ same)) this)
+    (λ differs. subst is_other (sym (cond-false _ _ _ differs)) rest)
+    (cases_Bool (bytes_eq text entry.0)))
     (cases_Bool (is_number_kind entry.1))
 
 other_name : (found : Option Kind) → is_other found → is_number_kind (unwrap_or found Name) ≡ false

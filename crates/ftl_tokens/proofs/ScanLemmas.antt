@@ -55,9 +55,9 @@ gap_step at len (c ∷ cs) (gap n) front is = record {
   count = n;
   spans = is;
   scans =
-    ap (λ f. scan_front at (c ∷ cs) f (λ k. scan_from (at + len_utf8 c) (k - 1) cs)) front
-    ∙ scan_after at c n len cs is
-    ∙ sym (followed_by-nil _);
+      ap (λ f. scan_front at (c ∷ cs) f (λ k. scan_from (at + len_utf8 c) (k - 1) cs)) front
+      ∙ scan_after at c n len cs is
+      ∙ sym (followed_by-nil _);
 }
 gap_step at len cs (token kind n) front is = absurd is
 gap_step at len cs nothing front is = absurd is
@@ -69,11 +69,11 @@ token_step at len kind (c ∷ cs) (token found n) front is = record {
   count = n;
   spans = is.2;
   scans =
-    ap (λ f. scan_front at (c ∷ cs) f (λ k. scan_from (at + len_utf8 c) (k - 1) cs)) front
-    ∙ cond-false _ _ _ is.1
-    ∙ ap (λ r. followed_by (record { kind = found; start = at; end = at + byte_length (take n (c ∷ cs)) } ∷ []) r) (scan_after at c n len cs is.2)
-    ∙ ap (λ k. followed_by (record { kind = k; start = at; end = at + byte_length (take n (c ∷ cs)) } ∷ []) (scan_from (at + len) 0 (drop n (c ∷ cs)))) (sym is.0)
-    ∙ ap (λ e. followed_by (record { kind = kind; start = at; end = at + e } ∷ []) (scan_from (at + len) 0 (drop n (c ∷ cs)))) (sym is.2.bytes);
+      ap (λ f. scan_front at (c ∷ cs) f (λ k. scan_from (at + len_utf8 c) (k - 1) cs)) front
+      ∙ cond-false _ _ _ is.1
+      ∙ ap (λ r. followed_by (record { kind = found; start = at; end = at + byte_length (take n (c ∷ cs)) } ∷ []) r) (scan_after at c n len cs is.2)
+      ∙ ap (λ k. followed_by (record { kind = k; start = at; end = at + byte_length (take n (c ∷ cs)) } ∷ []) (scan_from (at + len) 0 (drop n (c ∷ cs)))) (sym is.0)
+      ∙ ap (λ e. followed_by (record { kind = kind; start = at; end = at + e } ∷ []) (scan_from (at + len) 0 (drop n (c ∷ cs)))) (sym is.2.bytes);
 }
 token_step at len kind cs (gap n) front is = absurd is
 token_step at len kind cs nothing front is = absurd is
@@ -118,10 +118,10 @@ module _ {text : List ℕ} {tokens : List Token} {at : ℕ} {rest : List ℕ} (r
         utf8 = subst (λ k. IsUtf8 (drop k rest)) same cut.rest_utf8;
         left = omega (arith, within, read.left, length-drop len rest);
         ahead =
-          read.ahead
-          ∙ ap (followed_by tokens) goes.scans
-          ∙ followed_by-followed_by tokens more _
-          ∙ ap (λ cs. followed_by (tokens ++ more) (scan_from (at + len) 0 cs)) (sym (subst (λ k. chars (drop k rest) ≡ drop goes.count (chars rest)) same cut.rest_chars));
+            read.ahead
+            ∙ ap (followed_by tokens) goes.scans
+            ∙ followed_by-followed_by tokens more _
+            ∙ ap (λ cs. followed_by (tokens ++ more) (scan_from (at + len) 0 cs)) (sym (subst (λ k. chars (drop k rest) ≡ drop goes.count (chars rest)) same cut.rest_chars));
       }
 
   pub has_read_all : length rest ≡ 0 → scan text ≡ Ok tokens
@@ -138,9 +138,9 @@ has_char text utf8 some =
     let cs = chars text in
     let bytes = ap length (encodes-chars text utf8) in
     has_char_in cs (omega (arith, bytes)) where
-  has_char_in : (cs : List ℕ) → 0 < byte_length cs → 0 < length cs
-  has_char_in [] some = absurd (omega arith)
-  has_char_in (c ∷ cs) some = omega arith
+      has_char_in : (cs : List ℕ) → 0 < byte_length cs → 0 < length cs
+      has_char_in [] some = absurd (omega arith)
+      has_char_in (c ∷ cs) some = omega arith
 
 -- one turn: some tokens more, of a front of len bytes
 pub record Advances (tokens next : List Token) (at len : ℕ) (rest : List ℕ) : Type 0 where

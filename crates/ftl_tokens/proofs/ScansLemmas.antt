@@ -35,10 +35,10 @@ greatest-above test (suc n) k above within =
     ⊎_elim
     (λ passes. absurd (omega (arith, cond-true (test (suc n)) (suc n) (greatest test n) passes)))
     (λ fails.
-        ⊎_elim
-        (λ below. greatest-above test n k (omega (arith, cond-false (test (suc n)) (suc n) (greatest test n) fails)) (omega arith))
-        (λ at. let same : k ≡ suc n = omega arith in ap test same ∙ fails)
-        (cases_lt k (suc n)))
+    ⊎_elim
+    (λ below. greatest-above test n k (omega (arith, cond-false (test (suc n)) (suc n) (greatest test n) fails)) (omega arith))
+    (λ at. let same : k ≡ suc n = omega arith in ap test same ∙ fails)
+    (cases_lt k (suc n)))
     (cases_Bool (test (suc n)))
 
 greatest-passes : (test : ℕ → Bool) (n : ℕ) → 0 < greatest test n → test (greatest test n) ≡ true
@@ -48,8 +48,8 @@ greatest-passes test (suc n) some =
     ⊎_elim
     (λ passes. ap test (cond-true (test (suc n)) (suc n) (greatest test n) passes) ∙ passes)
     (λ fails.
-        let lower = cond-false (test (suc n)) (suc n) (greatest test n) fails in
-        ap test lower ∙ greatest-passes test n (omega (arith, lower)))
+    let lower = cond-false (test (suc n)) (suc n) (greatest test n) fails in
+    ap test lower ∙ greatest-passes test n (omega (arith, lower)))
     (cases_Bool (test (suc n)))
 
 -- a text that is longer than the longest token is none
@@ -80,8 +80,8 @@ line_end [] = tt
 line_end (c ∷ cs) =
     ⊎_elim
     (λ stays.
-        let more : prefix_len stays_in_line (c ∷ cs) ≡ suc (prefix_len stays_in_line cs) = omega (arith, cond-true (stays_in_line c) (1 + prefix_len stays_in_line cs) 0 stays) in
-        subst (λ n. IsLineEnd (drop n (c ∷ cs))) (sym more) (line_end cs))
+    let more : prefix_len stays_in_line (c ∷ cs) ≡ suc (prefix_len stays_in_line cs) = omega (arith, cond-true (stays_in_line c) (1 + prefix_len stays_in_line cs) 0 stays) in
+    subst (λ n. IsLineEnd (drop n (c ∷ cs))) (sym more) (line_end cs))
     (λ ends. subst (λ n. IsLineEnd (drop n (c ∷ cs))) (sym (cond-false (stays_in_line c) (1 + prefix_len stays_in_line cs) 0 ends)) (eqb-true c 10 (not-false _ ends)))
     (cases_Bool (stays_in_line c))
 
@@ -95,32 +95,33 @@ token_facts c cs None no_white no_hash kind = record {
   no_white_space = no_white;
   no_comment = no_hash;
   no_token = λ text rest split.
-    let n = longest_token (c ∷ cs) in
-    let front : take (length text) (c ∷ cs) ≡ text = ap (take (length text)) split ∙ take_at text rest (length text) refl in
-    ⊎_elim
-    (λ past. past_longest (c ∷ cs) text rest split past)
-    (λ within.
-        ⊎_elim
-        (λ some. absurd (false≢true (ap is_some (sym kind) ∙ longest_token-is (c ∷ cs) some)))
-        (λ none. ap kind_of (nil_from_length text (omega arith)) ∙ kind_of-nil)
-        (cases_lt 0 n))
-    (cases_lt n (length text));
+      let n = longest_token (c ∷ cs) in
+      let front : take (length text) (c ∷ cs) ≡ text = ap (take (length text)) split ∙ take_at text rest (length text) refl in
+      ⊎_elim
+      (λ past. past_longest (c ∷ cs) text rest split past)
+      (λ within.
+      ⊎_elim
+      (λ some. absurd (false≢true (ap is_some (sym kind) ∙ longest_token-is (c ∷ cs) some)))
+      (λ none. ap kind_of (nil_from_length text (omega arith)) ∙ kind_of-nil)
+      (cases_lt 0 n))
+      (cases_lt n (length text));
 }
 token_facts c cs (Some kind) no_white no_hash found =
     let n = longest_token (c ∷ cs) in
-    let fits = longest_token-le (c ∷ cs) in
-    (record {
-      is_token = found;
-      longest = λ more after split some.
-        past_longest (c ∷ cs) (take n (c ∷ cs) ++ more) after
-        (sym (take-append-drop n (c ∷ cs)) ∙ ap (λ l. take n (c ∷ cs) ++ l) split ∙ sym (append_assoc (take n (c ∷ cs)) more after))
-        (omega (arith, length-append (take n (c ∷ cs)) more, length-take-le n (c ∷ cs) fits));
-    },
-    ⊎_elim
-    (λ some. some)
-    (λ none. let zero_long : n ≡ 0 = omega arith in let no_kind = sym kind_of-nil ∙ ap (λ k. kind_of (take k (c ∷ cs))) (sym zero_long) ∙ found in absurd (cc no_kind))
-    (cases_lt 0 n),
-    fits)
+    let fits = longest_token-le (c ∷ cs) in (
+      record {
+        is_token = found;
+        longest = λ more after split some.
+            past_longest (c ∷ cs) (take n (c ∷ cs) ++ more) after
+            (sym (take-append-drop n (c ∷ cs)) ∙ ap (λ l. take n (c ∷ cs) ++ l) split ∙ sym (append_assoc (take n (c ∷ cs)) more after))
+            (omega (arith, length-append (take n (c ∷ cs)) more, length-take-le n (c ∷ cs) fits));
+      },
+      ⊎_elim
+          (λ some. some)
+          (λ none. let zero_long : n ≡ 0 = omega arith in let no_kind = sym kind_of-nil ∙ ap (λ k. kind_of (take k (c ∷ cs))) (sym zero_long) ∙ found in absurd (cc no_kind))
+          (cases_lt 0 n),
+      fits,
+    )
 
 front_facts : (cs : List ℕ) → FrontFacts cs (front_of cs)
 unfolding front_of
@@ -129,17 +130,17 @@ front_facts (c ∷ cs) =
     ⊎_elim
     (λ white. subst (FrontFacts (c ∷ cs)) (sym (cond-true _ _ _ white)) (white_space white, omega arith, omega arith))
     (λ no_white.
-        ⊎_elim
-        (λ hash.
-            let is_hash = eqb-true c 35 hash in
-            let start = cond-true (stays_in_line c) (1 + prefix_len stays_in_line cs) 0 (ap stays_in_line is_hash) in
-            let more : prefix_len stays_in_line (c ∷ cs) ≡ suc (prefix_len stays_in_line cs) = omega (arith, start) in
-            subst (FrontFacts (c ∷ cs)) (sym (cond-false _ _ _ no_white ∙ cond-true _ _ _ hash ∙ ap gap more))
-            (subst (λ h. FrontFacts (h ∷ cs) (gap (suc (prefix_len stays_in_line cs)))) (sym is_hash) (comment_facts cs)))
-        (λ no_hash.
-            subst (FrontFacts (c ∷ cs)) (sym (cond-false _ _ _ no_white ∙ cond-false _ _ _ no_hash))
-            (token_facts c cs (kind_of (take (longest_token (c ∷ cs)) (c ∷ cs))) no_white (eqb-false c 35 no_hash) refl))
-        (cases_Bool (eqb c 35)))
+    ⊎_elim
+    (λ hash.
+    let is_hash = eqb-true c 35 hash in
+    let start = cond-true (stays_in_line c) (1 + prefix_len stays_in_line cs) 0 (ap stays_in_line is_hash) in
+    let more : prefix_len stays_in_line (c ∷ cs) ≡ suc (prefix_len stays_in_line cs) = omega (arith, start) in
+    subst (FrontFacts (c ∷ cs)) (sym (cond-false _ _ _ no_white ∙ cond-true _ _ _ hash ∙ ap gap more))
+    (subst (λ h. FrontFacts (h ∷ cs) (gap (suc (prefix_len stays_in_line cs)))) (sym is_hash) (comment_facts cs)))
+    (λ no_hash.
+    subst (FrontFacts (c ∷ cs)) (sym (cond-false _ _ _ no_white ∙ cond-false _ _ _ no_hash))
+    (token_facts c cs (kind_of (take (longest_token (c ∷ cs)) (c ∷ cs))) no_white (eqb-false c 35 no_hash) refl))
+    (cases_Bool (eqb c 35)))
     (cases_Bool (is_white_space c))
 
 -- a kind with a limit is that of numbers
@@ -162,15 +163,15 @@ scans_step at c cs (token kind n) front facts rest =
     let this : List Token = record { kind = kind; start = at; end = at + byte_length (take n all) } ∷ [] in
     ⊎_elim
     (λ large.
-        let is_number = large_is_number kind (take n all) large in
-        let stop : scan_from at 0 all ≡ Err (NumberTooLarge at) = step ∙ cond-true _ _ _ large in
-        subst (Scans at all) (sym stop)
-        (subst (λ l. Scans at l (Err (NumberTooLarge at))) (take-append-drop n all)
-        (large_number (subst (λ k. IsLongestToken k (take n all) (drop n all)) is_number facts.0) (subst (λ k. is_too_large k (take n all) ≡ true) is_number large))))
+    let is_number = large_is_number kind (take n all) large in
+    let stop : scan_from at 0 all ≡ Err (NumberTooLarge at) = step ∙ cond-true _ _ _ large in
+    subst (Scans at all) (sym stop)
+    (subst (λ l. Scans at l (Err (NumberTooLarge at))) (take-append-drop n all)
+    (large_number (subst (λ k. IsLongestToken k (take n all) (drop n all)) is_number facts.0) (subst (λ k. is_too_large k (take n all) ≡ true) is_number large))))
     (λ small.
-        let go : scan_from at 0 all ≡ followed_by this (scan_from (at + byte_length (take n all)) 0 (drop n all)) = step ∙ cond-false _ _ _ small ∙ ap (followed_by this) (scan_after at c n (byte_length (take n all)) cs spans) in
-        subst (Scans at all) (sym go)
-        (subst (λ l. Scans at l (followed_by this (scan_from (at + byte_length (take n all)) 0 (drop n all)))) (take-append-drop n all) (past_token facts.0 small (rest n facts.1 facts.2))))
+    let go : scan_from at 0 all ≡ followed_by this (scan_from (at + byte_length (take n all)) 0 (drop n all)) = step ∙ cond-false _ _ _ small ∙ ap (followed_by this) (scan_after at c n (byte_length (take n all)) cs spans) in
+    subst (Scans at all) (sym go)
+    (subst (λ l. Scans at l (followed_by this (scan_from (at + byte_length (take n all)) 0 (drop n all)))) (take-append-drop n all) (past_token facts.0 small (rest n facts.1 facts.2))))
     (cases_Bool (is_too_large kind (take n all)))
 scans_step at c cs nothing front facts rest =
     let stop : scan_from at 0 (c ∷ cs) ≡ Err (BadChar at) = ap (λ f. scan_front at (c ∷ cs) f (λ k. scan_from (at + len_utf8 c) (k - 1) cs)) front in

@@ -51,13 +51,13 @@ number_digits text kind =
     ⊎_elim
     (λ word. absurd (cases_apart (kind_of_word text) (cc (kind, kind_of-word text word)) (is_too_large-word text (57 ∷ 57 ∷ 57 ∷ 57 ∷ 57 ∷ 57 ∷ 57 ∷ 57 ∷ 57 ∷ 57 ∷ []))))
     (λ no_word.
-        ⊎_elim
-        (λ number. number)
-        (λ no_number. absurd (false≢true (sym (is_too_large-mark text (57 ∷ 57 ∷ 57 ∷ 57 ∷ 57 ∷ 57 ∷ 57 ∷ 57 ∷ 57 ∷ 57 ∷ []) Number (sym (kind_of-mark text no_word no_number) ∙ kind)))))
-        (cases_Bool (is_number text)))
+    ⊎_elim
+    (λ number. number)
+    (λ no_number. absurd (false≢true (sym (is_too_large-mark text (57 ∷ 57 ∷ 57 ∷ 57 ∷ 57 ∷ 57 ∷ 57 ∷ 57 ∷ 57 ∷ 57 ∷ []) Number (sym (kind_of-mark text no_word no_number) ∙ kind)))))
+    (cases_Bool (is_number text)))
     (cases_Bool (is_word text)) where
-  cases_apart : (kind : Kind) → kind ≡ Number → is_too_large kind (57 ∷ 57 ∷ 57 ∷ 57 ∷ 57 ∷ 57 ∷ 57 ∷ 57 ∷ 57 ∷ 57 ∷ []) ≡ false → ⊥
-  cases_apart kind is small = false≢true (sym small ∙ ap (λ k. is_too_large k (57 ∷ 57 ∷ 57 ∷ 57 ∷ 57 ∷ 57 ∷ 57 ∷ 57 ∷ 57 ∷ 57 ∷ [])) is)
+      cases_apart : (kind : Kind) → kind ≡ Number → is_too_large kind (57 ∷ 57 ∷ 57 ∷ 57 ∷ 57 ∷ 57 ∷ 57 ∷ 57 ∷ 57 ∷ 57 ∷ []) ≡ false → ⊥
+      cases_apart kind is small = false≢true (sym small ∙ ap (λ k. is_too_large k (57 ∷ 57 ∷ 57 ∷ 57 ∷ 57 ∷ 57 ∷ 57 ∷ 57 ∷ 57 ∷ 57 ∷ [])) is)
 
 -- the limit is that of the bytes as of the characters
 small_bytes : (kind : Kind) (text : List ℕ) → kind_of text ≡ Some kind → is_too_large kind text ≡ false → is_too_large kind (encode_utf8_all text) ≡ false

@@ -9,5 +9,4 @@ ghost use Rattle.ftl_tokens.specs.Scans.{Scans};
 /// none of them begins or a number is too large.
 pub fn law_of_scan()
     ensures { (text : List ℕ) → Scans 0 (chars text) (scan text) }
-{
-}
+{}

@@ -16,14 +16,14 @@ loop-rest-init c = record {
 pub overflow_add-at : goal.overflow_add-at
 overflow_add-at c =
     let turn : Advances c.loop-rest.list.items (c.loop-rest.list.items ++ (record { kind = c.in-Token.kind; start = c.loop-rest.at; end = c.loop-rest.at + c.in-Token.len } ∷ [])) c.loop-rest.at c.in-Token.len c.loop-rest.rest.now =
-      token_advances _ _ _ _ c.in-Token.len c.in-Token.kind c.loop-rest.rest.now c.in-Token.ensures refl refl
+    token_advances _ _ _ _ c.in-Token.len c.in-Token.kind c.loop-rest.rest.now c.in-Token.ensures refl refl
     in
     omega (arith, advanced_within c.loop-rest.invariant.read turn, c.requires)
 
 pub overflow_cast-at-in-Token : goal.overflow_cast-at-in-Token
 overflow_cast-at-in-Token c =
     let turn : Advances c.loop-rest.list.items (c.loop-rest.list.items ++ (record { kind = c.in-Token.kind; start = c.loop-rest.at; end = c.loop-rest.at + c.in-Token.len } ∷ [])) c.loop-rest.at c.in-Token.len c.loop-rest.rest.now =
-      token_advances _ _ _ _ c.in-Token.len c.in-Token.kind c.loop-rest.rest.now c.in-Token.ensures refl refl
+    token_advances _ _ _ _ c.in-Token.len c.in-Token.kind c.loop-rest.rest.now c.in-Token.ensures refl refl
     in
     omega (arith, advanced_within c.loop-rest.invariant.read turn, c.requires)
 
@@ -41,10 +41,10 @@ returns-in-Nothing c =
 pub overflow_add-at-in-loop-rest : goal.overflow_add-at-in-loop-rest
 overflow_add-at-in-loop-rest c =
     let turn : Advances c.loop-rest.list.items c.match-piece_of.list.items c.loop-rest.at c.match-piece_of.len c.loop-rest.rest.now =
-      elim c.match-piece_of.branch [
-        in-Gap w ↦ gap_advances _ _ _ _ w.in-Gap.len c.loop-rest.rest.now w.in-Gap.ensures w.len-is (ap (λ l. l.items) w.list-is)
+    elim c.match-piece_of.branch [
+      | in-Gap w ↦ gap_advances _ _ _ _ w.in-Gap.len c.loop-rest.rest.now w.in-Gap.ensures w.len-is (ap (λ l. l.items) w.list-is)
       | in-Token+in_ok-push-in-Token w ↦ token_advances _ _ _ _ w.in-Token.len w.in-Token.kind c.loop-rest.rest.now w.in-Token.ensures w.len-is (ap (λ l. l.items) w.list-is ∙ w.in_ok-push-in-Token.ensures.items)
-      ]
+    ]
     in
     omega (arith, advanced_within c.loop-rest.invariant.read turn, c.requires)
 
@@ -52,30 +52,30 @@ overflow_add-at-in-loop-rest c =
 pub range_from-rest-requires : goal.range_from-rest-requires
 range_from-rest-requires c =
     let turn : Advances c.loop-rest.list.items c.match-piece_of.list.items c.loop-rest.at c.match-piece_of.len c.loop-rest.rest.now =
-      elim c.match-piece_of.branch [
-        in-Gap w ↦ gap_advances _ _ _ _ w.in-Gap.len c.loop-rest.rest.now w.in-Gap.ensures w.len-is (ap (λ l. l.items) w.list-is)
+    elim c.match-piece_of.branch [
+      | in-Gap w ↦ gap_advances _ _ _ _ w.in-Gap.len c.loop-rest.rest.now w.in-Gap.ensures w.len-is (ap (λ l. l.items) w.list-is)
       | in-Token+in_ok-push-in-Token w ↦ token_advances _ _ _ _ w.in-Token.len w.in-Token.kind c.loop-rest.rest.now w.in-Token.ensures w.len-is (ap (λ l. l.items) w.list-is ∙ w.in_ok-push-in-Token.ensures.items)
-      ]
+    ]
     in
     λ _. advanced_boundary c.loop-rest.invariant.read turn
 
 pub loop-rest-smaller : goal.loop-rest-smaller
 loop-rest-smaller c =
     let turn : Advances c.loop-rest.list.items c.match-piece_of.list.items c.loop-rest.at c.match-piece_of.len c.loop-rest.rest.now =
-      elim c.match-piece_of.branch [
-        in-Gap w ↦ gap_advances _ _ _ _ w.in-Gap.len c.loop-rest.rest.now w.in-Gap.ensures w.len-is (ap (λ l. l.items) w.list-is)
+    elim c.match-piece_of.branch [
+      | in-Gap w ↦ gap_advances _ _ _ _ w.in-Gap.len c.loop-rest.rest.now w.in-Gap.ensures w.len-is (ap (λ l. l.items) w.list-is)
       | in-Token+in_ok-push-in-Token w ↦ token_advances _ _ _ _ w.in-Token.len w.in-Token.kind c.loop-rest.rest.now w.in-Token.ensures w.len-is (ap (λ l. l.items) w.list-is ∙ w.in_ok-push-in-Token.ensures.items)
-      ]
+    ]
     in
     omega (arith, c.range_from-rest.ensures.len, advanced_some c.loop-rest.invariant.read turn, (advanced_boundary c.loop-rest.invariant.read turn).0)
 
 pub loop-rest-preserved : goal.loop-rest-preserved
 loop-rest-preserved c =
     let turn : Advances c.loop-rest.list.items c.match-piece_of.list.items c.loop-rest.at c.match-piece_of.len c.loop-rest.rest.now =
-      elim c.match-piece_of.branch [
-        in-Gap w ↦ gap_advances _ _ _ _ w.in-Gap.len c.loop-rest.rest.now w.in-Gap.ensures w.len-is (ap (λ l. l.items) w.list-is)
+    elim c.match-piece_of.branch [
+      | in-Gap w ↦ gap_advances _ _ _ _ w.in-Gap.len c.loop-rest.rest.now w.in-Gap.ensures w.len-is (ap (λ l. l.items) w.list-is)
       | in-Token+in_ok-push-in-Token w ↦ token_advances _ _ _ _ w.in-Token.len w.in-Token.kind c.loop-rest.rest.now w.in-Token.ensures w.len-is (ap (λ l. l.items) w.list-is ∙ w.in_ok-push-in-Token.ensures.items)
-      ]
+    ]
     in
     record {
       is_text = c.range_from-rest.utf8;
