@@ -1,4 +1,5 @@
-use crate::{Kind, Name, Scanned, Token, TokenFault, tokens};
+use crate::{Kind, Name, Scanned, TokenFault, tokens};
+use std::fmt::Write;
 use std::process::Abort;
 use std::test::Fail;
 
@@ -7,137 +8,92 @@ fn scanned(rt: &(impl Abort + AllocGlobal), text: &str) -> Result<Scanned, Token
     tokens(rt.alloc(), String::from_str(rt.alloc(), text)?)
 }
 
-fn token(kind: Kind, start: u32, end: u32) -> Token {
-    Token { kind, start, end }
+// The kinds of the tokens, or the fault.
+fn kinds(rt: &(impl Abort + AllocGlobal), text: &str) -> Result<String, Fail> {
+    let mut out = String::new(rt.alloc());
+    match scanned(rt, text) {
+        Ok(scanned) => {
+            for token in scanned.list() {
+                let kind = token.kind;
+                write!(out, "{kind:?} ")?;
+            }
+        }
+        Err(fault) => write!(out, "{fault:?}")?,
+    }
+    Ok(out)
+}
+
+// The texts of the tokens with their places, or the fault.
+fn pieces(rt: &(impl Abort + AllocGlobal), text: &str) -> Result<String, Fail> {
+    let mut out = String::new(rt.alloc());
+    match scanned(rt, text) {
+        Ok(scanned) => {
+            for (k, token) in scanned.list().iter().enumerate() {
+                let slice = scanned.slice(k);
+                let (start, end) = (token.start, token.end);
+                write!(out, "{slice}[{start}..{end}] ")?;
+            }
+        }
+        Err(fault) => write!(out, "{fault:?}")?,
+    }
+    Ok(out)
 }
 
 #[test]
-fn marks_and_reserved_words(rt: HostRuntime) -> Result<(), Fail> {
-    for (text, kind) in [
-        ("root", Kind::Root),
-        ("interface", Kind::Interface),
-        ("class", Kind::Class),
-        ("inh", Kind::Inh),
-        ("syn", Kind::Syn),
-        ("input", Kind::Input),
-        ("local", Kind::Local),
-        ("show", Kind::Show),
-        ("self", Kind::SelfWord),
-        ("this", Kind::This),
-        ("prev", Kind::Prev),
-        ("last", Kind::Last),
-        ("first", Kind::First),
-        ("then", Kind::Then),
-        ("fold", Kind::Fold),
-        ("from", Kind::From),
-        ("with", Kind::With),
-        ("acc", Kind::Acc),
-        ("if", Kind::If),
-        ("else", Kind::Else),
-        ("or", Kind::Or),
-        ("min", Kind::Min),
-        ("max", Kind::Max),
-        ("{", Kind::LeftBrace),
-        ("}", Kind::RightBrace),
-        ("(", Kind::LeftParen),
-        (")", Kind::RightParen),
-        ("[", Kind::LeftBracket),
-        ("]", Kind::RightBracket),
-        (";", Kind::Semicolon),
-        (":", Kind::Colon),
-        (",", Kind::Comma),
-        (".", Kind::Dot),
-        (":=", Kind::Assign),
-        ("=", Kind::Equals),
-        ("+", Kind::Plus),
-        ("-", Kind::Minus),
-        ("*", Kind::Star),
-        ("/", Kind::Slash),
-        ("<", Kind::Less),
-        ("<=", Kind::LessEq),
-        (">", Kind::More),
-        (">=", Kind::MoreEq),
-        ("==", Kind::EqualEqual),
-        ("!=", Kind::Unequal),
-        ("&&", Kind::AndAnd),
-        ("||", Kind::OrOr),
-        ("!", Kind::Bang),
-    ] {
-        let alone = scanned(&rt, text)?;
-        assert!(rt; text.len() < 10);
-        assert_eq!(rt;
-            alone.list(),
-            [token(kind, 0, text.len() as u32)].as_slice(),
-            "{text}"
-        );
-        let longer = format!(in rt.alloc(); "{text}_ x")?;
-        let is_word = text.chars().all(|c| c.is_ascii_alphabetic());
-        let wanted = if is_word {
-            token(Kind::Name, 0, text.len() as u32 + 1)
-        } else {
-            token(kind, 0, text.len() as u32)
-        };
-        let before = scanned(&rt, longer.as_str())?;
-        assert_eq!(rt; before.list().first().copied(), Some(wanted), "{longer}");
+fn reserved_words(rt: HostRuntime) -> Result<(), Fail> {
+    let words = kinds(
+        &rt,
+        "root interface class inh syn input local show self this prev last first then fold from with acc if else or min max",
+    )?;
+    assert_eq!(rt;
+        words.as_str(),
+        "Root Interface Class Inh Syn Input Local Show SelfWord This Prev Last First Then Fold From With Acc If Else Or Min Max "
+    );
+    let longer = kinds(
+        &rt,
+        "rooted interfaces class1 inh_ syn\u{e9} inputs locals shown selfish this_ prevs lasts firsts thens folds froms withs accs iff elses orb min_ max0 Root ro",
+    )?;
+    for word in longer.as_str().split_whitespace() {
+        assert_eq!(rt; word, "Name");
     }
+    assert_eq!(rt; longer.as_str().split_whitespace().count(), 25);
+    Ok(())
+}
+
+#[test]
+fn marks(rt: HostRuntime) -> Result<(), Fail> {
+    let marks = kinds(
+        &rt,
+        "{ } ( ) [ ] ; : , . := = + - * / < <= > >= == != && || !",
+    )?;
+    assert_eq!(rt;
+        marks.as_str(),
+        "LeftBrace RightBrace LeftParen RightParen LeftBracket RightBracket Semicolon Colon Comma Dot Assign Equals Plus Minus Star Slash Less LessEq More MoreEq EqualEqual Unequal AndAnd OrOr Bang "
+    );
     Ok(())
 }
 
 #[test]
 fn tokens_and_their_places(rt: HostRuntime) -> Result<(), Fail> {
-    let word = |start, end| token(Kind::Name, start, end);
-    let number = |start, end| token(Kind::Number, start, end);
-    let cases: [(&str, &[Token]); 16] = [
-        ("", &[]),
-        (" \t\r\n", &[]),
-        ("# to the end", &[]),
-        ("#\r x\nx", &[word(5, 6)]),
-        ("a#b\r\nc", &[word(0, 1), word(5, 6)]),
-        ("# \u{7}\u{e9}$\n_", &[word(7, 8)]),
-        ("rooted min_ _if", &[word(0, 6), word(7, 11), word(12, 15)]),
-        ("Größe 列 x", &[word(0, 7), word(8, 11), word(12, 13)]),
-        ("a\u{301}b", &[word(0, 4)]),
-        ("a\u{660}", &[word(0, 3)]),
-        (
-            "12ab 1_",
-            &[number(0, 2), word(2, 4), number(5, 6), word(6, 7)],
-        ),
-        ("007", &[number(0, 3)]),
-        (
-            "a:=b==c",
-            &[
-                word(0, 1),
-                token(Kind::Assign, 1, 3),
-                word(3, 4),
-                token(Kind::EqualEqual, 4, 6),
-                word(6, 7),
-            ],
-        ),
-        (
-            "===",
-            &[token(Kind::EqualEqual, 0, 2), token(Kind::Equals, 2, 3)],
-        ),
-        (
-            "<<=!==",
-            &[
-                token(Kind::Less, 0, 1),
-                token(Kind::LessEq, 1, 3),
-                token(Kind::Unequal, 3, 5),
-                token(Kind::Equals, 5, 6),
-            ],
-        ),
-        (
-            "!&&!",
-            &[
-                token(Kind::Bang, 0, 1),
-                token(Kind::AndAnd, 1, 3),
-                token(Kind::Bang, 3, 4),
-            ],
-        ),
-    ];
-    for (text, wanted) in cases {
-        let text_scanned = scanned(&rt, text)?;
-        assert_eq!(rt; text_scanned.list(), wanted, "{text:?}");
+    for (text, wanted) in [
+        ("", ""),
+        (" \t\r\n", ""),
+        ("# to the end", ""),
+        ("#\r x\nx", "x[5..6] "),
+        ("a#b\r\nc", "a[0..1] c[5..6] "),
+        ("# \u{7}\u{e9}$\n_", "_[7..8] "),
+        ("Größe 列 x", "Größe[0..7] 列[8..11] x[12..13] "),
+        ("a\u{301}b", "a\u{301}b[0..4] "),
+        ("a\u{660}", "a\u{660}[0..3] "),
+        ("12ab 1_", "12[0..2] ab[2..4] 1[5..6] _[6..7] "),
+        ("007", "007[0..3] "),
+        ("2147483647", "2147483647[0..10] "),
+        ("a:=b==c", "a[0..1] :=[1..3] b[3..4] ==[4..6] c[6..7] "),
+        ("===", "==[0..2] =[2..3] "),
+        ("<<=!==", "<[0..1] <=[1..3] !=[3..5] =[5..6] "),
+        ("!&&!", "![0..1] &&[1..3] ![3..4] "),
+    ] {
+        assert_eq!(rt; pieces(&rt, text)?.as_str(), wanted, "{text:?}");
     }
     Ok(())
 }
@@ -145,55 +101,43 @@ fn tokens_and_their_places(rt: HostRuntime) -> Result<(), Fail> {
 #[test]
 fn first_faults(rt: HostRuntime) -> Result<(), Fail> {
     for (text, wanted) in [
-        ("$", TokenFault::BadChar { at: 0 }),
-        ("é & a", TokenFault::BadChar { at: 3 }),
-        ("a |", TokenFault::BadChar { at: 2 }),
-        ("&&&", TokenFault::BadChar { at: 2 }),
-        ("|||", TokenFault::BadChar { at: 2 }),
-        ("# $\n $", TokenFault::BadChar { at: 5 }),
-        ("a \u{301}", TokenFault::BadChar { at: 2 }),
-        ("\u{660}", TokenFault::BadChar { at: 0 }),
-        ("a\u{c}b", TokenFault::BadChar { at: 1 }),
-        ("a\u{a0}b", TokenFault::BadChar { at: 1 }),
-        ("\u{feff}a", TokenFault::BadChar { at: 0 }),
-        ("a%b", TokenFault::BadChar { at: 1 }),
-        ("列 2147483648 $", TokenFault::NumberTooLarge { at: 4 }),
-        ("99999999999999999999", TokenFault::NumberTooLarge { at: 0 }),
-        ("$ 2147483648", TokenFault::BadChar { at: 0 }),
+        ("$", "BadChar { at: 0 }"),
+        ("é & a", "BadChar { at: 3 }"),
+        ("a |", "BadChar { at: 2 }"),
+        ("&&&", "BadChar { at: 2 }"),
+        ("|||", "BadChar { at: 2 }"),
+        ("# $\n $", "BadChar { at: 5 }"),
+        ("a \u{301}", "BadChar { at: 2 }"),
+        ("\u{660}", "BadChar { at: 0 }"),
+        ("a\u{c}b", "BadChar { at: 1 }"),
+        ("a\u{a0}b", "BadChar { at: 1 }"),
+        ("\u{feff}a", "BadChar { at: 0 }"),
+        ("a%b", "BadChar { at: 1 }"),
+        ("列 2147483648 $", "NumberTooLarge { at: 4 }"),
+        ("99999999999999999999", "NumberTooLarge { at: 0 }"),
+        ("$ 2147483648", "BadChar { at: 0 }"),
     ] {
-        assert_eq!(rt; scanned(&rt, text).err(), Some(wanted), "{text:?}");
+        assert_eq!(rt; pieces(&rt, text)?.as_str(), wanted, "{text:?}");
     }
     Ok(())
 }
 
 #[test]
-fn slices_and_numbers(rt: HostRuntime) -> Result<(), Fail> {
-    let text = scanned(&rt, "Größe := 2147483647 + 0;")?;
-    assert_eq!(rt; text.list().len(), 6);
-    assert_eq!(rt; text.slice(0), "Größe");
-    assert_eq!(rt; text.slice(1), ":=");
-    assert_eq!(rt; text.slice(5), ";");
+fn numbers(rt: HostRuntime) -> Result<(), Fail> {
+    let mut text = String::from_str(rt.alloc(), "x 2147483647 00 ")?;
+    for _ in 0..1_000_000 {
+        text.push('0')?;
+    }
+    text.push('7')?;
+    let text = scanned(&rt, text.as_str())?;
     let mut numbers = Vec::new(rt.alloc());
-    for (k, token) in text.list().iter().enumerate() {
+    for k in 0..text.list().len() {
+        let token = text.list()[k];
         if token.kind == Kind::Number {
             numbers.push(text.number(k))?;
         }
     }
-    assert_eq!(rt; numbers.as_slice(), [2147483647, 0].as_slice());
-    Ok(())
-}
-
-#[test]
-fn a_million_zeros(rt: HostRuntime) -> Result<(), Fail> {
-    let mut digits = String::new(rt.alloc());
-    for _ in 0..1_000_000 {
-        digits.push('0')?;
-    }
-    digits.push('7')?;
-    let text = scanned(&rt, digits.as_str())?;
-    assert_eq!(rt; text.list(), [token(Kind::Number, 0, 1_000_001)].as_slice());
-    assert!(rt; text.list()[0].kind == Kind::Number);
-    assert_eq!(rt; text.number(0), 7);
+    assert_eq!(rt; numbers.as_slice(), [2_147_483_647, 0, 7].as_slice());
     Ok(())
 }
 
