@@ -1,20 +1,21 @@
 -- The longest token at the front of some characters, by what the first of them begins.
-use Rattle.std.proofs.Common.{◌≡◌, ℕ, zero, suc, ◌+◌, ◌<◌, ◌≤◌, Bool, true, false, cond, ◌&&◌, List, [], ◌∷◌, length, take, Option, Some, None, sym, refl, ap, ◌∙◌, subst, ⊎_elim, arith, rules, lit<, length-take-le}
+use Rattle.std.proofs.Common.{◌≡◌, ℕ, zero, suc, ◌+◌, ◌<◌, ◌≤◌, Bool, true, false, List, [], ◌∷◌, length, take, Option, Some, None, sym, refl, ap, ◌∙◌, ⊎_elim, arith, lit<, length-take-le}
 use Rattle.std.specs.Option.{is_some}
 use Rattle.std.specs.List.{list_all, prefix_len}
 use Rattle.std.specs.Char.{is_ascii_digit}
 use Rattle.std.proofs.lemmas.Bool.{and_from, and_left, and_right, cases_lt, cases_Bool, cond-false, cond-true, or_cases, eqb-true, false≢true}
-use Rattle.unicode_ident.specs.Ident.{is_xid_start, is_xid_continue}
+use Rattle.unicode_ident.specs.Ident.{is_xid_continue}
 use Rattle.unicode_ident.proofs.IdentLemmas.{is_xid_start-is_xid_continue, is_xid_continue-ascii}
 use Rattle.ftl_tokens.specs.declared.kind.Kind.{Kind}
 use Rattle.ftl_tokens.specs.declared.kind.Kind.TheVariants.{Number}
 use Rattle.ftl_tokens.specs.Kinds.{begins_word, is_word, is_number, kind_of, kind_of_word, kind_of_mark}
-use Rattle.ftl_tokens.specs.Scan.{greatest, longest_token, token_front, token_if, Front, token, nothing}
+use Rattle.ftl_tokens.specs.Scan.{greatest, longest_token, token_front, token_if, token}
 use Rattle.ftl_tokens.specs.Piece.{StartsWord, StartsNumber}
 use Rattle.ftl_tokens.proofs.KindLemmas.{digit_begins_no_word, word_begins_no_number, begins_text-word, begins_text-digit, kind_of_mark-text, kind_of_mark-long}
 
 -- where nothing above m passes the test, the greatest is at most m
-greatest-from : (test : ℕ → Bool) (n m : ℕ) → m ≤ n → ((k : ℕ) → m < k → k ≤ n → test k ≡ false) → greatest test n ≡ greatest test m
+greatest-from : (test : ℕ → Bool) (n m : ℕ) → m ≤ n → ((k : ℕ) → m < k → k ≤ n → test k ≡ false)
+    → greatest test n ≡ greatest test m
 unfolding greatest
 greatest-from test zero m within above = let same : 0 ≡ m = omega arith in ap (greatest test) same
 greatest-from test (suc n) m within above =
@@ -37,7 +38,8 @@ list_all-run p (suc n) (x ∷ xs) within =
     (λ stops. absurd (omega (arith, cond-false (p x) (1 + prefix_len p xs) 0 stops)))
     (cases_Bool (p x))
 
-list_all-past : (p : ℕ → Bool) (n : ℕ) (xs : List ℕ) → prefix_len p xs < n → n ≤ length xs → list_all p (take n xs) ≡ false
+list_all-past : (p : ℕ → Bool) (n : ℕ) (xs : List ℕ) → prefix_len p xs < n → n ≤ length xs
+    → list_all p (take n xs) ≡ false
 list_all-past p zero xs past within = absurd (omega arith)
 list_all-past p (suc n) [] past within = absurd (omega arith)
 list_all-past p (suc n) (x ∷ xs) past within =
@@ -74,14 +76,16 @@ abbrev is_token : List ℕ → ℕ → Bool
 is_token cs n = is_some (kind_of (take n cs))
 
 -- no token is longer than the run of a word
-past_word : (c : ℕ) (cs : List ℕ) → begins_word c ≡ true → (k : ℕ) → suc (prefix_len is_xid_continue cs) < k → k ≤ length (c ∷ cs) → is_token (c ∷ cs) k ≡ false
+past_word : (c : ℕ) (cs : List ℕ) → begins_word c ≡ true → (k : ℕ) → suc (prefix_len is_xid_continue cs) < k
+    → k ≤ length (c ∷ cs) → is_token (c ∷ cs) k ≡ false
 past_word c cs word zero past within = absurd (omega arith)
 past_word c cs word (suc k) past within =
     ap is_some
     (kind_of-mark (c ∷ take k cs) (and_right _ _ (list_all-past is_xid_continue k cs (omega arith) (omega arith))) (and_left _ _ (word_begins_no_number c word))
     ∙ kind_of_mark-text c (take k cs) (begins_text-word c word))
 
-longest_token-word : (c : ℕ) (cs : List ℕ) → begins_word c ≡ true → longest_token (c ∷ cs) ≡ suc (prefix_len is_xid_continue cs)
+longest_token-word : (c : ℕ) (cs : List ℕ) → begins_word c ≡ true
+    → longest_token (c ∷ cs) ≡ suc (prefix_len is_xid_continue cs)
 unfolding longest_token
 longest_token-word c cs word =
     let run = prefix_len is_xid_continue cs in
@@ -97,7 +101,8 @@ begins_word-continues c word =
     (λ underscore. let is_95 = eqb-true c 95 underscore in ap is_xid_continue is_95 ∙ is_xid_continue-ascii 95 (lit< tt))
     (or_cases _ _ word)
 
-pub word_front : (cs : List ℕ) → StartsWord cs → token_front cs (longest_token cs) ≡ token (kind_of_word (take (prefix_len is_xid_continue cs) cs)) (prefix_len is_xid_continue cs)
+pub word_front : (cs : List ℕ) → StartsWord cs
+    → token_front cs (longest_token cs) ≡ token (kind_of_word (take (prefix_len is_xid_continue cs) cs)) (prefix_len is_xid_continue cs)
 word_front [] word = absurd word
 word_front (c ∷ cs) word =
     let run = prefix_len is_xid_continue cs in
@@ -111,26 +116,30 @@ word_starts_run [] word = absurd word
 word_starts_run (c ∷ cs) word = omega (arith, prefix_len-suc is_xid_continue c cs (begins_word-continues c word))
 
 -- no token is longer than the run of a number
-past_number : (c : ℕ) (cs : List ℕ) → is_ascii_digit c ≡ true → (k : ℕ) → suc (prefix_len is_ascii_digit cs) < k → k ≤ length (c ∷ cs) → is_token (c ∷ cs) k ≡ false
+past_number : (c : ℕ) (cs : List ℕ) → is_ascii_digit c ≡ true → (k : ℕ) → suc (prefix_len is_ascii_digit cs) < k
+    → k ≤ length (c ∷ cs) → is_token (c ∷ cs) k ≡ false
 past_number c cs digit zero past within = absurd (omega arith)
 past_number c cs digit (suc k) past within =
     ap is_some
     (kind_of-mark (c ∷ take k cs) (and_left _ _ (digit_begins_no_word c digit)) (and_right _ _ (list_all-past is_ascii_digit k cs (omega arith) (omega arith)))
     ∙ kind_of_mark-text c (take k cs) (begins_text-digit c digit))
 
-number_run : (c : ℕ) (cs : List ℕ) → is_ascii_digit c ≡ true → kind_of (c ∷ take (prefix_len is_ascii_digit cs) cs) ≡ Some Number
+number_run : (c : ℕ) (cs : List ℕ) → is_ascii_digit c ≡ true
+    → kind_of (c ∷ take (prefix_len is_ascii_digit cs) cs) ≡ Some Number
 number_run c cs digit =
     kind_of-number (c ∷ take (prefix_len is_ascii_digit cs) cs) (and_left _ _ (digit_begins_no_word c digit))
     (and_from _ _ digit (list_all-run is_ascii_digit (prefix_len is_ascii_digit cs) cs (omega arith)))
 
-longest_token-number : (c : ℕ) (cs : List ℕ) → is_ascii_digit c ≡ true → longest_token (c ∷ cs) ≡ suc (prefix_len is_ascii_digit cs)
+longest_token-number : (c : ℕ) (cs : List ℕ) → is_ascii_digit c ≡ true
+    → longest_token (c ∷ cs) ≡ suc (prefix_len is_ascii_digit cs)
 unfolding longest_token
 longest_token-number c cs digit =
     let run = prefix_len is_ascii_digit cs in
     greatest-from (is_token (c ∷ cs)) (length (c ∷ cs)) (suc run) (omega (arith, prefix_len-le is_ascii_digit cs)) (past_number c cs digit)
     ∙ greatest-suc (is_token (c ∷ cs)) run (ap is_some (number_run c cs digit))
 
-pub number_front : (cs : List ℕ) → StartsNumber cs → token_front cs (longest_token cs) ≡ token Number (prefix_len is_ascii_digit cs)
+pub number_front : (cs : List ℕ) → StartsNumber cs
+    → token_front cs (longest_token cs) ≡ token Number (prefix_len is_ascii_digit cs)
 number_front [] digit = absurd digit
 number_front (c ∷ cs) digit =
     ap (token_front (c ∷ cs)) (longest_token-number c cs digit)
@@ -148,10 +157,12 @@ run_is_number (c ∷ cs) digit =
     ∙ and_from _ _ digit (list_all-run is_ascii_digit (prefix_len is_ascii_digit cs) cs (omega arith))
 
 -- what begins neither a word nor a number is a token where it is a mark
-other_kind : (c : ℕ) (cs : List ℕ) → begins_word c ≡ false → is_ascii_digit c ≡ false → kind_of (c ∷ cs) ≡ kind_of_mark (c ∷ cs)
+other_kind : (c : ℕ) (cs : List ℕ) → begins_word c ≡ false → is_ascii_digit c ≡ false
+    → kind_of (c ∷ cs) ≡ kind_of_mark (c ∷ cs)
 other_kind c cs no_word no_digit = kind_of-mark (c ∷ cs) (and_left _ _ no_word) (and_left _ _ no_digit)
 
-past_mark : (c : ℕ) (cs : List ℕ) → begins_word c ≡ false → is_ascii_digit c ≡ false → (k : ℕ) → 2 < k → k ≤ length (c ∷ cs) → is_token (c ∷ cs) k ≡ false
+past_mark : (c : ℕ) (cs : List ℕ) → begins_word c ≡ false → is_ascii_digit c ≡ false → (k : ℕ) → 2 < k
+    → k ≤ length (c ∷ cs) → is_token (c ∷ cs) k ≡ false
 past_mark c cs no_word no_digit zero past within = absurd (omega arith)
 past_mark c cs no_word no_digit (suc k) past within =
     ap is_some (other_kind c (take k cs) no_word no_digit ∙ kind_of_mark-long (c ∷ take k cs) (omega (arith, length-take-le k cs (omega arith))))
@@ -165,7 +176,9 @@ unfolding kind_of kind_of_mark
 kind_of-nil = refl
 
 -- a mark of one character, where no longer token begins there
-front_of_one : (c : ℕ) (cs : List ℕ) → begins_word c ≡ false → is_ascii_digit c ≡ false → longest_token (c ∷ cs) ≡ greatest (is_token (c ∷ cs)) 1 → token_front (c ∷ cs) (longest_token (c ∷ cs)) ≡ token_if (kind_of_mark (c ∷ [])) 1
+front_of_one : (c : ℕ) (cs : List ℕ) → begins_word c ≡ false → is_ascii_digit c ≡ false
+    → longest_token (c ∷ cs) ≡ greatest (is_token (c ∷ cs)) 1
+    → token_front (c ∷ cs) (longest_token (c ∷ cs)) ≡ token_if (kind_of_mark (c ∷ [])) 1
 unfolding greatest
 front_of_one c cs no_word no_digit one =
     let kind = other_kind c [] no_word no_digit in
@@ -178,12 +191,14 @@ front_of_one c cs no_word no_digit one =
     (cases_Bool (is_some (kind_of (c ∷ []))))
 
 -- one character alone
-pub mark_front-last : (c : ℕ) → begins_word c ≡ false → is_ascii_digit c ≡ false → token_front (c ∷ []) (longest_token (c ∷ [])) ≡ token_if (kind_of_mark (c ∷ [])) 1
+pub mark_front-last : (c : ℕ) → begins_word c ≡ false → is_ascii_digit c ≡ false
+    → token_front (c ∷ []) (longest_token (c ∷ [])) ≡ token_if (kind_of_mark (c ∷ [])) 1
 unfolding longest_token
 mark_front-last c no_word no_digit = front_of_one c [] no_word no_digit refl
 
 -- a mark of two characters
-pub mark_front-long : (c d : ℕ) (cs : List ℕ) (kind : Kind) → begins_word c ≡ false → is_ascii_digit c ≡ false → kind_of_mark (c ∷ d ∷ []) ≡ Some kind → token_front (c ∷ d ∷ cs) (longest_token (c ∷ d ∷ cs)) ≡ token kind 2
+pub mark_front-long : (c d : ℕ) (cs : List ℕ) (kind : Kind) → begins_word c ≡ false → is_ascii_digit c ≡ false
+    → kind_of_mark (c ∷ d ∷ []) ≡ Some kind → token_front (c ∷ d ∷ cs) (longest_token (c ∷ d ∷ cs)) ≡ token kind 2
 unfolding longest_token
 mark_front-long c d cs kind no_word no_digit mark =
     let all = c ∷ d ∷ cs in
@@ -192,7 +207,9 @@ mark_front-long c d cs kind no_word no_digit mark =
     ap (token_front all) two ∙ ap (λ k. token_if k 2) found
 
 -- no mark of two characters
-pub mark_front-short : (c d : ℕ) (cs : List ℕ) → begins_word c ≡ false → is_ascii_digit c ≡ false → kind_of_mark (c ∷ d ∷ []) ≡ None → token_front (c ∷ d ∷ cs) (longest_token (c ∷ d ∷ cs)) ≡ token_if (kind_of_mark (c ∷ [])) 1
+pub mark_front-short : (c d : ℕ) (cs : List ℕ) → begins_word c ≡ false → is_ascii_digit c ≡ false
+    → kind_of_mark (c ∷ d ∷ []) ≡ None
+    → token_front (c ∷ d ∷ cs) (longest_token (c ∷ d ∷ cs)) ≡ token_if (kind_of_mark (c ∷ [])) 1
 unfolding longest_token greatest
 mark_front-short c d cs no_word no_digit none =
     let all = c ∷ d ∷ cs in

@@ -1,14 +1,12 @@
 -- What begins a word, a number and a mark, and that these are apart.
-use Rattle.std.proofs.Common.{◌≡◌, ℕ, zero, suc, ◌+◌, ◌<◌, ◌≤◌, Bool, true, false, cond, not, ◌&&◌, ◌||◌, eqb, List, [], ◌∷◌, length, get_or, Option, Some, None, sym, refl, ap, ◌∙◌, subst, inl, inr, ⊎_elim, arith, rules}
-use Rattle.std.specs.Prelude.{nat_le, ◌==◌, encode_utf8_all}
-use Rattle.std.specs.List.{list_all}
+use Rattle.std.proofs.Common.{◌≡◌, ℕ, ◌<◌, Bool, true, false, not, ◌&&◌, ◌||◌, eqb, List, [], ◌∷◌, length, get_or, None, sym, refl, ap, ◌∙◌, ⊎_elim, arith}
+use Rattle.std.specs.Prelude.{nat_le, encode_utf8_all}
 use Rattle.std.specs.Char.{is_ascii_digit, is_ascii_alphabetic}
 use Rattle.std.specs.Str.{bytes_eq}
-use Rattle.std.proofs.lemmas.Bool.{and_parts, and_left, or_cases, or_from, or_left, or_right, not-true, cases_lt, cases_Bool, le-leb, leb-true, false_from_ne_true, false≢true, eqb-true, cond-false, cond-true}
+use Rattle.std.proofs.lemmas.Bool.{and_parts, or_left, not-true, cases_lt, cases_Bool, le-leb, leb-true, false_from_ne_true, false≢true, cond-false, cond-true}
 use Rattle.std.proofs.lemmas.Bool.Decides.{nat_tests}
 use Rattle.std.proofs.lemmas.Slice.Eq.{bytes_eq-Decides}
 use Rattle.std.proofs.lemmas.Str.{encodes_same}
-use Rattle.unicode_ident.specs.Ident.{is_xid_start}
 use Rattle.unicode_ident.proofs.IdentLemmas.{is_xid_start-ascii}
 use Rattle.ftl_tokens.specs.declared.kind.Kind.{Kind}
 use Rattle.ftl_tokens.specs.declared.kind.Kind.TheVariants.{Name}
@@ -47,7 +45,8 @@ abbrev pub begin_no_text : List (List ℕ × Kind) → Bool
 begin_no_text [] = true
 begin_no_text (entry ∷ entries) = not (begins_text (get_or entry.0 0 32)) && begin_no_text entries
 
-look_up-head : (c : ℕ) (cs : List ℕ) (entries : List (List ℕ × Kind)) → begin_no_text entries ≡ true → begins_text c ≡ true → look_up (c ∷ cs) entries ≡ None
+look_up-head : (c : ℕ) (cs : List ℕ) (entries : List (List ℕ × Kind)) → begin_no_text entries ≡ true
+    → begins_text c ≡ true → look_up (c ∷ cs) entries ≡ None
 look_up-head c cs [] apart begins = refl
 look_up-head c cs (entry ∷ entries) apart begins =
     let parts = and_parts _ _ apart in
@@ -67,7 +66,8 @@ abbrev pub at_most : ℕ → List (List ℕ × Kind) → Bool
 at_most n [] = true
 at_most n (entry ∷ entries) = nat_le (length entry.0) n && at_most n entries
 
-look_up-long : (n : ℕ) (text : List ℕ) (entries : List (List ℕ × Kind)) → at_most n entries ≡ true → n < length text → look_up text entries ≡ None
+look_up-long : (n : ℕ) (text : List ℕ) (entries : List (List ℕ × Kind)) → at_most n entries ≡ true → n < length text
+    → look_up text entries ≡ None
 look_up-long n text [] short long = refl
 look_up-long n text (entry ∷ entries) short long =
     let parts = and_parts _ _ short in
@@ -85,7 +85,8 @@ abbrev pub are_ascii : List (List ℕ × Kind) → Bool
 are_ascii [] = true
 are_ascii (entry ∷ entries) = bytes_eq (encode_utf8_all entry.0) entry.0 && are_ascii entries
 
-look_up-encodes : (cs : List ℕ) (entries : List (List ℕ × Kind)) → are_ascii entries ≡ true → look_up (encode_utf8_all cs) entries ≡ look_up cs entries
+look_up-encodes : (cs : List ℕ) (entries : List (List ℕ × Kind)) → are_ascii entries ≡ true
+    → look_up (encode_utf8_all cs) entries ≡ look_up cs entries
 look_up-encodes cs [] ascii = refl
 look_up-encodes cs (entry ∷ entries) ascii =
     let parts = and_parts _ _ ascii in

@@ -1,5 +1,5 @@
 -- A scan that has come to a place of its text.
-use Rattle.std.proofs.Common.{◌≡◌, ℕ, zero, suc, ◌+◌, ◌-◌, ◌<◌, ◌≤◌, Bool, true, false, List, [], ◌∷◌, ◌++◌, length, take, drop, Ok, Err, sym, refl, ap, ◌∙◌, subst, arith, rules, length-append, length-drop, append_assoc}
+use Rattle.std.proofs.Common.{◌≡◌, ℕ, zero, suc, ◌+◌, ◌-◌, ◌<◌, ◌≤◌, List, [], ◌∷◌, ◌++◌, length, take, drop, Ok, Err, sym, refl, ap, ◌∙◌, subst, arith, length-drop, append_assoc}
 use Rattle.std.specs.Char.{len_utf8}
 use Rattle.std.specs.Str.{chars, IsUtf8, IsCharBoundary}
 use Rattle.std.proofs.lemmas.Bool.{cond-true, cond-false}
@@ -9,23 +9,24 @@ use Rattle.ftl_tokens.specs.declared.kind.Kind.{Kind}
 use Rattle.ftl_tokens.specs.declared.kind.Token.{Token}
 use Rattle.ftl_tokens.specs.declared.fault.TokenFault.{TokenFault}
 use Rattle.ftl_tokens.specs.declared.fault.TokenFault.TheVariants.{BadChar, NumberTooLarge}
-use Rattle.ftl_tokens.specs.declared.piece.Piece.{Piece}
 use Rattle.ftl_tokens.specs.declared.piece.Piece.TheVariants as piece
 use Rattle.ftl_tokens.specs.declared.piece.Piece.TheVariants.{Gap, LargeNumber, Nothing}
-use Rattle.ftl_tokens.specs.Scan.{byte_length, Front, gap, token, nothing, front_of, is_too_large, Scanning, followed_by, scan_front, scan_from, scan}
+use Rattle.ftl_tokens.specs.Scan.{byte_length, Front, gap, token, nothing, front_of, Scanning, followed_by, scan_front, scan_from, scan}
 use Rattle.ftl_tokens.specs.Piece.{Spans, IsPieceOf}
-use Rattle.ftl_tokens.proofs.TextLemmas.{IsCut, is_cut, byte_length-cons, byte_length-some}
+use Rattle.ftl_tokens.proofs.TextLemmas.{is_cut, byte_length-cons, byte_length-some}
 
 pub followed_by-nil : (r : Scanning) → followed_by [] r ≡ r
 followed_by-nil (Ok tokens) = refl
 followed_by-nil (Err fault) = refl
 
-pub followed_by-followed_by : (xs ys : List Token) (r : Scanning) → followed_by xs (followed_by ys r) ≡ followed_by (xs ++ ys) r
+pub followed_by-followed_by : (xs ys : List Token) (r : Scanning)
+    → followed_by xs (followed_by ys r) ≡ followed_by (xs ++ ys) r
 followed_by-followed_by xs ys (Ok tokens) = ap (λ l. Ok l) (sym (append_assoc xs ys tokens))
 followed_by-followed_by xs ys (Err fault) = refl
 
 -- the characters of what stands before are passed over
-scan_from-skip : (n at : ℕ) (cs : List ℕ) → n ≤ length cs → scan_from at n cs ≡ scan_from (at + byte_length (take n cs)) 0 (drop n cs)
+scan_from-skip : (n at : ℕ) (cs : List ℕ) → n ≤ length cs
+    → scan_from at n cs ≡ scan_from (at + byte_length (take n cs)) 0 (drop n cs)
 unfolding scan_from
 scan_from-skip zero at cs within = ap (λ place. scan_from place 0 cs) (omega arith)
 scan_from-skip (suc n) at [] within = absurd (omega arith)
@@ -34,7 +35,8 @@ scan_from-skip (suc n) at (c ∷ cs) within =
     ∙ ap (λ place. scan_from place 0 (drop n cs)) (omega (arith, byte_length-cons c (take n cs)))
 
 -- what stands after a front of n characters
-pub scan_after : (at c n len : ℕ) (cs : List ℕ) → Spans (c ∷ cs) n len → scan_from (at + len_utf8 c) (n - 1) cs ≡ scan_from (at + len) 0 (drop n (c ∷ cs))
+pub scan_after : (at c n len : ℕ) (cs : List ℕ) → Spans (c ∷ cs) n len
+    → scan_from (at + len_utf8 c) (n - 1) cs ≡ scan_from (at + len) 0 (drop n (c ∷ cs))
 scan_after at c zero len cs spans = absurd (omega (arith, spans.some))
 scan_after at c (suc n) len cs spans =
     let one : suc n - 1 ≡ n = omega arith in
@@ -48,7 +50,8 @@ pub record GoesOn (at len : ℕ) (cs : List ℕ) (tokens : List Token) : Type 0 
   pub spans : Spans cs count len
   pub scans : scan_from at 0 cs ≡ followed_by tokens (scan_from (at + len) 0 (drop count cs))
 
-pub gap_step : (at len : ℕ) (cs : List ℕ) (f : Front) → front_of cs ≡ f → IsPieceOf f cs (Gap len) → GoesOn at len cs []
+pub gap_step : (at len : ℕ) (cs : List ℕ) (f : Front) → front_of cs ≡ f → IsPieceOf f cs (Gap len)
+    → GoesOn at len cs []
 unfolding scan_from
 gap_step at len [] (gap n) front is = absurd (omega (arith, is.some, is.within))
 gap_step at len (c ∷ cs) (gap n) front is = record {
@@ -62,7 +65,9 @@ gap_step at len (c ∷ cs) (gap n) front is = record {
 gap_step at len cs (token kind n) front is = absurd is
 gap_step at len cs nothing front is = absurd is
 
-pub token_step : (at len : ℕ) (kind : Kind) (cs : List ℕ) (f : Front) → front_of cs ≡ f → IsPieceOf f cs (piece.Token kind len) → GoesOn at len cs (record { kind = kind; start = at; end = at + len } ∷ [])
+pub token_step : (at len : ℕ) (kind : Kind) (cs : List ℕ) (f : Front) → front_of cs ≡ f
+    → IsPieceOf f cs (piece.Token kind len)
+    → GoesOn at len cs (record { kind = kind; start = at; end = at + len } ∷ [])
 unfolding scan_from
 token_step at len kind [] (token found n) front is = absurd (omega (arith, is.2.some, is.2.within))
 token_step at len kind (c ∷ cs) (token found n) front is = record {
@@ -78,7 +83,8 @@ token_step at len kind (c ∷ cs) (token found n) front is = record {
 token_step at len kind cs (gap n) front is = absurd is
 token_step at len kind cs nothing front is = absurd is
 
-pub large_step : (at : ℕ) (cs : List ℕ) (f : Front) → front_of cs ≡ f → IsPieceOf f cs LargeNumber → 0 < length cs → scan_from at 0 cs ≡ Err (NumberTooLarge at)
+pub large_step : (at : ℕ) (cs : List ℕ) (f : Front) → front_of cs ≡ f → IsPieceOf f cs LargeNumber → 0 < length cs
+    → scan_from at 0 cs ≡ Err (NumberTooLarge at)
 unfolding scan_from
 large_step at [] f front is some = absurd (omega arith)
 large_step at (c ∷ cs) (token kind n) front is some =
@@ -86,7 +92,8 @@ large_step at (c ∷ cs) (token kind n) front is some =
 large_step at cs (gap n) front is some = absurd is
 large_step at cs nothing front is some = absurd is
 
-pub nothing_step : (at : ℕ) (cs : List ℕ) (f : Front) → front_of cs ≡ f → IsPieceOf f cs Nothing → 0 < length cs → scan_from at 0 cs ≡ Err (BadChar at)
+pub nothing_step : (at : ℕ) (cs : List ℕ) (f : Front) → front_of cs ≡ f → IsPieceOf f cs Nothing → 0 < length cs
+    → scan_from at 0 cs ≡ Err (BadChar at)
 unfolding scan_from
 nothing_step at [] f front is some = absurd (omega arith)
 nothing_step at (c ∷ cs) nothing front is some = ap (λ f. scan_front at (c ∷ cs) f (λ k. scan_from (at + len_utf8 c) (k - 1) cs)) front
@@ -109,7 +116,8 @@ module _ {text : List ℕ} {tokens : List Token} {at : ℕ} {rest : List ℕ} (r
   front_boundary len more goes =
       subst (IsCharBoundary rest) (sym goes.spans.bytes) (is_cut rest goes.count read.utf8).boundary
 
-  pub has_read_more : (len : ℕ) (more : List Token) → GoesOn at len (chars rest) more → HasRead text (tokens ++ more) (at + len) (drop len rest)
+  pub has_read_more : (len : ℕ) (more : List Token) → GoesOn at len (chars rest) more
+      → HasRead text (tokens ++ more) (at + len) (drop len rest)
   has_read_more len more goes =
       let cut = is_cut rest goes.count read.utf8 in
       let same = sym goes.spans.bytes in
@@ -148,14 +156,18 @@ pub record Advances (tokens next : List Token) (at len : ℕ) (rest : List ℕ) 
   pub added : next ≡ tokens ++ more
   pub goes : GoesOn at len (chars rest) more
 
-pub gap_advances : (tokens next : List Token) (at len found : ℕ) (rest : List ℕ) → IsPieceOf (front_of (chars rest)) (chars rest) (Gap found) → len ≡ found → next ≡ tokens → Advances tokens next at len rest
+pub gap_advances : (tokens next : List Token) (at len found : ℕ) (rest : List ℕ)
+    → IsPieceOf (front_of (chars rest)) (chars rest) (Gap found) → len ≡ found → next ≡ tokens
+    → Advances tokens next at len rest
 gap_advances tokens next at len found rest is len_is next_is = record {
   more = [];
   added = next_is ∙ sym (append-nil tokens);
   goes = gap_step at len (chars rest) (front_of (chars rest)) refl (subst (λ k. IsPieceOf (front_of (chars rest)) (chars rest) (Gap k)) (sym len_is) is);
 }
 
-pub token_advances : (tokens next : List Token) (at len found : ℕ) (kind : Kind) (rest : List ℕ) → IsPieceOf (front_of (chars rest)) (chars rest) (piece.Token kind found) → len ≡ found → next ≡ tokens ++ (record { kind = kind; start = at; end = at + found } ∷ []) → Advances tokens next at len rest
+pub token_advances : (tokens next : List Token) (at len found : ℕ) (kind : Kind) (rest : List ℕ)
+    → IsPieceOf (front_of (chars rest)) (chars rest) (piece.Token kind found) → len ≡ found
+    → next ≡ tokens ++ (record { kind = kind; start = at; end = at + found } ∷ []) → Advances tokens next at len rest
 token_advances tokens next at len found kind rest is len_is next_is =
     let end_is : next ≡ tokens ++ (record { kind = kind; start = at; end = at + len } ∷ []) = subst (λ k. next ≡ tokens ++ (record { kind = kind; start = at; end = at + k } ∷ [])) (sym len_is) next_is in
     record {

@@ -1,22 +1,21 @@
 -- The scan follows the relation of what a text may be cut into.
-use Rattle.std.proofs.Common.{◌≡◌, ℕ, zero, suc, ◌+◌, ◌-◌, ◌<◌, ◌≤◌, Bool, true, false, List, [], ◌∷◌, ◌++◌, length, take, drop, Option, Some, None, Ok, Err, sym, refl, ap, ◌∙◌, subst, ⊎_elim, arith, rules, length-append, length-drop, length-take-le, take-append-drop, append_assoc, eqb}
-use Rattle.std.specs.Prelude.{nat_lt}
+use Rattle.std.proofs.Common.{◌≡◌, ℕ, zero, suc, ◌+◌, ◌-◌, ◌<◌, ◌≤◌, Bool, true, false, List, [], ◌∷◌, ◌++◌, length, take, drop, Option, Some, None, Err, sym, refl, ap, ◌∙◌, subst, ⊎_elim, arith, length-append, length-drop, length-take-le, take-append-drop, append_assoc, eqb}
 use Rattle.std.specs.Option.{is_some}
-use Rattle.std.specs.List.{list_all, prefix_len}
+use Rattle.std.specs.List.{prefix_len}
 use Rattle.std.specs.Char.{len_utf8}
 use Rattle.std.specs.Str.{chars}
-use Rattle.std.proofs.lemmas.Bool.{cond-true, cond-false, cases_Bool, cases_lt, false≢true, eqb-true, eqb-false, not-false, and_parts}
+use Rattle.std.proofs.lemmas.Bool.{cond-true, cond-false, cases_Bool, cases_lt, false≢true, eqb-true, eqb-false, not-false}
 use Rattle.std.proofs.lemmas.List.{take_at, nil_from_length}
 use Rattle.ftl_tokens.specs.declared.kind.Kind.{Kind}
 use Rattle.ftl_tokens.specs.declared.kind.Kind.TheVariants.{Number}
 use Rattle.ftl_tokens.specs.declared.kind.Token.{Token}
 use Rattle.ftl_tokens.specs.declared.fault.TokenFault.TheVariants.{BadChar, NumberTooLarge}
 use Rattle.ftl_tokens.specs.Kinds.{kind_of}
-use Rattle.ftl_tokens.specs.Scan.{is_white_space, stays_in_line, byte_length, greatest, longest_token, Front, gap, token, nothing, token_if, token_front, front_of, is_too_large, Scanning, followed_by, scan_front, scan_from, scan}
+use Rattle.ftl_tokens.specs.Scan.{is_white_space, stays_in_line, byte_length, greatest, longest_token, Front, gap, token, nothing, token_if, front_of, is_too_large, followed_by, scan_front, scan_from, scan}
 use Rattle.ftl_tokens.specs.Scans.{IsLineEnd, IsGap, white_space, comment, IsLongestToken, BeginsNothing, Scans, at_end, past_gap, past_token, large_number, bad_char}
 use Rattle.ftl_tokens.specs.Piece.{Spans}
 use Rattle.ftl_tokens.proofs.FrontLemmas.{kind_of-nil, list_all-run, prefix_len-le, none-from_is_some}
-use Rattle.ftl_tokens.proofs.ScanLemmas.{scan_after, followed_by-nil}
+use Rattle.ftl_tokens.proofs.ScanLemmas.{scan_after}
 
 -- the greatest that passes: it passes or is 0, is no more than n, and what is above it fails
 greatest-le : (test : ℕ → Bool) (n : ℕ) → greatest test n ≤ n
@@ -90,7 +89,9 @@ comment_facts : (cs : List ℕ) → FrontFacts (35 ∷ cs) (gap (suc (prefix_len
 comment_facts cs = (comment (list_all-run stays_in_line (prefix_len stays_in_line cs) cs (omega arith)) (line_end cs), omega arith, omega (arith, prefix_len-le stays_in_line cs))
 
 -- the front where neither white space nor a comment begins
-token_facts : (c : ℕ) (cs : List ℕ) (kind : Option Kind) → is_white_space c ≡ false → (c ≡ 35 → ⊥) → kind_of (take (longest_token (c ∷ cs)) (c ∷ cs)) ≡ kind → FrontFacts (c ∷ cs) (token_if kind (longest_token (c ∷ cs)))
+token_facts : (c : ℕ) (cs : List ℕ) (kind : Option Kind) → is_white_space c ≡ false → (c ≡ 35 → ⊥)
+    → kind_of (take (longest_token (c ∷ cs)) (c ∷ cs)) ≡ kind
+    → FrontFacts (c ∷ cs) (token_if kind (longest_token (c ∷ cs)))
 token_facts c cs None no_white no_hash kind = record {
   no_white_space = no_white;
   no_comment = no_hash;
@@ -149,7 +150,8 @@ large_is_number Number text large = refl
 large_is_number _ text large = absurd (false≢true large)
 
 -- one step of the scan, and the relation for what is left
-scans_step : (at c : ℕ) (cs : List ℕ) (f : Front) → front_of (c ∷ cs) ≡ f → FrontFacts (c ∷ cs) f → ((n : ℕ) → 0 < n → n ≤ length (c ∷ cs) → Scans (at + byte_length (take n (c ∷ cs))) (drop n (c ∷ cs)) (scan_from (at + byte_length (take n (c ∷ cs))) 0 (drop n (c ∷ cs)))) → Scans at (c ∷ cs) (scan_from at 0 (c ∷ cs))
+scans_step : (at c : ℕ) (cs : List ℕ) (f : Front) → front_of (c ∷ cs) ≡ f → FrontFacts (c ∷ cs) f
+    → ((n : ℕ) → 0 < n → n ≤ length (c ∷ cs) → Scans (at + byte_length (take n (c ∷ cs))) (drop n (c ∷ cs)) (scan_from (at + byte_length (take n (c ∷ cs))) 0 (drop n (c ∷ cs)))) → Scans at (c ∷ cs) (scan_from at 0 (c ∷ cs))
 unfolding scan_from
 scans_step at c cs (gap n) front facts rest =
     let all = c ∷ cs in

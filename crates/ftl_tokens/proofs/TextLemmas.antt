@@ -1,5 +1,5 @@
 -- A text that is cut after its first characters.
-use Rattle.std.proofs.Common.{◌≡◌, ℕ, zero, suc, ◌+◌, ◌<◌, ◌≤◌, Bool, true, false, ◌&&◌, List, [], ◌∷◌, ◌++◌, length, take, drop, sym, refl, ap, ◌∙◌, subst, arith, length-append, take-append-drop}
+use Rattle.std.proofs.Common.{◌≡◌, ℕ, zero, suc, ◌+◌, ◌<◌, ◌≤◌, true, List, [], ◌∷◌, ◌++◌, length, take, drop, sym, refl, ap, ◌∙◌, subst, arith, length-append, take-append-drop}
 use Rattle.std.specs.Char.{encode_utf8, len_utf8}
 use Rattle.std.specs.Prelude.{encode_utf8_all}
 use Rattle.std.specs.Str.{chars, all_scalars, IsUtf8, IsCharBoundary}
@@ -54,11 +54,13 @@ pub byte_length-cons : (c : ℕ) (cs : List ℕ) → byte_length (c ∷ cs) ≡ 
 byte_length-cons c cs = length-append (encode_utf8 c) (encode_utf8_all cs) ∙ ap (λ n. n + byte_length cs) (length-encode c)
 
 -- the first character of a text, as an iterator over it takes it
-pub first_char : (text before after : List ℕ) (c : ℕ) → IsUtf8 text → before ≡ text → before ≡ encode_utf8 c ++ after → chars text ≡ c ∷ chars after
+pub first_char : (text before after : List ℕ) (c : ℕ) → IsUtf8 text → before ≡ text → before ≡ encode_utf8 c ++ after
+    → chars text ≡ c ∷ chars after
 first_char text before after c utf8 same split = chars_past_char text after c utf8 (sym same ∙ split)
 
 -- what is left then is a text
-pub rest_is_text : (text before after : List ℕ) (c : ℕ) → IsUtf8 text → before ≡ text → before ≡ encode_utf8 c ++ after → IsUtf8 after
+pub rest_is_text : (text before after : List ℕ) (c : ℕ) → IsUtf8 text → before ≡ text
+    → before ≡ encode_utf8 c ++ after → IsUtf8 after
 rest_is_text text before after c utf8 same split = IsUtf8-past_char text after c utf8 (sym same ∙ split)
 
 -- nothing is left
@@ -66,7 +68,8 @@ pub no_char : (text before : List ℕ) → before ≡ text → length before ≡
 no_char text before same none = ap (λ bs. length (chars bs)) (sym same ∙ nil_from_length before none) ∙ ap length chars-nil
 
 -- the first two characters
-pub two_chars : (text before after last : List ℕ) (c d : ℕ) → IsUtf8 text → before ≡ text → before ≡ encode_utf8 c ++ after → after ≡ encode_utf8 d ++ last → chars text ≡ c ∷ d ∷ chars last
+pub two_chars : (text before after last : List ℕ) (c d : ℕ) → IsUtf8 text → before ≡ text
+    → before ≡ encode_utf8 c ++ after → after ≡ encode_utf8 d ++ last → chars text ≡ c ∷ d ∷ chars last
 two_chars text before after last c d utf8 same split split_after =
     first_char text before after c utf8 same split ∙ ap (λ cs. c ∷ cs) (chars_past_char after last d (rest_is_text text before after c utf8 same split) split_after)
 

@@ -4,3 +4,4 @@ pub mod Run
 pub mod Scan
 pub mod Scans
 pub mod Tokenized
+pub use Rattle.ftl_model.specs.Outcome

@@ -4,7 +4,7 @@ use Rattle.std.specs.Char.{is_ascii_digit}
 use Rattle.ftl_tokens.specs.declared.piece.Piece.{Piece}
 use Rattle.ftl_tokens.specs.declared.piece.Piece.TheVariants.{Gap, Token, LargeNumber, Nothing}
 use Rattle.ftl_tokens.specs.Kinds.{begins_word}
-use Rattle.ftl_tokens.specs.Scan.{byte_length, Front, gap, token, nothing, is_too_large}
+use Rattle.ftl_tokens.specs.Scan.{byte_length, Front, gap, token, nothing, is_too_large, front_of, token_front, longest_token}
 
 -- the first n of these characters, one or more, take len bytes
 pub record Spans (cs : List ℕ) (n len : ℕ) : Type 0 where
@@ -19,6 +19,14 @@ IsPieceOf (token kind n) cs (Token found len) = (found ≡ kind) × (is_too_larg
 IsPieceOf (token kind n) cs LargeNumber = is_too_large kind (take n cs) ≡ true
 IsPieceOf nothing cs Nothing = Unit {0}
 IsPieceOf _ cs _ = ⊥
+
+-- the code's piece is the front of these characters
+abbrev pub IsFrontPiece : List ℕ → Piece → Type 0
+IsFrontPiece cs piece = IsPieceOf (front_of cs) cs piece
+
+-- the code's piece is the longest token there, or nothing
+abbrev pub IsTokenPiece : List ℕ → Piece → Type 0
+IsTokenPiece cs piece = IsPieceOf (token_front cs (longest_token cs)) cs piece
 
 -- the first character may begin a word
 abbrev pub StartsWord : List ℕ → Type 0

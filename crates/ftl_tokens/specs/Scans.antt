@@ -1,5 +1,5 @@
 -- The scan again, as a relation: what a text may be cut into, from the left.
-use Rattle.std.specs.Prelude.{◌≡◌, ◌≢◌, ℕ, ◌+◌, ◌<◌, Bool, true, false, List, [], ◌∷◌, ◌++◌, length, Some, None, Ok, Err}
+use Rattle.std.specs.Prelude.{◌≡◌, ◌≢◌, ℕ, ◌+◌, ◌<◌, true, false, List, [], ◌∷◌, ◌++◌, length, Some, None, Ok, Err}
 use Rattle.std.specs.List.{list_all}
 use Rattle.ftl_tokens.specs.declared.kind.Kind.{Kind}
 use Rattle.ftl_tokens.specs.declared.kind.Kind.TheVariants.{Number}
@@ -32,7 +32,11 @@ pub record BeginsNothing (c : ℕ) (cs : List ℕ) : Type 0 where
 -- the characters from byte `at` on have these tokens, or this first fault
 pub data Scans : ℕ → List ℕ → Scanning → Type 0 where
   at_end : {at : ℕ} → Scans at [] (Ok [])
-  past_gap : {at : ℕ} {text rest : List ℕ} {scan : Scanning} → IsGap text rest → Scans (at + byte_length text) rest scan → Scans at (text ++ rest) scan
-  past_token : {at : ℕ} {kind : Kind} {text rest : List ℕ} {scan : Scanning} → IsLongestToken kind text rest → is_too_large kind text ≡ false → Scans (at + byte_length text) rest scan → Scans at (text ++ rest) (followed_by (record { kind = kind; start = at; end = at + byte_length text } ∷ []) scan)
-  large_number : {at : ℕ} {text rest : List ℕ} → IsLongestToken Number text rest → is_too_large Number text ≡ true → Scans at (text ++ rest) (Err (NumberTooLarge at))
+  past_gap : {at : ℕ} {text rest : List ℕ} {scan : Scanning} → IsGap text rest
+      → Scans (at + byte_length text) rest scan → Scans at (text ++ rest) scan
+  past_token : {at : ℕ} {kind : Kind} {text rest : List ℕ} {scan : Scanning} → IsLongestToken kind text rest
+      → is_too_large kind text ≡ false → Scans (at + byte_length text) rest scan
+      → Scans at (text ++ rest) (followed_by (record { kind = kind; start = at; end = at + byte_length text } ∷ []) scan)
+  large_number : {at : ℕ} {text rest : List ℕ} → IsLongestToken Number text rest → is_too_large Number text ≡ true
+      → Scans at (text ++ rest) (Err (NumberTooLarge at))
   bad_char : {at c : ℕ} {cs : List ℕ} → BeginsNothing c cs → Scans at (c ∷ cs) (Err (BadChar at))

@@ -1,7 +1,7 @@
 //! A text goes in and its tokens come out, each with its kind and its place in bytes, or the first
 //! place at which the text goes wrong. Names, numbers, reserved words and marks are tokens; white
 //! space and comments stand between them. `specs/Kinds.antt` says which texts are tokens,
-//! `specs/Scan.antt` which tokens a text has, and `specs/Symbols.antt` what readers see of them.
+//! `specs/Scan.antt` which tokens a text has, and `specs/Tokenized.antt` what readers see of it.
 #![tactic(auto)]
 
 mod fault;

@@ -5,8 +5,8 @@ ghost use Rattle.std.specs.Option.{SomeIff};
 ghost use Rattle.std.specs.Str.{chars};
 ghost use Rattle.std.specs.Str.Parse.{digits_value};
 ghost use Rattle.ftl_tokens.specs.Kinds.{is_number, kind_of_mark};
-ghost use Rattle.ftl_tokens.specs.Scan.{is_white_space, longest_token, token_if, token_front, front_of};
-ghost use Rattle.ftl_tokens.specs.Piece.{IsPieceOf, StartsWord, StartsNumber, StartsOther};
+ghost use Rattle.ftl_tokens.specs.Scan.{is_white_space, token_if};
+ghost use Rattle.ftl_tokens.specs.Piece.{IsPieceOf, IsFrontPiece, IsTokenPiece, StartsWord, StartsNumber, StartsOther};
 
 use crate::kind::Kind;
 use crate::run::{Run, run_length};
@@ -46,7 +46,7 @@ pub fn number_of(digits: &str) -> Option<u32>
 
 fn word_piece(text: &str) -> Piece
     requires { StartsWord (chars text.now) }
-    ensures { IsPieceOf (token_front (chars text.now) (longest_token (chars text.now))) (chars text.now) result }
+    ensures { IsTokenPiece (chars text.now) result }
 {
     let length = run_length(Run::Word, text);
     Piece::Token(word_kind(&text[..length]), length)
@@ -54,7 +54,7 @@ fn word_piece(text: &str) -> Piece
 
 fn number_piece(text: &str) -> Piece
     requires { StartsNumber (chars text.now) }
-    ensures { IsPieceOf (token_front (chars text.now) (longest_token (chars text.now))) (chars text.now) result }
+    ensures { IsTokenPiece (chars text.now) result }
 {
     let length = run_length(Run::Digits, text);
     match number_of(&text[..length]) {
@@ -74,7 +74,7 @@ fn short_piece(c: char) -> Piece
 
 fn mark_piece(text: &str) -> Piece
     requires { StartsOther (chars text.now) }
-    ensures { IsPieceOf (token_front (chars text.now) (longest_token (chars text.now))) (chars text.now) result }
+    ensures { IsTokenPiece (chars text.now) result }
 {
     let mut rest = text.chars();
     let Some(first) = rest.next() else {
@@ -91,7 +91,7 @@ fn mark_piece(text: &str) -> Piece
 
 /// The front of a text.
 pub fn piece_of(text: &str) -> Piece
-    ensures { IsPieceOf (front_of (chars text.now)) (chars text.now) result }
+    ensures { IsFrontPiece (chars text.now) result }
 {
     let Some(first) = text.chars().next() else {
         return Piece::Nothing;

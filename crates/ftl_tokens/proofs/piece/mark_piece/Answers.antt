@@ -1,6 +1,6 @@
 use Rattle.std.proofs.Common.{refl, arith}
 use Rattle.std.specs.Str.{chars}
-use Rattle.ftl_tokens.proofs.TextLemmas.{first_char, two_chars, rest_is_text, no_char}
+use Rattle.ftl_tokens.proofs.TextLemmas.{first_char, two_chars, no_char}
 use Rattle.ftl_tokens.proofs.PieceLemmas.{no_mark_at, last_mark_at, short_mark_at, long_mark_at}
 use Rattle.ftl_tokens.proofs.piece.mark_piece.Goals as goal
 

@@ -1,6 +1,6 @@
-use Rattle.std.proofs.Common.{sym, ap, ◌∙◌, rules}
+use Rattle.std.proofs.Common.{sym, ◌∙◌, rules}
 use Rattle.std.specs.Str.{chars}
-use Rattle.ftl_tokens.specs.declared.piece.Piece.TheVariants.{Gap, Nothing}
+use Rattle.ftl_tokens.specs.declared.piece.Piece.TheVariants.{Gap}
 use Rattle.ftl_tokens.proofs.TextLemmas.{first_char, no_char}
 use Rattle.ftl_tokens.proofs.PieceLemmas.{nothing_at, white_space_is, comment_at, other_at, front_along}
 use Rattle.ftl_tokens.proofs.piece.piece_of.Goals as goal

@@ -1,5 +1,4 @@
-use Rattle.std.proofs.Common.{sym, ◌∙◌, rules, arith}
-use Rattle.std.proofs.lemmas.Grind.{common_steps}
+use Rattle.std.proofs.Common.{sym, ◌∙◌, rules}
 use Rattle.ftl_tokens.proofs.RunLemmas.{runs_through_more, runs_through_stop, runs_through_end}
 use Rattle.ftl_tokens.proofs.run.run_length.Goals as goal
 

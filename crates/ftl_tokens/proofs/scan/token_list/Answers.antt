@@ -1,5 +1,5 @@
-use Rattle.std.proofs.Common.{◌≡◌, ◌+◌, ◌<◌, [], ◌∷◌, ◌++◌, length, sym, refl, ap, ◌∙◌, subst, arith, false-eqb, rules}
-use Rattle.std.specs.Str.{chars, IsCharBoundary}
+use Rattle.std.proofs.Common.{◌+◌, [], ◌∷◌, ◌++◌, sym, refl, ap, ◌∙◌, subst, arith, false-eqb, rules}
+use Rattle.std.specs.Str.{chars}
 use Rattle.ftl_tokens.specs.Scan.{front_of}
 use Rattle.ftl_tokens.specs.declared.fault.TokenFault.TheVariants.{BadChar, NumberTooLarge}
 use Rattle.ftl_tokens.proofs.ScanLemmas.{HasRead, Advances, has_read_nothing, has_read_all, has_fault, has_char, large_step, nothing_step, gap_advances, token_advances, advanced_boundary, advanced_some, advanced_within, has_read_next}

@@ -1,4 +1,4 @@
-use Rattle.std.proofs.Common.{◌≡◌, sym, ap, subst, string_bytes}
+use Rattle.std.proofs.Common.{subst, string_bytes}
 use Rattle.std.proofs.lemmas.Str.{IsUtf8-string_bytes}
 use Rattle.ftl_tokens.specs.Tokenized.{AreTokensOf}
 use Rattle.ftl_tokens.proofs.TokenLemmas.{are_tokens_of}
