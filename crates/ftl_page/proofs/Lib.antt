@@ -1,2 +1,4 @@
 pub mod LineLemmas
 pub mod WordLemmas
+pub mod StrayLemmas
+pub mod BodyLemmas

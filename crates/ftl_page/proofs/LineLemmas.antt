@@ -9,10 +9,10 @@ use Rattle.std.proofs.lemmas.Str.{IsCharBoundary-end, IsCharBoundary-after_ascii
 use Rattle.ftl_page.specs.Lines.{longer_first, lines_of, is_heading, is_body_line}
 use Rattle.ftl_page.specs.LineLength.{line_length}
 
-line_length-feed : (b : ℕ) (bs : List ℕ) → eqb b 10 ≡ true → line_length (b ∷ bs) ≡ 1
+pub line_length-feed : (b : ℕ) (bs : List ℕ) → eqb b 10 ≡ true → line_length (b ∷ bs) ≡ 1
 line_length-feed b bs feed = cond-true (eqb b 10) 1 (1 + line_length bs) feed
 
-line_length-other : (b : ℕ) (bs : List ℕ) → eqb b 10 ≡ false → line_length (b ∷ bs) ≡ suc (line_length bs)
+pub line_length-other : (b : ℕ) (bs : List ℕ) → eqb b 10 ≡ false → line_length (b ∷ bs) ≡ suc (line_length bs)
 line_length-other b bs other = omega (arith, cond-false (eqb b 10) 1 (1 + line_length bs) other)
 
 pub line_length-le : (bs : List ℕ) → line_length bs ≤ length bs
@@ -32,7 +32,7 @@ line_length-some (b ∷ bs) some =
     (cases_Bool (eqb b 10))
 
 -- a line ends with the text or with a line feed
-line_end : (bs : List ℕ) → (line_length bs ≡ length bs) ⊎ ((0 < line_length bs) × (get_or bs (line_length bs - 1) 0 ≡ 10))
+pub line_end : (bs : List ℕ) → (line_length bs ≡ length bs) ⊎ ((0 < line_length bs) × (get_or bs (line_length bs - 1) 0 ≡ 10))
 line_end [] = inl refl
 line_end (b ∷ bs) =
     ⊎_elim

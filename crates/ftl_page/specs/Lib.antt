@@ -1,4 +1,6 @@
 pub mod Blocks
+pub mod Body
+pub mod Found
 pub mod Headings
 pub mod LineLength
 pub mod Lines

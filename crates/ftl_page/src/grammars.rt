@@ -28,8 +28,16 @@ class Word : Box { input iw, ih;
 pub fn shipped(name: &str) -> Option<&'static str>
     ensures { option_copied result ≡ shipped_text name.now }
 {
-    match name {
-        "stack" => Some(STACK),
-        _ => None,
+    shipped_by_bytes(name.as_bytes())
+}
+
+/// The same, by the bytes of the name.
+pub fn shipped_by_bytes(name: &[u8]) -> Option<&'static str>
+    ensures { option_copied result ≡ shipped_text name.now }
+{
+    if name == b"stack".as_slice() {
+        Some(STACK)
+    } else {
+        None
     }
 }

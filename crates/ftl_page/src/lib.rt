@@ -4,6 +4,7 @@
 //! which sections a page has and which fault is its first.
 #![tactic(auto)]
 
+mod body;
 mod fault;
 mod grammars;
 mod line;
