@@ -20,20 +20,20 @@ closed_line [] after some feed = absurd (omega arith)
 closed_line (b ∷ bs) after some feed =
     ⊎_elim
     (λ is_feed.
-        subst (λ n. lines_of (take n (b ∷ bs) ++ after) ≡ take n (b ∷ bs) ∷ lines_of after) (sym (line_length-feed b bs is_feed)) (cond-true _ _ _ is_feed))
+    subst (λ n. lines_of (take n (b ∷ bs) ++ after) ≡ take n (b ∷ bs) ∷ lines_of after) (sym (line_length-feed b bs is_feed)) (cond-true _ _ _ is_feed))
     (λ other.
-        let more = line_length-other b bs other in
-        let inside : 0 < line_length bs =
-          ⊎_elim
-          (λ some. some)
-          (λ none.
-              let place : line_length (b ∷ bs) - 1 ≡ 0 = omega (arith, more) in
-              absurd (eqb-false b 10 other (ap (λ k. get_or (b ∷ bs) k 0) (sym place) ∙ feed)))
-          (cases_lt 0 (line_length bs)) in
-        let place : line_length (b ∷ bs) - 1 ≡ suc (line_length bs - 1) = omega (arith, more) in
-        let rest = closed_line bs after inside (ap (λ k. get_or (b ∷ bs) k 0) (sym place) ∙ feed) in
-        subst (λ n. lines_of (take n (b ∷ bs) ++ after) ≡ take n (b ∷ bs) ∷ lines_of after) (sym more)
-        (cond-false _ _ _ other ∙ ap (longer_first b) rest))
+    let more = line_length-other b bs other in
+    let inside : 0 < line_length bs =
+    ⊎_elim
+    (λ some. some)
+    (λ none.
+    let place : line_length (b ∷ bs) - 1 ≡ 0 = omega (arith, more) in
+    absurd (eqb-false b 10 other (ap (λ k. get_or (b ∷ bs) k 0) (sym place) ∙ feed)))
+    (cases_lt 0 (line_length bs)) in
+    let place : line_length (b ∷ bs) - 1 ≡ suc (line_length bs - 1) = omega (arith, more) in
+    let rest = closed_line bs after inside (ap (λ k. get_or (b ∷ bs) k 0) (sym place) ∙ feed) in
+    subst (λ n. lines_of (take n (b ∷ bs) ++ after) ≡ take n (b ∷ bs) ∷ lines_of after) (sym more)
+    (cond-false _ _ _ other ∙ ap (longer_first b) rest))
     (cases_Bool (eqb b 10))
 
 abbrev head_or : List (List ℕ) → List ℕ
@@ -58,14 +58,14 @@ lines_of-joined (line ∷ lines) (b ∷ bs) more split =
     let rest = lines_of-joined lines (drop (line_length text) text) more rest_is in
     ⊎_elim
     (λ all.
-        let none : lines ++ more ≡ [] = sym rest_is ∙ lines_of-nil (drop (line_length text) text) (omega (arith, all, length-drop (line_length text) text)) in
-        let no_lines : lines ≡ [] = nil_from_length lines (omega (arith, ap length none, length-append lines more)) in
-        let whole : line ≡ text = sym line_is ∙ take_all (line_length text) text (omega (arith, all)) in
-        subst (λ ls. lines_of (line ++ joined ls) ≡ line ∷ ls) (sym no_lines)
-        (ap lines_of (append-nil line ∙ whole) ∙ split ∙ ap (λ ls. line ∷ ls) none))
+    let none : lines ++ more ≡ [] = sym rest_is ∙ lines_of-nil (drop (line_length text) text) (omega (arith, all, length-drop (line_length text) text)) in
+    let no_lines : lines ≡ [] = nil_from_length lines (omega (arith, ap length none, length-append lines more)) in
+    let whole : line ≡ text = sym line_is ∙ take_all (line_length text) text (omega (arith, all)) in
+    subst (λ ls. lines_of (line ++ joined ls) ≡ line ∷ ls) (sym no_lines)
+    (ap lines_of (append-nil line ∙ whole) ∙ split ∙ ap (λ ls. line ∷ ls) none))
     (λ ends.
-        subst (λ l. lines_of (l ++ joined lines) ≡ l ∷ lines) line_is
-        (closed_line text (joined lines) ends.0 ends.1 ∙ ap (λ ls. take (line_length text) text ∷ ls) rest))
+    subst (λ l. lines_of (l ++ joined lines) ≡ l ∷ lines) line_is
+    (closed_line text (joined lines) ends.0 ends.1 ∙ ap (λ ls. take (line_length text) text ∷ ls) rest))
     (line_end text)
 
 joined-push : (lines : List (List ℕ)) (line : List ℕ) → joined (lines ++ line ∷ []) ≡ joined lines ++ line

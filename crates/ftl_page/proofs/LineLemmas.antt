@@ -37,17 +37,17 @@ line_end [] = inl refl
 line_end (b ∷ bs) =
     ⊎_elim
     (λ feed.
-        let one = line_length-feed b bs feed in
-        let first : line_length (b ∷ bs) - 1 ≡ 0 = omega (arith, one) in
-        inr (omega (arith, one), ap (λ k. get_or (b ∷ bs) k 0) first ∙ eqb-true b 10 feed))
+    let one = line_length-feed b bs feed in
+    let first : line_length (b ∷ bs) - 1 ≡ 0 = omega (arith, one) in
+    inr (omega (arith, one), ap (λ k. get_or (b ∷ bs) k 0) first ∙ eqb-true b 10 feed))
     (λ other.
-        let more = line_length-other b bs other in
-        ⊎_elim
-        (λ all. inl (omega (arith, more, all)))
-        (λ ends.
-            let place : line_length (b ∷ bs) - 1 ≡ suc (line_length bs - 1) = omega (arith, more, ends.0) in
-            inr (omega (arith, more), ap (λ k. get_or (b ∷ bs) k 0) place ∙ ends.1))
-        (line_end bs))
+    let more = line_length-other b bs other in
+    ⊎_elim
+    (λ all. inl (omega (arith, more, all)))
+    (λ ends.
+    let place : line_length (b ∷ bs) - 1 ≡ suc (line_length bs - 1) = omega (arith, more, ends.0) in
+    inr (omega (arith, more), ap (λ k. get_or (b ∷ bs) k 0) place ∙ ends.1))
+    (line_end bs))
     (cases_Bool (eqb b 10))
 
 -- so it ends between characters
@@ -56,9 +56,9 @@ line_boundary text utf8 =
     ⊎_elim
     (λ all. subst (IsCharBoundary text) (sym all) (IsCharBoundary-end text))
     (λ ends.
-        let fits = line_length-le text in
-        let back : line_length text - 1 + 1 ≡ line_length text = omega (arith, ends.0) in
-        subst (IsCharBoundary text) back (IsCharBoundary-after_ascii text (line_length text - 1) utf8 (omega (arith, ends.0)) (omega (arith, ends.1))))
+    let fits = line_length-le text in
+    let back : line_length text - 1 + 1 ≡ line_length text = omega (arith, ends.0) in
+    subst (IsCharBoundary text) back (IsCharBoundary-after_ascii text (line_length text - 1) utf8 (omega (arith, ends.0)) (omega (arith, ends.1))))
     (line_end text)
 
 -- the first line, and the lines of what follows it
@@ -76,9 +76,9 @@ lines_of-first (b ∷ c ∷ bs) some =
     ⊎_elim
     (λ feed. cond-true _ _ _ feed ∙ ap (λ n. take n all ∷ lines_of (drop n all)) (sym (line_length-feed b rest feed)))
     (λ other.
-        cond-false _ _ _ other
-        ∙ ap (longer_first b) (lines_of-first (c ∷ bs) (omega arith))
-        ∙ ap (λ n. take n all ∷ lines_of (drop n all)) (sym (line_length-other b rest other)))
+    cond-false _ _ _ other
+    ∙ ap (longer_first b) (lines_of-first (c ∷ bs) (omega arith))
+    ∙ ap (λ n. take n all ∷ lines_of (drop n all)) (sym (line_length-other b rest other)))
     (cases_Bool (eqb b 10))
 
 pub lines_of-nil : (text : List ℕ) → length text ≡ 0 → lines_of text ≡ []

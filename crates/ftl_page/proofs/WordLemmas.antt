@@ -12,11 +12,11 @@ words_of-white [] = refl
 words_of-white (b ∷ bs) =
     ⊎_elim
     (λ white.
-        let more : prefix_len is_white_space (b ∷ bs) ≡ suc (prefix_len is_white_space bs) = omega (arith, cond-true (is_white_space b) (1 + prefix_len is_white_space bs) 0 white) in
-        cond-true _ _ _ white ∙ words_of-white bs ∙ ap (λ n. words_of (drop n (b ∷ bs))) (sym more))
+    let more : prefix_len is_white_space (b ∷ bs) ≡ suc (prefix_len is_white_space bs) = omega (arith, cond-true (is_white_space b) (1 + prefix_len is_white_space bs) 0 white) in
+    cond-true _ _ _ white ∙ words_of-white bs ∙ ap (λ n. words_of (drop n (b ∷ bs))) (sym more))
     (λ black.
-        let none = cond-false (is_white_space b) (1 + prefix_len is_white_space bs) 0 black in
-        ap (λ n. words_of (drop n (b ∷ bs))) (sym none))
+    let none = cond-false (is_white_space b) (1 + prefix_len is_white_space bs) 0 black in
+    ap (λ n. words_of (drop n (b ∷ bs))) (sym none))
     (cases_Bool (is_white_space b))
 
 -- the first byte is none of white space
@@ -29,8 +29,8 @@ starts_black [] = tt
 starts_black (b ∷ bs) =
     ⊎_elim
     (λ white.
-        let more : prefix_len is_white_space (b ∷ bs) ≡ suc (prefix_len is_white_space bs) = omega (arith, cond-true (is_white_space b) (1 + prefix_len is_white_space bs) 0 white) in
-        subst (λ n. StartsBlack (drop n (b ∷ bs))) (sym more) (starts_black bs))
+    let more : prefix_len is_white_space (b ∷ bs) ≡ suc (prefix_len is_white_space bs) = omega (arith, cond-true (is_white_space b) (1 + prefix_len is_white_space bs) 0 white) in
+    subst (λ n. StartsBlack (drop n (b ∷ bs))) (sym more) (starts_black bs))
     (λ black. subst (λ n. StartsBlack (drop n (b ∷ bs))) (sym (cond-false (is_white_space b) (1 + prefix_len is_white_space bs) 0 black)) black)
     (cases_Bool (is_white_space b))
 
@@ -46,13 +46,13 @@ words_of-word b (c ∷ bs) black =
     let all = b ∷ c ∷ bs in
     cond-false _ _ _ black
     ∙ ⊎_elim
-      (λ white.
-          let none = cond-false (not (is_white_space c)) (1 + position_or_len is_white_space bs) 0 (not_from_true (is_white_space c) white) in
-          let one = word_length-more b (c ∷ bs) black ∙ ap (λ n. suc n) none in
-          cond-true _ _ _ white ∙ ap (λ n. take n all ∷ words_of (drop n all)) (sym one))
-      (λ goes_on.
-          cond-false _ _ _ goes_on ∙ ap (longer_first b) (words_of-word c bs goes_on) ∙ ap (λ n. take n all ∷ words_of (drop n all)) (sym (word_length-more b (c ∷ bs) black)))
-      (cases_Bool (is_white_space c))
+    (λ white.
+    let none = cond-false (not (is_white_space c)) (1 + position_or_len is_white_space bs) 0 (not_from_true (is_white_space c) white) in
+    let one = word_length-more b (c ∷ bs) black ∙ ap (λ n. suc n) none in
+    cond-true _ _ _ white ∙ ap (λ n. take n all ∷ words_of (drop n all)) (sym one))
+    (λ goes_on.
+    cond-false _ _ _ goes_on ∙ ap (longer_first b) (words_of-word c bs goes_on) ∙ ap (λ n. take n all ∷ words_of (drop n all)) (sym (word_length-more b (c ∷ bs) black)))
+    (cases_Bool (is_white_space c))
 
 -- what is cut off as the first word is empty only where there is none
 pub next_word_none : (line : List ℕ) (start : List ℕ) → start ≡ drop (prefix_len is_white_space line) line → length (take (position_or_len is_white_space start) start) ≡ 0 → words_of line ≡ []

@@ -1,5 +1,5 @@
 -- The sections as the code finds them.
-use Rattle.std.specs.Prelude.{◌≡◌, ℕ, false, List, [], Option, Some, None, Result, Ok, Err, option_map, is_some}
+use Rattle.std.specs.Prelude.{◌≡◌, ℕ, false, List, ◌++◌, Option, Some, None, Result, Ok, Err, option_map, is_some}
 use Rattle.ftl_page.specs.declared.fault.Section.{Section}
 use Rattle.ftl_page.specs.declared.fault.Section.TheVariants.{Grammar, Schedule, Document}
 use Rattle.ftl_page.specs.declared.fault.PageFault.{PageFault}
@@ -32,7 +32,11 @@ AddGives (Ok new) old content number body =
     × ((s : Section) → found_in s new ≡ or_else (found_in s old) (text_if s content body))
 AddGives (Err fault) old content number body = content_fault (λ s. is_some (found_in s old)) content number body ≡ Some fault
 
--- the sections of these blocks, or their first fault
-abbrev pub SectionsGive : Result Sections PageFault → List Block → Type 0
-SectionsGive (Ok sections) blocks = (first_fault [] blocks ≡ None) × ((s : Section) → found_in s sections ≡ section_in s blocks)
-SectionsGive (Err fault) blocks = first_fault [] blocks ≡ Some fault
+-- the sections of all these blocks, or the first fault of the later ones
+abbrev pub AreSectionsOf : Result Sections PageFault → List Block → List Block → Type 0
+AreSectionsOf (Ok new) before blocks = (first_fault before blocks ≡ None) × ((s : Section) → found_in s new ≡ section_in s (before ++ blocks))
+AreSectionsOf (Err fault) before blocks = first_fault before blocks ≡ Some fault
+
+-- wherever the old sections are those of some blocks, these are those of these blocks too, or it is their first fault
+abbrev pub SectionsGive : Result Sections PageFault → Sections → List Block → Type 0
+SectionsGive result old blocks = (before : List Block) → ((s : Section) → found_in s old ≡ section_in s before) → AreSectionsOf result before blocks

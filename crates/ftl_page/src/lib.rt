@@ -17,6 +17,7 @@ mod words;
 pub use fault::{PageFault, Section};
 pub use grammars::shipped;
 pub use page::Page;
+pub use split::split_page;
 pub use text::Text;
 
 #[cfg(test)]

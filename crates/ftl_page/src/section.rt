@@ -99,30 +99,35 @@ impl<'a> Sections<'a> {
         }
     }
 
-    fn with(self, which: Section, source: Source<'a>) -> Sections<'a>
+    fn with(&self, which: Section, source: Source<'a>) -> Sections<'a>
         ensures { (s : Section) → found_in s result
-            ≡ (if is_same s which then Some (source_text source.entry) else found_in s self.entry) }
+            ≡ (if is_same s which then Some (source_text source.entry) else found_in s self.now) }
     {
         match which {
             Section::Grammar => Sections {
                 grammar: Some(source),
-                ..self
+                ..*self
             },
             Section::Schedule => Sections {
                 schedule: Some(source),
-                ..self
+                ..*self
             },
             Section::Document => Sections {
                 document: Some(source),
-                ..self
+                ..*self
             },
         }
     }
 
     /// These sections and that of a heading with the text after it, or the fault of these lines.
-    pub fn add(self, number: u32, heading: &'a str, body: &'a str) -> Result<Sections<'a>, PageFault>
+    pub fn add(
+        &self,
+        number: u32,
+        heading: &'a str,
+        body: &'a str,
+    ) -> Result<Sections<'a>, PageFault>
         requires { number + 1 + length body.now < 2 ^ 32 }
-        ensures { AddGives result self.entry (content_of (words_of heading.now)) number (lines_of body.now) }
+        ensures { AddGives result self.now (content_of (words_of heading.now)) number (lines_of body.now) }
     {
         let Some(heading) = heading_of(heading.as_bytes()) else {
             return Err(PageFault::UnknownSection { line: number });

@@ -23,9 +23,9 @@ loop-rest-preserved c =
 pub returns : goal.returns
 returns c =
     let next : (length c.loop-rest.rest.now ≡ 0) ⊎ (is_heading c.loop-rest.rest.now ≡ true) =
-      elim c.loop-rest-test.branch [
-        then-loop-rest-test+else-not-is_heading w ↦ inr (sym w.if-not-is_heading.ensures)
+    elim c.loop-rest-test.branch [
+      | then-loop-rest-test+else-not-is_heading w ↦ inr (sym w.if-not-is_heading.ensures)
       | else-loop-rest-test w ↦ inl (eqb-true _ 0 (sym w.loop-rest-test.ensures))
-      ]
+    ]
     in
     body_all c.loop-rest.invariant.body c.split_at.result.0.now c.split_at.result.1.now c.split_at.ensures.front c.split_at.ensures.back next
