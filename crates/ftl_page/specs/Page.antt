@@ -1,5 +1,5 @@
 -- The sections of a page that a command needs, or the first fault of the page.
-use Rattle.std.specs.Prelude.{ℕ, ◌+◌, Bool, true, false, ◌&&◌, List, [], ◌∷◌, ◌++◌, Option, Some, None, is_some, is_none, unwrap_or, Result, Ok, Err, if◌then◌else◌}
+use Rattle.std.specs.Prelude.{ℕ, ◌+◌, Bool, true, false, ◌&&◌, List, [], ◌∷◌, ◌++◌, Option, Some, None, is_some, is_none, Result, Ok, Err, if◌then◌else◌}
 use Rattle.std.specs.List.{take_while, flat_map}
 use Rattle.std.specs.Str.{is_utf8}
 use Rattle.ftl_page.specs.declared.fault.Section.{Section}
@@ -80,13 +80,17 @@ first_fault before (block ∷ blocks) =
 
 -- ---- the page
 
--- the page with these sections, as far as they are there
+-- the page with this grammar and schedule, and the document where it is needed
+abbrev pub page_with_document : Bool → List ℕ → Option (List ℕ) → Option (Option (List ℕ)) → Result Page PageFault
+page_with_document true grammar schedule (Some (Some document)) = Ok (record { grammar = grammar; schedule = schedule; document = Some document })
+page_with_document true grammar schedule _ = Err (NoSection Document)
+page_with_document false grammar schedule _ = Ok (record { grammar = grammar; schedule = schedule; document = None })
+
+-- the page with these sections, as far as they are there; only a schedule may have no text
 abbrev pub page_with : Bool → Option (Option (List ℕ)) → Option (Option (List ℕ)) → Option (Option (List ℕ)) → Result Page PageFault
-page_with need None schedule document = Err (NoSection Grammar)
-page_with need (Some grammar) None document = Err (NoSection Schedule)
-page_with true (Some grammar) (Some schedule) None = Err (NoSection Document)
-page_with true (Some grammar) (Some schedule) (Some document) = Ok (record { grammar = unwrap_or grammar []; schedule = schedule; document = document })
-page_with false (Some grammar) (Some schedule) document = Ok (record { grammar = unwrap_or grammar []; schedule = schedule; document = None })
+page_with need (Some (Some grammar)) (Some schedule) document = page_with_document need grammar schedule document
+page_with need (Some (Some grammar)) None document = Err (NoSection Schedule)
+page_with need _ schedule document = Err (NoSection Grammar)
 
 -- the page of its blocks after line 1
 abbrev pub page_of_blocks : Bool → List Block → Result Page PageFault

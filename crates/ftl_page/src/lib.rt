@@ -7,6 +7,7 @@
 mod body;
 mod fault;
 mod grammars;
+mod laws;
 mod line;
 mod page;
 mod section;
@@ -16,6 +17,7 @@ mod words;
 
 pub use fault::{PageFault, Section};
 pub use grammars::shipped;
+pub use laws::law_of_lines;
 pub use page::Page;
 pub use split::split_page;
 pub use text::Text;

@@ -37,7 +37,7 @@ fn sections_of<'a>(
     sections_of(&sections, number + 1 + body.lines, body.rest)
 }
 
-fn text_of(alloc: Global, source: Source<'_>) -> Result<Option<Text>, PageFault>
+fn schedule_text(alloc: Global, source: Source<'_>) -> Result<Option<Text>, PageFault>
     ensures { Gives OutOfMemory (λ text. text) result (Ok (source_text source.entry)) }
 {
     match source {
@@ -55,7 +55,7 @@ fn page_of_sections(
         (page_with need_document
         (found_in Grammar sections.now) (found_in Schedule sections.now) (found_in Document sections.now)) }
 {
-    let Some(grammar) = sections.grammar else {
+    let Some(Source::Text(grammar)) = sections.grammar else {
         return Err(PageFault::NoSection {
             which: Section::Grammar,
         });
@@ -66,28 +66,20 @@ fn page_of_sections(
         });
     };
     let document = if need_document {
-        let Some(document) = sections.document else {
+        let Some(Source::Text(document)) = sections.document else {
             return Err(PageFault::NoSection {
                 which: Section::Document,
             });
         };
-        text_of(alloc, document)?
+        Some(Text::new(alloc, document)?)
     } else {
         None
     };
-    let schedule = text_of(alloc, schedule)?;
-    match text_of(alloc, grammar)? {
-        Some(grammar) => Ok(Page {
-            grammar,
-            schedule,
-            document,
-        }),
-        None => Ok(Page {
-            grammar: Text::new(alloc, "")?,
-            schedule,
-            document,
-        }),
-    }
+    Ok(Page {
+        grammar: Text::new(alloc, grammar)?,
+        schedule: schedule_text(alloc, schedule)?,
+        document,
+    })
 }
 
 /// The sections of a page that a command needs: `check` and `schedule` need no document. A body is
