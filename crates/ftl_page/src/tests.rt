@@ -13,15 +13,20 @@ fn shown(rt: &(impl Abort + AllocGlobal), page: &str, need: bool) -> Result<Stri
     let mut out = String::new(rt.alloc());
     match split(rt, page.as_bytes(), need) {
         Ok(page) => {
-            let grammar = page.grammar.into_string();
+            let Page {
+                grammar,
+                schedule,
+                document,
+            } = page;
+            let grammar = grammar.into_string();
             let is_stack = Some(grammar.as_str()) == shipped("stack");
             let grammar = if is_stack { "STACK" } else { grammar.as_str() };
             write!(out, "grammar {grammar:?}")?;
-            if let Some(schedule) = page.schedule {
+            if let Some(schedule) = schedule {
                 let schedule = schedule.into_string();
                 write!(out, " schedule {schedule:?}")?;
             }
-            if let Some(document) = page.document {
+            if let Some(document) = document {
                 let document = document.into_string();
                 write!(out, " document {document:?}")?;
             }
