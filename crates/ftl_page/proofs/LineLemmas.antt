@@ -1,12 +1,10 @@
 -- Lines, one after another.
-use Rattle.std.proofs.Common.{◌≡◌, ℕ, zero, suc, ◌+◌, ◌-◌, ◌<◌, ◌≤◌, Bool, true, false, cond, not, eqb, List, [], ◌∷◌, ◌++◌, length, take, drop, get_or, sym, refl, ap, ◌∙◌, subst, ⊎_elim, inl, inr, arith, rules, append_assoc, length-append}
+use Rattle.std.proofs.Common.{◌≡◌, ℕ, suc, ◌+◌, ◌-◌, ◌<◌, ◌≤◌, true, false, eqb, List, [], ◌∷◌, length, take, drop, get_or, sym, refl, ap, ◌∙◌, subst, ⊎_elim, inl, inr, arith}
 use Rattle.std.specs.Prelude.{◌⊎◌}
-use Rattle.std.specs.List.{flat_map, list_all, prefix_len, take_while}
 use Rattle.std.specs.Str.{IsUtf8, IsCharBoundary}
 use Rattle.std.proofs.lemmas.Bool.{cond-true, cond-false, cases_Bool, eqb-true}
-use Rattle.std.proofs.lemmas.List.{take_all, drop_all, append-nil}
 use Rattle.std.proofs.lemmas.Str.{IsCharBoundary-end, IsCharBoundary-after_ascii}
-use Rattle.ftl_page.specs.Lines.{longer_first, lines_of, is_heading, is_body_line}
+use Rattle.ftl_page.specs.Lines.{longer_first, lines_of}
 use Rattle.ftl_page.specs.LineLength.{line_length}
 
 pub line_length-feed : (b : ℕ) (bs : List ℕ) → eqb b 10 ≡ true → line_length (b ∷ bs) ≡ 1
@@ -32,7 +30,8 @@ line_length-some (b ∷ bs) some =
     (cases_Bool (eqb b 10))
 
 -- a line ends with the text or with a line feed
-pub line_end : (bs : List ℕ) → (line_length bs ≡ length bs) ⊎ ((0 < line_length bs) × (get_or bs (line_length bs - 1) 0 ≡ 10))
+pub line_end : (bs : List ℕ)
+    → (line_length bs ≡ length bs) ⊎ ((0 < line_length bs) × (get_or bs (line_length bs - 1) 0 ≡ 10))
 line_end [] = inl refl
 line_end (b ∷ bs) =
     ⊎_elim
@@ -58,17 +57,21 @@ line_boundary text utf8 =
     (λ ends.
     let fits = line_length-le text in
     let back : line_length text - 1 + 1 ≡ line_length text = omega (arith, ends.0) in
-    subst (IsCharBoundary text) back (IsCharBoundary-after_ascii text (line_length text - 1) utf8 (omega (arith, ends.0)) (omega (arith, ends.1))))
+    subst (IsCharBoundary text) back
+    (IsCharBoundary-after_ascii text (line_length text - 1) utf8 (omega (arith, ends.0)) (omega (arith, ends.1))))
     (line_end text)
 
 -- the first line, and the lines of what follows it
-pub lines_of-first : (text : List ℕ) → 0 < length text → lines_of text ≡ take (line_length text) text ∷ lines_of (drop (line_length text) text)
+pub lines_of-first : (text : List ℕ) → 0 < length text
+    → lines_of text ≡ take (line_length text) text ∷ lines_of (drop (line_length text) text)
 unfolding lines_of
 lines_of-first [] some = absurd (omega arith)
 lines_of-first (b ∷ []) some =
     ⊎_elim
-    (λ feed. cond-true _ _ _ feed ∙ ap (λ n. take n (b ∷ []) ∷ lines_of (drop n (b ∷ []))) (sym (line_length-feed b [] feed)))
-    (λ other. cond-false _ _ _ other ∙ ap (λ n. take n (b ∷ []) ∷ lines_of (drop n (b ∷ []))) (sym (line_length-other b [] other)))
+    (λ feed. cond-true _ _ _ feed
+    ∙ ap (λ n. take n (b ∷ []) ∷ lines_of (drop n (b ∷ []))) (sym (line_length-feed b [] feed)))
+    (λ other. cond-false _ _ _ other
+    ∙ ap (λ n. take n (b ∷ []) ∷ lines_of (drop n (b ∷ []))) (sym (line_length-other b [] other)))
     (cases_Bool (eqb b 10))
 lines_of-first (b ∷ c ∷ bs) some =
     let all = b ∷ c ∷ bs in

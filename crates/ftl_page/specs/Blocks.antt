@@ -1,5 +1,5 @@
 -- Headings with the lines after them, and what the headings stand for.
-use Rattle.std.specs.Prelude.{ℕ, ◌+◌, Bool, true, false, ◌&&◌, List, [], ◌∷◌, Option, Some, None, codes, if◌then◌else◌}
+use Rattle.std.specs.Prelude.{ℕ, ◌+◌, Bool, false, ◌&&◌, List, [], ◌∷◌, Option, Some, None, codes, if◌then◌else◌}
 use Rattle.std.specs.List.{take_while}
 use Rattle.std.specs.Str.{bytes_eq}
 use Rattle.ftl_page.specs.declared.fault.Section.{Section}
@@ -16,7 +16,8 @@ pub record Block : Type 0 where
 unfoldable pub blocks_of : ℕ → List (List ℕ) → List Block
 blocks_of number [] = []
 blocks_of number (line ∷ lines) =
-    if is_heading line then record { number = number; heading = line; body = take_while is_body_line lines } ∷ blocks_of (number + 1) lines
+    if is_heading line then record { number = number; heading = line; body = take_while is_body_line lines } ∷ blocks_of
+    (number + 1) lines
     else blocks_of (number + 1) lines
 
 -- the word `1` and no other

@@ -1,5 +1,5 @@
 -- The lines of a text before its first heading.
-use Rattle.std.specs.Prelude.{◌≡◌, ℕ, ◌≤◌, Bool, true, List, [], ◌++◌, length, ◌⊎◌}
+use Rattle.std.specs.Prelude.{◌≡◌, ℕ, ◌≤◌, true, List, ◌++◌, length, ◌⊎◌}
 use Rattle.std.specs.List.{list_all}
 use Rattle.ftl_page.specs.Lines.{lines_of, is_heading, is_body_line}
 

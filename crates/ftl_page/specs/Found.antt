@@ -22,7 +22,8 @@ found_in Document sections = option_map source_text sections.document
 
 -- the source of this content, or the fault of its block
 abbrev pub SourceGives : Result Source PageFault → Content → ℕ → List (List ℕ) → Type 0
-SourceGives (Ok source) content number body = (content_fault (λ _. false) (Some content) number body ≡ None) × (source_text source ≡ text_of content body)
+SourceGives (Ok source) content number body = (content_fault (λ _. false) (Some content) number body ≡ None)
+    × (source_text source ≡ text_of content body)
 SourceGives (Err fault) content number body = content_fault (λ _. false) (Some content) number body ≡ Some fault
 
 -- the old sections with that of this content, or the fault of its block
@@ -30,13 +31,16 @@ abbrev pub AddGives : Result Sections PageFault → Sections → Option Content 
 AddGives (Ok new) old content number body =
     (content_fault (λ s. is_some (found_in s old)) content number body ≡ None)
     × ((s : Section) → found_in s new ≡ or_else (found_in s old) (text_if s content body))
-AddGives (Err fault) old content number body = content_fault (λ s. is_some (found_in s old)) content number body ≡ Some fault
+AddGives (Err fault) old content number body = content_fault
+    (λ s. is_some (found_in s old)) content number body ≡ Some fault
 
 -- the sections of all these blocks, or the first fault of the later ones
 abbrev pub AreSectionsOf : Result Sections PageFault → List Block → List Block → Type 0
-AreSectionsOf (Ok new) before blocks = (first_fault before blocks ≡ None) × ((s : Section) → found_in s new ≡ section_in s (before ++ blocks))
+AreSectionsOf (Ok new) before blocks = (first_fault before blocks ≡ None)
+    × ((s : Section) → found_in s new ≡ section_in s (before ++ blocks))
 AreSectionsOf (Err fault) before blocks = first_fault before blocks ≡ Some fault
 
 -- wherever the old sections are those of some blocks, these are those of these blocks too, or it is their first fault
 abbrev pub SectionsGive : Result Sections PageFault → Sections → List Block → Type 0
-SectionsGive result old blocks = (before : List Block) → ((s : Section) → found_in s old ≡ section_in s before) → AreSectionsOf result before blocks
+SectionsGive result old blocks = (before : List Block) → ((s : Section) → found_in s old ≡ section_in s before)
+    → AreSectionsOf result before blocks

@@ -38,7 +38,8 @@ or_else (Some text) other = Some text
 -- the section in these blocks, if they have it: its text, where it isn't automatic
 unfoldable pub section_in : Section → List Block → Option (Option (List ℕ))
 section_in section [] = None
-section_in section (block ∷ blocks) = or_else (text_if section (content_of (words_of block.heading)) block.body) (section_in section blocks)
+section_in section (block ∷ blocks) = or_else (text_if section (content_of (words_of block.heading)) block.body)
+    (section_in section blocks)
 
 -- ---- the faults
 
@@ -75,26 +76,30 @@ unfoldable pub first_fault : List Block → List Block → Option PageFault
 first_fault before [] = None
 first_fault before (block ∷ blocks) =
     first_of
-    (content_fault (λ section. is_some (section_in section before)) (content_of (words_of block.heading)) block.number block.body)
+    (content_fault (λ section. is_some (section_in section before))
+    (content_of (words_of block.heading)) block.number block.body)
     (first_fault (before ++ block ∷ []) blocks)
 
 -- ---- the page
 
 -- the page with this grammar and schedule, and the document where it is needed
 abbrev pub page_with_document : Bool → List ℕ → Option (List ℕ) → Option (Option (List ℕ)) → Result Page PageFault
-page_with_document true grammar schedule (Some (Some document)) = Ok (record { grammar = grammar; schedule = schedule; document = Some document })
+page_with_document true grammar schedule (Some (Some document)) = Ok
+    (record { grammar = grammar; schedule = schedule; document = Some document })
 page_with_document true grammar schedule _ = Err (NoSection Document)
 page_with_document false grammar schedule _ = Ok (record { grammar = grammar; schedule = schedule; document = None })
 
 -- the page with these sections, as far as they are there; only a schedule may have no text
-abbrev pub page_with : Bool → Option (Option (List ℕ)) → Option (Option (List ℕ)) → Option (Option (List ℕ)) → Result Page PageFault
+abbrev pub page_with : Bool → Option (Option (List ℕ)) → Option (Option (List ℕ)) → Option (Option (List ℕ))
+    → Result Page PageFault
 page_with need (Some (Some grammar)) (Some schedule) document = page_with_document need grammar schedule document
 page_with need (Some (Some grammar)) None document = Err (NoSection Schedule)
 page_with need _ schedule document = Err (NoSection Grammar)
 
 -- the page of its blocks after line 1
 abbrev pub page_of_blocks : Bool → List Block → Result Page PageFault
-page_of_blocks need blocks = page_with need (section_in Grammar blocks) (section_in Schedule blocks) (section_in Document blocks)
+page_of_blocks need blocks = page_with need (section_in Grammar blocks) (section_in Schedule blocks)
+    (section_in Document blocks)
 
 abbrev pub unless_fault : Option PageFault → Result Page PageFault → Result Page PageFault
 unless_fault None page = page

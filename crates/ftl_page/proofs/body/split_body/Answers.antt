@@ -1,7 +1,7 @@
-use Rattle.std.proofs.Common.{◌≡◌, ◌<◌, true, false, not, length, sym, refl, ap, ◌∙◌, inl, inr, arith, rules, false-eqb}
+use Rattle.std.proofs.Common.{◌≡◌, ◌<◌, true, false, not, length, sym, ap, ◌∙◌, inl, inr, arith, rules, false-eqb}
 use Rattle.std.specs.Prelude.{◌⊎◌}
 use Rattle.std.proofs.lemmas.Bool.{eqb-true}
-use Rattle.ftl_page.specs.Lines.{is_heading, is_body_line}
+use Rattle.ftl_page.specs.Lines.{is_heading}
 use Rattle.ftl_page.proofs.BodyLemmas.{body_start, body_more, body_all, is_heading-front}
 use Rattle.ftl_page.proofs.body.split_body.Goals as goal
 use Rattle.ftl_page.proofs.body.split_body.Goals.{then-loop-rest-test+else-not-is_heading, else-loop-rest-test}
@@ -13,11 +13,13 @@ pub loop-rest-preserved : goal.loop-rest-preserved
 loop-rest-preserved c =
     let some : 0 < length c.loop-rest.rest.now = omega (arith, false-eqb _ 0 c.loop-rest-test.ensures) in
     let front = c.split_line.ensures.some some in
-    let same = ap is_heading c.split_line.ensures.whole ∙ is_heading-front c.split_line.result.0.now c.split_line.result.1.now front in
+    let same = ap is_heading c.split_line.ensures.whole
+    ∙ is_heading-front c.split_line.result.0.now c.split_line.result.1.now front in
     let no_heading : is_heading c.loop-rest.rest.now ≡ false = sym c.is_heading.ensures ∙ search rules in
     record {
       is_text = search rules;
-      body = body_more c.loop-rest.invariant.body c.split_line.result.0.now c.split_line.result.1.now (c.split_line.ensures.lines some) c.split_line.ensures.whole front (ap not (sym same ∙ no_heading));
+      body = body_more c.loop-rest.invariant.body c.split_line.result.0.now c.split_line.result.1.now
+          (c.split_line.ensures.lines some) c.split_line.ensures.whole front (ap not (sym same ∙ no_heading));
     }
 
 pub returns : goal.returns

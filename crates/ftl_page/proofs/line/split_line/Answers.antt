@@ -1,4 +1,4 @@
-use Rattle.std.proofs.Common.{◌≡◌, ◌∷◌, take, drop, sym, ap, ◌∙◌, subst, arith, rules}
+use Rattle.std.proofs.Common.{◌∷◌, take, drop, sym, ap, ◌∙◌, subst, arith}
 use Rattle.std.specs.Str.{IsCharBoundary}
 use Rattle.ftl_page.specs.Lines.{lines_of}
 use Rattle.ftl_page.specs.LineLength.{line_length}
@@ -16,7 +16,9 @@ returns-clause-lines c = λ some.
     let length_is = c.line_length.ensures ∙ ap line_length c.as_bytes.ensures.value in
     let front = c.split_at.ensures.front ∙ ap (λ n. take n c.args.text.now) length_is in
     let back = c.split_at.ensures.back ∙ ap (λ n. drop n c.args.text.now) length_is in
-    lines_of-first c.args.text.now some ∙ ap (λ l. l ∷ lines_of (drop (line_length c.args.text.now) c.args.text.now)) (sym front) ∙ ap (λ l. c.split_at.result.0.now ∷ lines_of l) (sym back)
+    lines_of-first c.args.text.now some
+    ∙ ap (λ l. l ∷ lines_of (drop (line_length c.args.text.now) c.args.text.now)) (sym front)
+    ∙ ap (λ l. c.split_at.result.0.now ∷ lines_of l) (sym back)
 
 pub returns-clause-some : goal.returns-clause-some
 returns-clause-some c = λ some.

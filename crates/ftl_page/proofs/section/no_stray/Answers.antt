@@ -18,7 +18,8 @@ loop-rest-preserved c =
     let plain : is_stray c.split_line.result.0.now ≡ false = sym c.is_stray.ensures ∙ search rules in
     record {
       is_text = search rules;
-      stray = stray_further c.loop-rest.invariant.stray _ _ (c.split_line.ensures.lines some) c.split_line.ensures.whole (c.split_line.ensures.some some) plain;
+      stray = stray_further c.loop-rest.invariant.stray _ _ (c.split_line.ensures.lines some) c.split_line.ensures.whole
+          (c.split_line.ensures.some some) plain;
     }
 
 pub returns : goal.returns

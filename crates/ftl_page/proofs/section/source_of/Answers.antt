@@ -9,5 +9,6 @@ use Rattle.ftl_page.proofs.section.source_of.Goals as goal
 -- the body is the text of its lines
 pub returns-in-Own : goal.returns-in-Own
 returns-in-Own c =
-    subst (λ h. SourceGives (Ok (Text c.args.body)) (content h) c.args.number (lines_of c.args.body.now)) (sym c.in-Own.is)
+    subst (λ h. SourceGives (Ok (Text c.args.body)) (content h) c.args.number (lines_of c.args.body.now))
+    (sym c.in-Own.is)
     (refl, ap (λ bs. Some bs) (sym (joined-lines_of c.args.body.now)))

@@ -1,4 +1,4 @@
-use Rattle.std.proofs.Common.{sym, ◌∙◌, subst, rules}
+use Rattle.std.proofs.Common.{sym, subst}
 use Rattle.ftl_model.specs.Outcome.{Gives}
 use Rattle.ftl_page.specs.declared.fault.PageFault.TheVariants.{OutOfMemory}
 use Rattle.ftl_page.proofs.PageLemmas.{first_line_good, first_line_bad}
