@@ -47,8 +47,8 @@ loop-kid-preserved c =
     let one : suc c.loop-kid.count ≡ c.loop-kid.count + 1 = omega arith in
     record {
       passed =
-        subst (λ (k : ℕ). Passed t c.args.node k (c.loop-kid.kid + c.row-kid.result.size)) one
-        (subst (λ (m : ℕ). Passed t c.args.node (suc c.loop-kid.count) (c.loop-kid.kid + m)) (sym far) this.next);
+          subst (λ (k : ℕ). Passed t c.args.node k (c.loop-kid.kid + c.row-kid.result.size)) one
+          (subst (λ (m : ℕ). Passed t c.args.node (suc c.loop-kid.count) (c.loop-kid.kid + m)) (sym far) this.next);
       few = omega (arith, c.loop-kid.invariant.few, far);
     }
 

@@ -1,0 +1,13 @@
+use Rattle.std.proofs.Common.{sym, subst}
+use Rattle.ftl_model.specs.Outcome.{Gives}
+use Rattle.ftl_page.specs.declared.fault.PageFault.TheVariants.{OutOfMemory}
+use Rattle.ftl_page.proofs.PageLemmas.{page_not_text, page_text}
+use Rattle.ftl_page.proofs.split.split_page.Goals as goal
+
+pub returns-in_default : goal.returns-in_default
+returns-in_default c = λ _. page_not_text c.args.need_document c.args.bytes.now c.in_default.ensures.cases.0
+
+pub returns : goal.returns
+returns c =
+    let is = page_text c.args.need_document c.in-Ok.text.now c.args.bytes.now c.in-Ok.ensures.cases.0 c.in-Ok.ensures.cases.1 in
+    subst (Gives OutOfMemory (λ page. page) c.page_of_text.result) (sym is) c.page_of_text.ensures

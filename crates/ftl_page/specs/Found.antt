@@ -1,0 +1,46 @@
+-- The sections as the code finds them.
+use Rattle.std.specs.Prelude.{◌≡◌, ℕ, false, List, ◌++◌, Option, Some, None, Result, Ok, Err, option_map, is_some}
+use Rattle.ftl_page.specs.declared.fault.Section.{Section}
+use Rattle.ftl_page.specs.declared.fault.Section.TheVariants.{Grammar, Schedule, Document}
+use Rattle.ftl_page.specs.declared.fault.PageFault.{PageFault}
+use Rattle.ftl_page.specs.declared.section.Source.{Source}
+use Rattle.ftl_page.specs.declared.section.Source.TheVariants.{Text, Automatic}
+use Rattle.ftl_page.specs.declared.section.Sections.{Sections}
+use Rattle.ftl_page.specs.Blocks.{Content, Block}
+use Rattle.ftl_page.specs.Page.{text_of, text_if, or_else, content_fault, section_in, first_fault}
+
+-- the text of a source; none is automatic
+abbrev pub source_text : Source → Option (List ℕ)
+source_text (Text text) = Some text.now
+source_text Automatic = None
+
+-- the section, if it was found: its text, where it isn't automatic
+abbrev pub found_in : Section → Sections → Option (Option (List ℕ))
+found_in Grammar sections = option_map source_text sections.grammar
+found_in Schedule sections = option_map source_text sections.schedule
+found_in Document sections = option_map source_text sections.document
+
+-- the source of this content, or the fault of its block
+abbrev pub SourceGives : Result Source PageFault → Content → ℕ → List (List ℕ) → Type 0
+SourceGives (Ok source) content number body = (content_fault (λ _. false) (Some content) number body ≡ None)
+    × (source_text source ≡ text_of content body)
+SourceGives (Err fault) content number body = content_fault (λ _. false) (Some content) number body ≡ Some fault
+
+-- the old sections with that of this content, or the fault of its block
+abbrev pub AddGives : Result Sections PageFault → Sections → Option Content → ℕ → List (List ℕ) → Type 0
+AddGives (Ok new) old content number body =
+    (content_fault (λ s. is_some (found_in s old)) content number body ≡ None)
+    × ((s : Section) → found_in s new ≡ or_else (found_in s old) (text_if s content body))
+AddGives (Err fault) old content number body = content_fault
+    (λ s. is_some (found_in s old)) content number body ≡ Some fault
+
+-- the sections of all these blocks, or the first fault of the later ones
+abbrev pub AreSectionsOf : Result Sections PageFault → List Block → List Block → Type 0
+AreSectionsOf (Ok new) before blocks = (first_fault before blocks ≡ None)
+    × ((s : Section) → found_in s new ≡ section_in s (before ++ blocks))
+AreSectionsOf (Err fault) before blocks = first_fault before blocks ≡ Some fault
+
+-- wherever the old sections are those of some blocks, these are those of these blocks too, or it is their first fault
+abbrev pub SectionsGive : Result Sections PageFault → Sections → List Block → Type 0
+SectionsGive result old blocks = (before : List Block) → ((s : Section) → found_in s old ≡ section_in s before)
+    → AreSectionsOf result before blocks

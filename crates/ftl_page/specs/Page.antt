@@ -1,0 +1,123 @@
+-- The sections of a page that a command needs, or the first fault of the page.
+use Rattle.std.specs.Prelude.{ℕ, ◌+◌, Bool, true, false, ◌&&◌, List, [], ◌∷◌, ◌++◌, Option, Some, None, is_some, is_none, Result, Ok, Err, if◌then◌else◌}
+use Rattle.std.specs.List.{take_while, flat_map}
+use Rattle.std.specs.Str.{is_utf8}
+use Rattle.ftl_page.specs.declared.fault.Section.{Section}
+use Rattle.ftl_page.specs.declared.fault.Section.TheVariants.{Grammar, Schedule, Document}
+use Rattle.ftl_page.specs.declared.fault.PageFault.{PageFault}
+use Rattle.ftl_page.specs.declared.fault.PageFault.TheVariants.{NotText, BadVersion, UnknownSection, SectionTwice, UnknownShipped, StrayText, NoSection}
+use Rattle.ftl_page.specs.declared.page.Page.{Page}
+use Rattle.ftl_page.specs.Lines.{lines_of, words_of, is_heading, is_body_line, is_stray}
+use Rattle.ftl_page.specs.Blocks.{Block, blocks_of, are_opening, Content, own, named, automatic, content_of, section_of}
+use Rattle.ftl_page.specs.Shipped.{shipped_text}
+
+-- ---- the sections
+
+abbrev pub is_same : Section → Section → Bool
+is_same Grammar Grammar = true
+is_same Schedule Schedule = true
+is_same Document Document = true
+is_same _ _ = false
+
+-- the text of this content with these lines after the heading; none is automatic
+abbrev pub text_of : Content → List (List ℕ) → Option (List ℕ)
+text_of (own section) body = Some (flat_map (λ line. line) body)
+text_of (named name) body = shipped_text name
+text_of automatic body = None
+
+-- the section's text, if this is what its heading stands for
+abbrev pub text_if : Section → Option Content → List (List ℕ) → Option (Option (List ℕ))
+text_if section None body = None
+text_if section (Some content) body = if is_same section (section_of content) then Some (text_of content body) else None
+
+-- the first of two that is there
+abbrev pub or_else : Option (Option (List ℕ)) → Option (Option (List ℕ)) → Option (Option (List ℕ))
+or_else None other = other
+or_else (Some text) other = Some text
+
+-- the section in these blocks, if they have it: its text, where it isn't automatic
+unfoldable pub section_in : Section → List Block → Option (Option (List ℕ))
+section_in section [] = None
+section_in section (block ∷ blocks) = or_else (text_if section (content_of (words_of block.heading)) block.body)
+    (section_in section blocks)
+
+-- ---- the faults
+
+-- the first stray line of these, of which the first has this number
+unfoldable pub first_stray : ℕ → List (List ℕ) → Option PageFault
+first_stray number [] = None
+first_stray number (line ∷ lines) = if is_stray line then Some (StrayText number) else first_stray (number + 1) lines
+
+-- the fault in the lines after a heading of this content
+abbrev pub body_fault : Content → ℕ → List (List ℕ) → Option PageFault
+body_fault (own section) number body = None
+body_fault (named name) number body = first_stray (number + 1) body
+body_fault automatic number body = first_stray (number + 1) body
+
+abbrev pub is_unknown : Content → Bool
+is_unknown (named name) = is_none (shipped_text name)
+is_unknown _ = false
+
+-- the first fault of a block of this content, where some sections were there before
+abbrev pub content_fault : (Section → Bool) → Option Content → ℕ → List (List ℕ) → Option PageFault
+content_fault before None number body = Some (UnknownSection number)
+content_fault before (Some content) number body =
+    if before (section_of content) then Some (SectionTwice (section_of content) number)
+    else (if is_unknown content then Some (UnknownShipped number)
+    else body_fault content number body)
+
+-- the first of two
+abbrev pub first_of : Option PageFault → Option PageFault → Option PageFault
+first_of None other = other
+first_of (Some fault) other = Some fault
+
+-- the first fault of these blocks, which come after those
+unfoldable pub first_fault : List Block → List Block → Option PageFault
+first_fault before [] = None
+first_fault before (block ∷ blocks) =
+    first_of
+    (content_fault (λ section. is_some (section_in section before))
+    (content_of (words_of block.heading)) block.number block.body)
+    (first_fault (before ++ block ∷ []) blocks)
+
+-- ---- the page
+
+-- the page with this grammar and schedule, and the document where it is needed
+abbrev pub page_with_document : Bool → List ℕ → Option (List ℕ) → Option (Option (List ℕ)) → Result Page PageFault
+page_with_document true grammar schedule (Some (Some document)) = Ok
+    (record { grammar = grammar; schedule = schedule; document = Some document })
+page_with_document true grammar schedule _ = Err (NoSection Document)
+page_with_document false grammar schedule _ = Ok (record { grammar = grammar; schedule = schedule; document = None })
+
+-- the page with these sections, as far as they are there; only a schedule may have no text
+abbrev pub page_with : Bool → Option (Option (List ℕ)) → Option (Option (List ℕ)) → Option (Option (List ℕ))
+    → Result Page PageFault
+page_with need (Some (Some grammar)) (Some schedule) document = page_with_document need grammar schedule document
+page_with need (Some (Some grammar)) None document = Err (NoSection Schedule)
+page_with need _ schedule document = Err (NoSection Grammar)
+
+-- the page of its blocks after line 1
+abbrev pub page_of_blocks : Bool → List Block → Result Page PageFault
+page_of_blocks need blocks = page_with need (section_in Grammar blocks) (section_in Schedule blocks)
+    (section_in Document blocks)
+
+abbrev pub unless_fault : Option PageFault → Result Page PageFault → Result Page PageFault
+unless_fault None page = page
+unless_fault (Some fault) page = Err fault
+
+-- the page of its lines after line 1
+unfoldable pub page_of_lines : Bool → List (List ℕ) → Result Page PageFault
+page_of_lines need lines =
+    unless_fault (first_stray 2 (take_while is_body_line lines))
+    (unless_fault (first_fault [] (blocks_of 2 lines))
+    (page_of_blocks need (blocks_of 2 lines)))
+
+-- the page of a text by its lines: line 1 is the heading `%page 1`
+unfoldable pub page_of_text : Bool → List (List ℕ) → Result Page PageFault
+page_of_text need [] = Err BadVersion
+page_of_text need (first ∷ lines) =
+    if is_heading first && are_opening (words_of first) then page_of_lines need lines else Err BadVersion
+
+-- the page of bytes
+unfoldable pub page_of : List ℕ → Bool → Result Page PageFault
+page_of bytes need = if is_utf8 bytes then page_of_text need (lines_of bytes) else Err NotText

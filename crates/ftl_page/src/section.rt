@@ -1,0 +1,145 @@
+//! The sections of a page, as they are found.
+
+ghost use Rattle.std.specs.Prelude.{◌≡◌, ◌+◌, ◌<◌, ◌^◌, ℕ, length, Some, None, is_some, if◌then◌else◌};
+ghost use Rattle.std.specs.Result.{result_err};
+ghost use Rattle.ftl_page.specs.declared.fault.Section.{Section};
+ghost use Rattle.ftl_page.specs.Lines.{lines_of, words_of};
+ghost use Rattle.ftl_page.specs.Blocks.{content_of, section_of};
+ghost use Rattle.ftl_page.specs.Page.{is_same, first_stray};
+ghost use Rattle.ftl_page.specs.Headings.{content};
+ghost use Rattle.ftl_page.specs.Found.{source_text, found_in, SourceGives, AddGives};
+
+use crate::fault::{PageFault, Section};
+use crate::grammars::shipped_by_bytes;
+use crate::line::{is_stray, split_line};
+use crate::words::{Heading, heading_of};
+
+/// Where the text of a section is.
+#[derive(Clone, Copy, Debug)]
+pub enum Source<'a> {
+    Text(&'a str),
+    /// The automatic schedule.
+    Automatic,
+}
+
+/// The sections that were found.
+#[derive(Clone, Copy, Debug)]
+pub struct Sections<'a> {
+    pub grammar: Option<Source<'a>>,
+    pub schedule: Option<Source<'a>>,
+    pub document: Option<Source<'a>>,
+}
+
+/// The fault of the first stray line, where the first line has this number.
+pub fn no_stray(number: u32, text: &str) -> Result<(), PageFault>
+    requires { number + length text.now < 2 ^ 32 }
+    ensures { result_err result ≡ first_stray number (lines_of text.now) }
+{
+    let mut rest = text;
+    let mut number = number;
+    while !rest.is_empty() {
+        let (line, after) = split_line(rest);
+        if is_stray(line) {
+            return Err(PageFault::StrayText { line: number });
+        }
+        number += 1;
+        rest = after;
+    }
+    Ok(())
+}
+
+fn source_of<'a>(heading: Heading<'a>, number: u32, body: &'a str) -> Result<Source<'a>, PageFault>
+    requires { number + 1 + length body.now < 2 ^ 32 }
+    ensures { SourceGives result (content heading.entry) number (lines_of body.now) }
+{
+    match heading {
+        Heading::Own(_) => Ok(Source::Text(body)),
+        Heading::Named(name) => {
+            let Some(text) = shipped_by_bytes(name) else {
+                return Err(PageFault::UnknownShipped { line: number });
+            };
+            no_stray(number + 1, body)?;
+            Ok(Source::Text(text))
+        }
+        Heading::Automatic => {
+            no_stray(number + 1, body)?;
+            Ok(Source::Automatic)
+        }
+    }
+}
+
+fn section_of(heading: Heading<'_>) -> Section
+    ensures { result ≡ section_of (content heading.entry) }
+{
+    match heading {
+        Heading::Own(section) => section,
+        Heading::Named(_) => Section::Grammar,
+        Heading::Automatic => Section::Schedule,
+    }
+}
+
+impl<'a> Sections<'a> {
+    pub fn new() -> Sections<'a>
+        ensures { (s : Section) → found_in s result ≡ None }
+    {
+        Sections {
+            grammar: None,
+            schedule: None,
+            document: None,
+        }
+    }
+
+    fn has(&self, which: Section) -> bool
+        ensures { result ≡ is_some (found_in which self.now) }
+    {
+        match which {
+            Section::Grammar => self.grammar.is_some(),
+            Section::Schedule => self.schedule.is_some(),
+            Section::Document => self.document.is_some(),
+        }
+    }
+
+    fn with(&self, which: Section, source: Source<'a>) -> Sections<'a>
+        ensures { (s : Section) → found_in s result
+            ≡ (if is_same s which then Some (source_text source.entry) else found_in s self.now) }
+    {
+        match which {
+            Section::Grammar => Sections {
+                grammar: Some(source),
+                ..*self
+            },
+            Section::Schedule => Sections {
+                schedule: Some(source),
+                ..*self
+            },
+            Section::Document => Sections {
+                document: Some(source),
+                ..*self
+            },
+        }
+    }
+
+    /// These sections and that of a heading with the text after it, or the fault of these lines.
+    pub fn add(
+        &self,
+        number: u32,
+        heading: &'a str,
+        body: &'a str,
+    ) -> Result<Sections<'a>, PageFault>
+        requires { number + 1 + length body.now < 2 ^ 32 }
+        ensures { AddGives result self.now (content_of (words_of heading.now)) number (lines_of body.now) }
+    {
+        let Some(heading) = heading_of(heading.as_bytes()) else {
+            return Err(PageFault::UnknownSection { line: number });
+        };
+        let which = section_of(heading);
+        if self.has(which) {
+            return Err(PageFault::SectionTwice {
+                which,
+                line: number,
+            });
+        }
+        let source = source_of(heading, number, body)?;
+        Ok(self.with(which, source))
+    }
+}

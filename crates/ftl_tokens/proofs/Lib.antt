@@ -1,0 +1,9 @@
+pub mod FrontLemmas
+pub mod KindLemmas
+pub mod NumberLemmas
+pub mod PieceLemmas
+pub mod RunLemmas
+pub mod ScanLemmas
+pub mod ScansLemmas
+pub mod TextLemmas
+pub mod TokenLemmas

@@ -1,0 +1,35 @@
+use Rattle.std.proofs.Common.{sym, ◌∙◌, rules}
+use Rattle.std.specs.Str.{chars}
+use Rattle.ftl_tokens.specs.declared.piece.Piece.TheVariants.{Gap}
+use Rattle.ftl_tokens.proofs.TextLemmas.{first_char, no_char}
+use Rattle.ftl_tokens.proofs.PieceLemmas.{nothing_at, white_space_is, comment_at, other_at, front_along}
+use Rattle.ftl_tokens.proofs.piece.piece_of.Goals as goal
+
+-- the text is empty
+pub returns-in_default : goal.returns-in_default
+returns-in_default c = nothing_at (chars c.args.text.now) (no_char c.args.text.now _ c.chars.ensures.rest c.in_default.ensures.steps.0.0)
+
+pub returns-then-is_white_space : goal.returns-then-is_white_space
+returns-then-is_white_space c =
+    let front = first_char c.args.text.now _ _ c.in-Some.first c.utf8.text c.chars.ensures.rest c.in-Some.ensures.steps.0 in
+    front_along (chars c.args.text.now) _ (Gap 1) front (white_space_is c.in-Some.first _ (sym c.is_white_space.ensures ∙ search rules))
+
+pub returns-then-first-eq35 : goal.returns-then-first-eq35
+returns-then-first-eq35 c =
+    let front = first_char c.args.text.now _ _ c.in-Some.first c.utf8.text c.chars.ensures.rest c.in-Some.ensures.steps.0 in
+    comment_at (chars c.args.text.now) c.in-Some.first _ c.run_length.result front (sym c.is_white_space.ensures ∙ search rules) c.if-first-eq35.true c.run_length.ensures
+
+pub returns-then-is_xid_start : goal.returns-then-is_xid_start
+returns-then-is_xid_start c =
+    let front = first_char c.args.text.now _ _ c.in-Some.first c.utf8.text c.chars.ensures.rest c.in-Some.ensures.steps.0 in
+    other_at (chars c.args.text.now) c.in-Some.first _ c.word_piece.result front (sym c.is_white_space.ensures ∙ search rules) c.if-first-eq35.false c.word_piece.ensures
+
+pub returns-then-is_ascii_digit : goal.returns-then-is_ascii_digit
+returns-then-is_ascii_digit c =
+    let front = first_char c.args.text.now _ _ c.in-Some.first c.utf8.text c.chars.ensures.rest c.in-Some.ensures.steps.0 in
+    other_at (chars c.args.text.now) c.in-Some.first _ c.number_piece.result front (sym c.is_white_space.ensures ∙ search rules) c.if-first-eq35.false c.number_piece.ensures
+
+pub returns-else-is_ascii_digit : goal.returns-else-is_ascii_digit
+returns-else-is_ascii_digit c =
+    let front = first_char c.args.text.now _ _ c.in-Some.first c.utf8.text c.chars.ensures.rest c.in-Some.ensures.steps.0 in
+    other_at (chars c.args.text.now) c.in-Some.first _ c.mark_piece.result front (sym c.is_white_space.ensures ∙ search rules) c.if-first-eq35.false c.mark_piece.ensures

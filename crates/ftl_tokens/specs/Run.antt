@@ -1,0 +1,13 @@
+-- What a word, a number or a comment goes on with.
+use Rattle.std.specs.Prelude.{ℕ, Bool}
+use Rattle.std.specs.Char.{is_ascii_digit}
+use Rattle.unicode_ident.specs.Ident.{is_xid_continue}
+use Rattle.ftl_tokens.specs.declared.run.Run.{Run}
+use Rattle.ftl_tokens.specs.declared.run.Run.TheVariants.{Word, Digits, Comment}
+use Rattle.ftl_tokens.specs.Scan.{stays_in_line}
+
+-- whether the character goes on what runs
+abbrev pub goes_on : Run → ℕ → Bool
+goes_on Word = is_xid_continue
+goes_on Digits = is_ascii_digit
+goes_on Comment = stays_in_line

@@ -1,0 +1,12 @@
+//! Laws of the definitions.
+
+ghost use Rattle.std.specs.Prelude.{ℕ, List};
+ghost use Rattle.std.specs.Str.{chars};
+ghost use Rattle.ftl_tokens.specs.Scan.{scan};
+ghost use Rattle.ftl_tokens.specs.Scans.{Scans};
+
+/// A scan cuts its text into white space, comments and longest tokens, up to the first place at which
+/// none of them begins or a number is too large.
+pub fn law_of_scan()
+    ensures { (text : List ℕ) → Scans 0 (chars text) (scan text) }
+{}

@@ -1,0 +1,50 @@
+//! The tokens of a text.
+
+ghost use Rattle.std.specs.Prelude.{◌≡◌, ◌≤◌, length, string_bytes, string_len, IfOk};
+ghost use Rattle.ftl_model.specs.Outcome.{Gives};
+ghost use Rattle.ftl_tokens.specs.Scan.{scan};
+ghost use Rattle.ftl_tokens.specs.declared.fault.TokenFault.TheVariants.{OutOfMemory};
+
+use crate::fault::TokenFault;
+use crate::kind::Token;
+use crate::piece::{Piece, piece_of};
+use crate::scanned::Scanned;
+use std::alloc::Global;
+
+/// The tokens of a text, which is kept beside them. A text has 64 MiB at most, so that places fit 32
+/// bits. One pass, which allocates nothing but the list.
+pub fn tokens(alloc: Global, text: String) -> Result<Scanned, TokenFault>
+    requires { string_len text ≤ 67108864 }
+    ensures exact { Gives OutOfMemory (λ scanned. scanned.tokens) result (scan (string_bytes text)) }
+    ensures text { IfOk result (λ scanned. scanned.text ≡ string_bytes text) }
+{
+    let list = token_list(alloc, text.as_str())?;
+    Ok(Scanned::new(text, list))
+}
+
+fn token_list(alloc: Global, text: &str) -> Result<Vec<Token>, TokenFault>
+    requires { length text.now ≤ 67108864 }
+    ensures exact { Gives OutOfMemory (λ list. list.items) result (scan text.now) }
+{
+    let mut list = Vec::new(alloc);
+    let mut at = 0;
+    let mut rest = text;
+    while !rest.is_empty() {
+        let len = match piece_of(rest) {
+            Piece::Gap(len) => len,
+            Piece::Token(kind, len) => {
+                list.push(Token {
+                    kind,
+                    start: at as u32,
+                    end: (at + len) as u32,
+                })?;
+                len
+            }
+            Piece::LargeNumber => return Err(TokenFault::NumberTooLarge { at: at as u32 }),
+            Piece::Nothing => return Err(TokenFault::BadChar { at: at as u32 }),
+        };
+        at += len;
+        rest = &rest[len..];
+    }
+    Ok(list)
+}
