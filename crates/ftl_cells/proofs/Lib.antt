@@ -1,0 +1,9 @@
+pub mod Counting
+pub mod Words
+pub mod Moves
+pub mod Loads
+pub mod Claims
+pub mod Fills
+pub mod Marks
+pub mod Deliveries
+pub mod Steps

@@ -1,0 +1,4 @@
+pub mod Count
+pub mod Work
+pub mod State
+pub mod Kept
