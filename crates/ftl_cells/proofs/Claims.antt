@@ -40,7 +40,7 @@ module _ (m : Meaning) (law : IsLawful m) (s t : Stage) (h i : ℕ) (turn : Turn
             (λ e. let a : s.state p ≡ 2 = d.state in let c : s.state p ≡ s.state i = ap s.state e in absurd (omega (arith, free)))
             (λ ne. delivered_same m s t p x (states.there p l ne) (λ g n. sends_old g p n) d) in
       record {
-        in_range = range_after s t h (live (Looked i)) (live (Working i 0 0)) turn m (known, omega arith) k.in_range;
+        in_range = range_after s t h (live (Looked i)) (live (Working i 0 0)) turn m (known, omega arith, omega arith) k.in_range;
         cells = λ c l. subst (λ n. CellHolds (kind_at m c) n (solved_word m c)) (sym (cells c l)) (k.cells c l);
         states = λ x l. dite (ℕ_discrete x i)
             (λ e. let a : t.state i ≡ 1 = states.here in let b : t.state x ≡ t.state i = ap t.state e in omega arith)

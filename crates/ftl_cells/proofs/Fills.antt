@@ -52,7 +52,7 @@ module _ (m : Meaning) (law : IsLawful m) (s t : Stage) (h i j r : ℕ) (turn : 
               target_same i n st (λ e. let q : n ≡ j = (law.target_once i n i j st here e).1 in omega arith) ∙ half.rest n (omega arith) b;
           } in
       record {
-        in_range = range_after s t h (live (Working i j r)) (live (Working i (j + 1) 0)) turn m (known, omega arith) k.in_range;
+        in_range = range_after s t h (live (Working i j r)) (live (Working i (j + 1) 0)) turn m (known, omega arith, omega arith) k.in_range;
         cells = λ c l. dite (ℕ_discrete c (target_of m i j))
             (λ e. subst (λ y. CellHolds (kind_at m y) (t.cell y) (solved_word m y)) (sym e)
               (subst (λ q. CellHolds q (t.cell (target_of m i j)) (solved_word m (target_of m i j))) (sym (law.target_kind i j here)) (inr cells.here)))

@@ -7,3 +7,5 @@ pub mod Fills
 pub mod Marks
 pub mod Deliveries
 pub mod Steps
+pub mod Found
+pub mod Plays

@@ -194,7 +194,7 @@ module _ (m : Meaning) (law : IsLawful m) (words : List ℕ) (hands : List HandS
         let range : IsInRange m (live (Working i j r)) = subst (IsInRange m) e range_of in
         load_one h v w at
         (subst (λ p. Alike p (live (Working i j (r + 1)))) (sym e) (record { works = λ i j w. w; works_back = λ i j w. w; sends = λ i j w. w; sends_back = λ i j w. w; has = λ i w. w }))
-        range (λ x q. absurd q) (λ q. absurd q) released_of
+        (range.0, range.1, omega arith) (λ x q. absurd q) (λ q. absurd q) released_of
     kept_step next w (fills i j r e b c) =
         let rule = k.rule in
         let range : IsInRange m (live (Working i j r)) = subst (IsInRange m) e range_of in

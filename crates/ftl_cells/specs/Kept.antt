@@ -56,7 +56,7 @@ Has p i = ⊥
 -- numbers in places are in range
 abbrev pub IsInRange : Meaning → Place → Type 0
 IsInRange m (live (Looked item)) = item < item_total m
-IsInRange m (live (Working item step reads)) = (item < item_total m) × (step ≤ step_total m item)
+IsInRange m (live (Working item step reads)) = (item < item_total m) × (step ≤ step_total m item) × (reads ≤ read_total m item step)
 IsInRange m (live (Filled item)) = item < item_total m
 IsInRange m (live (Sending item sent)) = (item < item_total m) × (sent ≤ next_total m item)
 IsInRange m p = Unit {0}
