@@ -9,3 +9,4 @@ pub mod Deliveries
 pub mod Steps
 pub mod Found
 pub mod Plays
+pub mod Seats

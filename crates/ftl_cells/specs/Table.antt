@@ -22,3 +22,7 @@ pub record IsSeatedAt (place : HandPlace) (seat : Seat ℕ HandState) : Type 0 w
   pub is : seat.me.0.place ≡ live place
   pub empty : seat.me.1 ≡ []
   pub in_range : IsInRange seat.me.0.of (live place)
+
+-- the seat is of this table, and its hand is for this work
+abbrev pub IsSeatOf : Meaning → TableId → Seat ℕ HandState → Type 0
+IsSeatOf m table seat = (seat.table_id ≡ table) × (seat.me.0.of ≡ m)

@@ -6,6 +6,7 @@
 #![tactic(auto)]
 
 mod answer;
+mod atomic;
 mod cells;
 mod hand;
 mod kind;

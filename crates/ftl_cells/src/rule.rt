@@ -16,65 +16,65 @@ impl<W: Work> TableRule<u8, Told, W> for Law {
     ghost first = { λ work. newcomer (W.meaning work) };
 }
 
-pub(crate) struct Looks;
+pub(crate) struct LookPlay;
 
-impl Play<u8, Told> for Looks {
+impl Play<u8, Told> for LookPlay {
     ghost then = { look_told };
 }
 
-pub(crate) struct Claims;
+pub(crate) struct ClaimPlay;
 
-impl Play<u8, Told> for Claims {
+impl Play<u8, Told> for ClaimPlay {
     ghost then = { claim_told };
 }
 
-pub(crate) struct Reads;
+pub(crate) struct ReadPlay;
 
-impl Play<u8, Told> for Reads {
+impl Play<u8, Told> for ReadPlay {
     ghost then = { read_told };
 }
 
-pub(crate) struct Fills;
+pub(crate) struct FillPlay;
 
-impl Play<u8, Told> for Fills {
+impl Play<u8, Told> for FillPlay {
     ghost then = { fill_told };
 }
 
-pub(crate) struct Marks;
+pub(crate) struct MarkPlay;
 
-impl Play<u8, Told> for Marks {
+impl Play<u8, Told> for MarkPlay {
     ghost then = { mark_told };
 }
 
-pub(crate) struct Sends;
+pub(crate) struct SendPlay;
 
-impl Play<u8, Told> for Sends {
+impl Play<u8, Told> for SendPlay {
     ghost then = { send_told };
 }
 
-pub(crate) struct Finishes;
+pub(crate) struct FinishPlay;
 
-impl Play<u8, Told> for Finishes {
+impl Play<u8, Told> for FinishPlay {
     ghost then = { finish_told };
 }
 
-pub(crate) struct Lefts;
+pub(crate) struct LeftPlay;
 
-impl Play<u8, Told> for Lefts {
+impl Play<u8, Told> for LeftPlay {
     ghost then = { left_told };
 }
 
-pub(crate) struct Splits;
+pub(crate) struct SplitPlay;
 
-impl Split<Told> for Splits {
+impl Split<Told> for SplitPlay {
     ghost left = { λ v. after v v.place split end_word None };
 
     ghost right = { λ v. newcomer v.of };
 }
 
-pub(crate) struct Joins;
+pub(crate) struct JoinPlay;
 
-impl Join<Told> for Joins {
+impl Join<Told> for JoinPlay {
     ghost both = { λ v _. after v v.place join end_word None };
 
     ghost spent = { given_up };
