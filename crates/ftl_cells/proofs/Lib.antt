@@ -6,7 +6,8 @@ pub mod Claims
 pub mod Fills
 pub mod Marks
 pub mod Deliveries
-pub mod Steps
+pub mod KeptSteps
 pub mod Found
 pub mod Plays
 pub mod Seats
+pub mod Ready

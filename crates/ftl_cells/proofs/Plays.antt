@@ -17,7 +17,7 @@ use Rattle.ftl_cells.specs.declared.place.HandPlace.{HandPlace}
 use Rattle.ftl_cells.specs.declared.place.HandPlace.TheVariants.{Idle, Looked, Working, Filled, Sending, Ended}
 use Rattle.ftl_cells.proofs.Moves.{sends_has, has_one, sends_one, works_has, has_in_range}
 use Rattle.ftl_cells.proofs.Deliveries.{next_counter, end_counter}
-use Rattle.ftl_cells.proofs.Steps.{kept, hand_is, range_of}
+use Rattle.ftl_cells.proofs.KeptSteps.{kept, hand_is, range_of}
 use Rattle.ftl_cells.proofs.Found.{read_is}
 
 abbrev pub Holds : Meaning → State ℕ HandState → Type 0

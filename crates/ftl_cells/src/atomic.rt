@@ -1,5 +1,5 @@
 // Each kind of step, as one atomic instruction on a seat.
-ghost use Rattle.std.specs.Prelude.{◌≡◌, ℕ, ◌<◌, []};
+ghost use Rattle.std.specs.Prelude.{◌≡◌, ℕ, ◌<◌, ◌^◌, []};
 ghost use Rattle.ftl_model.specs.Values.{word_of_value};
 ghost use Rattle.ftl_cells.specs.Work.{IsStep, item_total, next_total, next_at, step_total, target_of, read_total, read_of, solved_word};
 ghost use Rattle.ftl_cells.specs.State.{live, Sends, IsFree, newcomer, after, split, join, end_word};
@@ -47,6 +47,7 @@ impl<W: Work> Cells<W> {
         requires place { k < read_total (W.meaning self.now.1) item step }
         ensures table { seat.new.table_id ≡ seat.old.table_id }
         ensures told { ReadTold seat.old.me item step k result seat.new.me }
+        ensures counted { read_total (W.meaning self.now.1) item step < 2 ^ 32 }
     {
         let cell = self.work.read(item, step, k);
         self.table.shared.load::<ReadPlay>(seat, 1 + cell as usize)
@@ -59,6 +60,7 @@ impl<W: Work> Cells<W> {
         requires word { word ≡ solved_word (W.meaning self.now.1) (target_of (W.meaning self.now.1) item step) }
         ensures table { seat.new.table_id ≡ seat.old.table_id }
         ensures told { FillTold seat.old.me item step seat.new.me }
+        ensures counted { step_total (W.meaning self.now.1) item < 2 ^ 32 }
     {
         let cell = self.work.target(item, step);
         self.table

@@ -12,6 +12,7 @@ mod hand;
 mod kind;
 mod place;
 mod rule;
+mod steps;
 mod work;
 
 pub use answer::{Claim, Deliver, Look};
