@@ -11,3 +11,4 @@ pub mod Found
 pub mod Plays
 pub mod Seats
 pub mod Ready
+pub mod Opening

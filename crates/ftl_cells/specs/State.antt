@@ -1,5 +1,6 @@
 -- The state of a stage, on the words of a table and the states of all hands, and its steps.
-use Rattle.std.specs.Prelude.{◌≡◌, ◌≢◌, ℕ, zero, suc, ◌+◌, ◌<◌, List, [], ◌∷◌, ◌++◌, length, slice_index, slice_index_or, slice_set, Option, Some, None}
+use Rattle.std.specs.Prelude.{◌≡◌, ◌≢◌, ℕ, zero, suc, ◌+◌, ◌<◌, List, [], ◌∷◌, ◌++◌, length, map, replicate, slice_index, slice_index_or, slice_set, Option, Some, None}
+use Rattle.std.specs.List.{range_with_len}
 use mathlib.Core.Option.{some}
 use lib.ListN.{get_elem?}
 use Rattle.ftl_cells.specs.Work.{Meaning, no_work, cell_total, kind_at, item_total, pred_total, next_total, next_at, step_total, target_of, read_total, read_of, solved_word}
@@ -156,3 +157,7 @@ pub record IsOpening (m : Meaning) (words : List ℕ) : Type 0 where
 pub data Reached (m : Meaning) : List ℕ → List HandState → Type 0 where
   begins : (words : List ℕ) → IsOpening m words → Reached m words (newcomer m ∷ [])
   goes_on : {words next : List ℕ} {hands more : List HandState} → Reached m words hands → Makes m words hands next more → Reached m next more
+
+-- the words of a table at the opening, in order, where these are the words of the cells
+abbrev pub opening_words : Meaning → List ℕ → List ℕ
+opening_words m words = item_total m ∷ [] ++ words ++ replicate (item_total m) 0 ++ map (pred_total m) (range_with_len 0 (item_total m))

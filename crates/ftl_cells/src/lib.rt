@@ -10,6 +10,7 @@ mod atomic;
 mod cells;
 mod hand;
 mod kind;
+mod open;
 mod place;
 mod rule;
 mod steps;
