@@ -12,3 +12,4 @@ pub mod Plays
 pub mod Seats
 pub mod Ready
 pub mod Opening
+pub mod Closing

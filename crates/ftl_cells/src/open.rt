@@ -1,6 +1,7 @@
 // The first and the last call on the cells of a work, which take memory.
-ghost use Rattle.std.specs.Prelude.{◌≡◌, ℕ, ◌+◌, ◌<◌, ◌≤◌, ◌++◌, map, length, slice_index, IfOk, OnOk, vec_len, vec_capacity};
+ghost use Rattle.std.specs.Prelude.{◌≡◌, ◌+◌, ◌<◌, ◌≤◌, [], ◌++◌, map, slice_index, IfOk, OnOk, vec_capacity};
 ghost use Rattle.std.specs.List.{range_with_len};
+ghost use Rattle.std.specs.Slots.{slots_items, slots_len, IsFull};
 ghost use Rattle.ftl_cells.specs.Work.{item_total, pred_total};
 ghost use Rattle.ftl_cells.specs.State.{live, newcomer, AreFirst, AreLast, opening_words};
 ghost use Rattle.ftl_cells.specs.Calls.{IsMadeBy};
@@ -38,6 +39,22 @@ impl<W: Work + Drop> Cells<W> {
         };
         Ok((cells, hand))
     }
+
+    /// Gives the words of the cells. There is an Ended hand, so all items are filled.
+    pub fn close(self, alloc: Global, hand: Hand) -> Result<Vec<u64>, AllocError>
+        requires made { IsMadeBy (W.meaning self.1) self.0 hand }
+        requires ended { hand.state.place ≡ live Ended }
+        ensures { IfOk result (λ v. AreLast (W.meaning self.1) v.items) }
+    {
+        let Cells { table, work, .. } = self;
+        let Hand { seat, .. } = hand;
+        let cells = work.cells() as usize;
+        let mut words = Vec::with_capacity(alloc, cells)?;
+        let closed = table.close_with(seat);
+        copy_cells(&closed, cells, &mut words);
+        closed.free();
+        Ok(words)
+    }
 }
 
 fn opening_row<W: Work>(alloc: Global, work: &W, words: &[u64]) -> Result<Vec<u64>, AllocError>
@@ -61,4 +78,17 @@ fn push_counters<W: Work>(work: &W, row: &mut Vec<u64>) -> Result<(), AllocError
         row.push(work.pred_count(item) as u64)?;
     }
     Ok(())
+}
+
+/// Copies the words of the cells, for which there is room.
+fn copy_cells(closed: &Closed<u8, Global>, cells: usize, words: &mut Vec<u64>)
+    requires full { IsFull closed.now.words }
+    requires cells { cells < slots_len closed.now.words }
+    requires empty { words.old.items ≡ [] }
+    requires room { cells ≤ vec_capacity words.old }
+    ensures { words.new.items ≡ map (λ c. slice_index (slots_items closed.now.words) (1 + c)) (range_with_len 0 cells) }
+{
+    for cell in 0..cells {
+        words.push(closed.word(1 + cell)).unwrap();
+    }
 }
