@@ -13,3 +13,4 @@ pub mod Seats
 pub mod Ready
 pub mod Opening
 pub mod Closing
+pub mod Consequences

@@ -10,6 +10,7 @@ mod atomic;
 mod cells;
 mod hand;
 mod kind;
+pub mod laws;
 mod open;
 mod place;
 mod rule;
