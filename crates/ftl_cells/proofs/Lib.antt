@@ -14,3 +14,4 @@ pub mod Ready
 pub mod Opening
 pub mod Closing
 pub mod Consequences
+pub mod DiamondLaws

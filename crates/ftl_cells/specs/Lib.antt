@@ -5,3 +5,4 @@ pub mod Kept
 pub mod Calls
 pub mod Told
 pub mod Table
+pub mod Diamond

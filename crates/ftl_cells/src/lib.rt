@@ -8,6 +8,7 @@
 mod answer;
 mod atomic;
 mod cells;
+mod diamond;
 mod hand;
 mod kind;
 pub mod laws;
@@ -19,6 +20,7 @@ mod work;
 
 pub use answer::{Claim, Deliver, Look};
 pub use cells::Cells;
+pub use diamond::Diamond;
 pub use hand::Hand;
 pub use kind::CellKind;
 pub use place::HandPlace;
