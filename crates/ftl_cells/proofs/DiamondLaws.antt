@@ -1,8 +1,10 @@
 -- The diamond is lawful work.
-use Rattle.std.proofs.Common.{◌≡◌, ◌≢◌, ℕ, zero, suc, ◌+◌, ◌^◌, ◌<◌, ◌≤◌, ◌⊎◌, inl, inr, subst, refl, sym, ap, ◌∙◌, arith, rules, List, [], ◌∷◌}
-use Rattle.ftl_model.specs.Values.{Value, number, IsValue}
+use Rattle.std.proofs.Common.{◌≡◌, ◌≢◌, ℕ, zero, suc, ◌+◌, ◌^◌, ◌<◌, ◌≤◌, ◌⊎◌, inl, inr, subst, refl, sym, ap, ◌∙◌, arith, rules, List, [], ◌∷◌, get_or}
+use Rattle.ftl_model.specs.Values.{Value, number, IsValue, word_of_value}
 use Rattle.ftl_cells.specs.Count.{Counts, at_zero, counts_it, skips_it}
-use Rattle.ftl_cells.specs.Work.{Meaning, cell_total, kind_at, solution_at, item_total, pred_total, next_total, next_at, step_total, target_of, reads_of, read_total, read_of, IsStep, IsNext, IsOwn, IsHandedOn, IsReadable, IsTargeted, IsLawful}
+use Rattle.ftl_cells.specs.Work.{Meaning, cell_total, kind_at, solution_at, item_total, pred_total, next_total, next_at, step_total, target_of, reads_of, read_total, read_of, solved_word, IsStep, IsNext, IsOwn, IsHandedOn, IsReadable, IsTargeted, IsLawful}
+use Rattle.ftl_cells.specs.State.{AreFirst, first_word_of}
+use Rattle.std.specs.Prelude.{pos}
 use Rattle.ftl_cells.specs.Diamond.{diamond}
 use Rattle.ftl_cells.specs.declared.kind.CellKind.{CellKind}
 use Rattle.ftl_cells.specs.declared.kind.CellKind.TheVariants.{Given, Target}
@@ -106,3 +108,11 @@ diamond_is_lawful = record {
   counted = λ i l. below4 (λ x. (next_total diamond x < 2 ^ 32) × (step_total diamond x < 2 ^ 32)) (omega arith, omega arith) (omega arith, omega arith) (omega arith, omega arith) (omega arith, omega arith) i l;
   reads_counted = each_step (λ i j. read_total diamond i j < 2 ^ 32) (omega arith) (omega arith) (omega arith) (omega arith);
 }
+
+-- the words of its cells before: 7 in the first, and the others empty
+pub diamond_first : (words : List ℕ) → words ≡ word_of_value (number (pos 7)) ∷ 0 ∷ 0 ∷ 0 ∷ 0 ∷ [] → AreFirst diamond words
+unfolding cell_total kind_at solution_at
+diamond_first words e = let P : List ℕ → Type 0 = AreFirst diamond in subst P (sym e) (record {
+  count = refl;
+  each = below5 (λ c. get_or (word_of_value (number (pos 7)) ∷ 0 ∷ 0 ∷ 0 ∷ 0 ∷ []) c 0 ≡ first_word_of (kind_at diamond c) (solved_word diamond c)) refl refl refl refl refl;
+})

@@ -16,6 +16,8 @@ mod open;
 mod place;
 mod rule;
 mod steps;
+#[cfg(test)]
+mod tests;
 mod work;
 
 pub use answer::{Claim, Deliver, Look};

@@ -1,0 +1,3 @@
+mod row;
+mod walk;
+mod words;
