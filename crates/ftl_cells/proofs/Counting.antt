@@ -47,3 +47,8 @@ one_count P (counts_it p c) (counts_it q d) = ap suc (one_count P c d)
 one_count P (counts_it p c) (skips_it q d) = absurd (q p)
 one_count P (skips_it p c) (counts_it q d) = absurd (p q)
 one_count P (skips_it p c) (skips_it q d) = one_count P c d
+
+-- where no number has it, the count is 0
+pub none_of : (P : ℕ → Type 0) (k : ℕ) → ((x : ℕ) → x < k → P x → ⊥) → Counts P k 0
+none_of P zero f = at_zero
+none_of P (suc k) f = skips_it (f k (omega arith)) (none_of P k (λ x h. f x (omega arith)))

@@ -15,3 +15,4 @@ pub mod Opening
 pub mod Closing
 pub mod Consequences
 pub mod DiamondLaws
+pub mod Shapes

@@ -6,3 +6,4 @@ pub mod Calls
 pub mod Told
 pub mod Table
 pub mod Diamond
+pub mod Shape
