@@ -16,3 +16,5 @@ pub mod Closing
 pub mod Consequences
 pub mod DiamondLaws
 pub mod Shapes
+pub mod ChainLaws
+pub mod LoneLaws

@@ -1,3 +1,4 @@
+mod chain;
 mod row;
 mod walk;
 mod words;
