@@ -1,4 +1,5 @@
 mod chain;
 mod row;
+mod runs;
 mod walk;
 mod words;
