@@ -29,7 +29,8 @@ chain_target (suc c) ne = refl
 chain_readable : (n i : ℕ) → i < n → (chain_kind i ≡ Given) ⊎ IsPassedCell (chain n) i i
 chain_readable n zero l = inl refl
 chain_readable n (suc i) l = inr (record {
-  item = i; step = 0;
+  item = i;
+  step = 0;
   next = record { known = omega arith; at = 0; below = omega arith; is = omega arith };
   known = record { item = omega arith; step = omega arith };
   is = omega arith;
@@ -120,6 +121,6 @@ pub chain_first : (n : ℕ) (words : List ℕ) → words ≡ word_of_value (numb
 chain_first n words e = subst (AreFirst (listed (chain n))) (sym e) (record {
   count = omega (arith, length-replicate {A = ℕ} n 0, chain_cells n);
   each = λ c l. let b : c < n + 1 = subst (λ x. c < x) (chain_cells n) l in
-    first_is n c b ∙ ap (first_word_of (chain_kind c)) (ap word_of_value (sym (solution_at-listed (chain n) c b)))
-    ∙ ap (λ q. first_word_of q (solved_word (listed (chain n)) c)) (sym (chain_kinds n c l));
+      first_is n c b ∙ ap (first_word_of (chain_kind c)) (ap word_of_value (sym (solution_at-listed (chain n) c b)))
+      ∙ ap (λ q. first_word_of q (solved_word (listed (chain n)) c)) (sym (chain_kinds n c l));
 })

@@ -17,11 +17,11 @@ falls P Q i below here gone f g at_zero = absurd (omega arith)
 falls P Q i below here gone f g (counts_it {k = k} {n = n} p c) = dite (ℕ_discrete k i)
     (λ e. (n, refl, skips_it (λ q. gone (subst Q e q)) (same_count P Q (λ x h. f x (omega arith) (omega arith)) (λ x h. g x (omega arith) (omega arith)) c)))
     (λ ne. let r = falls P Q i (omega arith) here gone (λ x h. f x (omega arith)) (λ x h. g x (omega arith)) c in
-      (suc r.0, ap suc r.1, counts_it (f k (omega arith) ne p) r.2))
+    (suc r.0, ap suc r.1, counts_it (f k (omega arith) ne p) r.2))
 falls P Q i below here gone f g (skips_it {k = k} {n = n} p c) = dite (ℕ_discrete k i)
     (λ e. absurd (p (subst P (sym e) here)))
     (λ ne. let r = falls P Q i (omega arith) here gone (λ x h. f x (omega arith)) (λ x h. g x (omega arith)) c in
-      (r.0, r.1, skips_it (λ q. p (g k (omega arith) ne q)) r.2))
+    (r.0, r.1, skips_it (λ q. p (g k (omega arith) ne q)) r.2))
 
 -- where one number has the property, the count is not 0
 pub some_left : (P : ℕ → Type 0) (i : ℕ) {k n : ℕ} → i < k → P i → Counts P k n → (l : ℕ) × (n ≡ suc l)

@@ -16,21 +16,21 @@ pub released_more : (m : Meaning) (s : Stage) (xs : List ℕ) (x : ℕ) → AreR
 released_more m s xs x r known waits p next apart =
     let before : (k : ℕ) → k < length xs → get_or (xs ++ x ∷ []) k 0 ≡ get_or xs k 0 = λ k l. get_or_append_left xs (x ∷ []) 0 k l in
     let last : (k : ℕ) → k ≡ length xs → get_or (xs ++ x ∷ []) k 0 ≡ x = λ k e.
-          get_or-append_right xs (x ∷ []) (length xs) k 0 refl (omega arith) ∙ ap (λ y. get_or (x ∷ []) y 0) (let z : k - length xs ≡ 0 = omega arith in z) in
+    get_or-append_right xs (x ∷ []) (length xs) k 0 refl (omega arith) ∙ ap (λ y. get_or (x ∷ []) y 0) (let z : k - length xs ≡ 0 = omega arith in z) in
     let cases : (P : ℕ → Type 0) (k : ℕ) → k < length (xs ++ x ∷ []) → (k < length xs → P (get_or xs k 0)) → P x → P (get_or (xs ++ x ∷ []) k 0) = λ P k l f g. dite (ℕ_discrete k (length xs))
-          (λ e. subst P (sym (last k e)) g)
-          (λ ne. let b : k < length xs = omega (arith, length-append xs (x ∷ [])) in subst P (sym (before k b)) (f b)) in
+    (λ e. subst P (sym (last k e)) g)
+    (λ ne. let b : k < length xs = omega (arith, length-append xs (x ∷ [])) in subst P (sym (before k b)) (f b)) in
     record {
       known = λ k l. cases (λ y. y < item_total m) k l (r.known k) known;
       zero = λ k l. cases (λ y. s.counter y ≡ 0) k l (r.zero k) waits;
       preceded = λ k l. cases (λ y. (q : ℕ) × IsNext m q y) k l (r.preceded k) (p, next);
       once = λ k l a b e. dite (ℕ_discrete k (length xs))
           (λ ek. dite (ℕ_discrete l (length xs))
-            (λ el. omega arith)
-            (λ nl. let c : l < length xs = omega (arith, length-append xs (x ∷ [])) in absurd (apart l c (sym (before l c) ∙ sym e ∙ last k ek))))
+          (λ el. omega arith)
+          (λ nl. let c : l < length xs = omega (arith, length-append xs (x ∷ [])) in absurd (apart l c (sym (before l c) ∙ sym e ∙ last k ek))))
           (λ nk. let d : k < length xs = omega (arith, length-append xs (x ∷ [])) in dite (ℕ_discrete l (length xs))
-            (λ el. absurd (apart k d (sym (before k d) ∙ e ∙ last l el)))
-            (λ nl. let c : l < length xs = omega (arith, length-append xs (x ∷ [])) in r.once k l d c (sym (before k d) ∙ e ∙ before l c)));
+          (λ el. absurd (apart k d (sym (before k d) ∙ e ∙ last l el)))
+          (λ nl. let c : l < length xs = omega (arith, length-append xs (x ∷ [])) in r.once k l d c (sym (before k d) ∙ e ∙ before l c)));
     }
 
 module _ (m : Meaning) (law : IsLawful m) (s : Stage) (h i n : ℕ) (sent : Sends (s.place h) i n) (k : IsKept m s) where
@@ -88,33 +88,38 @@ module _ (m : Meaning) (law : IsLawful m) (s t : Stage) (h i n left : ℕ) (p : 
   pub sends_keep : n < next_total m i → s.counter (next_at m i n) ≡ suc left → Same (cell_total m) s.cell t.cell → Same (item_total m) s.state t.state → Puts (item_total m) s.counter t.counter (next_at m i n) left → t.end ≡ s.end
       → t.released h ≡ released_after (s.released h) (next_at m i n) left → ((g : ℕ) → g ≢ h → t.released g ≡ s.released g) → IsKept m t
   sends_keep below was cells states counters end mine theirs =
-
       let next_known : next_at m i n < item_total m = law.next_in_range i n known below in
       let target_same : (x c : ℕ) → IsStep m x c → t.cell (target_of m x c) ≡ s.cell (target_of m x c) =
-            λ x c st. cells (target_of m x c) (law.target_in_range x c st) in
+      λ x c st. cells (target_of m x c) (law.target_in_range x c st) in
       -- the counters that were 0 are 0
       let zero_same : (y : ℕ) → y < item_total m → s.counter y ≡ 0 → t.counter y ≡ 0 = λ y l z.
-            counters.there y l (λ e. let a : s.counter y ≡ s.counter (next_at m i n) = ap s.counter e in omega (arith, was)) ∙ z in
+      counters.there y l (λ e. let a : s.counter y ≡ s.counter (next_at m i n) = ap s.counter e in omega (arith, was)) ∙ z in
       -- to other items this one has delivered as before
       let delivered_old : (x q : ℕ) → q < item_total m → x ≢ next_at m i n → HasDelivered m t q x → HasDelivered m s q x = λ x q l ne d. dite (ℕ_discrete q i)
-            (λ e. record { state = ap s.state e ∙ state_here;
-              sent = λ g c at w b is. let f : c ≡ n = count_old g q c e w in
-                let a : at < n + 1 = d.sent h (n + 1) at (subst (λ y. Sends (t.place h) y (n + 1)) (sym e) sends_there) b is in
-                let apart : at ≢ n = λ z. ne (sym is ∙ ap (λ y. next_at m y at) e ∙ ap (next_at m i) z) in omega arith })
-            (λ no. delivered_same m t s q x (sym (states q l)) (λ g c. sends_new g q c no) d) in
+      (λ e. record {
+        state = ap s.state e ∙ state_here;
+        sent = λ g c at w b is. let f : c ≡ n = count_old g q c e w in
+            let a : at < n + 1 = d.sent h (n + 1) at (subst (λ y. Sends (t.place h) y (n + 1)) (sym e) sends_there) b is in
+            let apart : at ≢ n = λ z. ne (sym is ∙ ap (λ y. next_at m y at) e ∙ ap (next_at m i) z) in omega arith;
+      })
+      (λ no. delivered_same m t s q x (sym (states q l)) (λ g c. sends_new g q c no) d) in
       let delivered_new : (x q : ℕ) → q < item_total m → HasDelivered m s q x → HasDelivered m t q x = λ x q l d. dite (ℕ_discrete q i)
-            (λ e. record { state = states q l ∙ d.state;
-              sent = λ g c at w b is. let f : c ≡ n + 1 = count_new g q c e w in
-                let a : at < n = d.sent h n at (subst (λ y. Sends (s.place h) y n) (sym e) sent_here) b is in omega arith })
-            (λ no. delivered_same m s t q x (states q l) (λ g c. sends_old g q c no) d) in
+      (λ e. record {
+        state = states q l ∙ d.state;
+        sent = λ g c at w b is. let f : c ≡ n + 1 = count_new g q c e w in
+            let a : at < n = d.sent h n at (subst (λ y. Sends (s.place h) y n) (sym e) sent_here) b is in omega arith;
+      })
+      (λ no. delivered_same m s t q x (states q l) (λ g c. sends_old g q c no) d) in
       let fallen : (l : ℕ) × (s.counter (next_at m i n) ≡ suc l) × Counts (Owes m t (next_at m i n)) (next_at m i n) l =
-            falls (Owes m s (next_at m i n)) (Owes m t (next_at m i n)) i (law.next_is_later i n known below) (next_waits m law s h i n sent_here k below)
-              (λ o. o.open_ (record { state = states i known ∙ state_here;
-                sent = λ g c at w b is. let f : c ≡ n + 1 = count_new g i c refl w in
-                  let e : at ≡ n = law.next_once i at n known b below is in omega arith }))
-              (λ q b ne o. owes_same m s t q (next_at m i n) (delivered_same m t s q (next_at m i n) (sym (states q o.next.known)) (λ g c. sends_new g q c ne)) o)
-              (λ q b ne o. owes_same m t s q (next_at m i n) (delivered_same m s t q (next_at m i n) (states q o.next.known) (λ g c. sends_old g q c ne)) o)
-              (k.counters (next_at m i n) next_known) in
+      falls (Owes m s (next_at m i n)) (Owes m t (next_at m i n)) i (law.next_is_later i n known below) (next_waits m law s h i n sent_here k below)
+      (λ o. o.open_ (record {
+        state = states i known ∙ state_here;
+        sent = λ g c at w b is. let f : c ≡ n + 1 = count_new g i c refl w in
+            let e : at ≡ n = law.next_once i at n known b below is in omega arith;
+      }))
+      (λ q b ne o. owes_same m s t q (next_at m i n) (delivered_same m t s q (next_at m i n) (sym (states q o.next.known)) (λ g c. sends_new g q c ne)) o)
+      (λ q b ne o. owes_same m t s q (next_at m i n) (delivered_same m s t q (next_at m i n) (states q o.next.known) (λ g c. sends_old g q c ne)) o)
+      (k.counters (next_at m i n) next_known) in
       let left_is : fallen.0 ≡ left = let a : s.counter (next_at m i n) ≡ suc fallen.0 = fallen.1 in omega (arith, was) in
       record {
         in_range = range_after s t h p (live (Sending i (n + 1))) turn m (known, omega arith) k.in_range;
@@ -134,18 +139,18 @@ module _ (m : Meaning) (law : IsLawful m) (s t : Stage) (h i n left : ℕ) (p : 
         alone = alone_after s t h p (live (Sending i (n + 1))) turn (λ x w. subst (Has p) w (sends_has p i n sent)) k.alone;
         counters = λ x l. dite (ℕ_discrete x (next_at m i n))
             (λ e. subst (λ y. Counts (Owes m t y) y (t.counter y)) (sym e)
-              (subst (Counts (Owes m t (next_at m i n)) (next_at m i n)) (left_is ∙ sym counters.here) fallen.2))
+            (subst (Counts (Owes m t (next_at m i n)) (next_at m i n)) (left_is ∙ sym counters.here) fallen.2))
             (λ ne. subst (Counts (Owes m t x) x) (sym (counters.there x l ne)) (same_count (Owes m s x) (Owes m t x)
-              (λ q b o. owes_same m s t q x (delivered_old x q o.next.known ne) o)
-              (λ q b o. owes_same m t s q x (delivered_new x q o.next.known) o)
-              (k.counters x l)));
+            (λ q b o. owes_same m s t q x (delivered_old x q o.next.known ne) o)
+            (λ q b o. owes_same m t s q x (delivered_new x q o.next.known) o)
+            (k.counters x l)));
         end = subst (Counts (IsUndone t) (item_total m)) (sym end) (same_count (IsUndone s) (IsUndone t)
             (λ q b u. dite (ℕ_discrete q i)
-              (λ e. inr (h, n + 1, subst (λ y. Sends (t.place h) y (n + 1)) (sym e) sends_there))
-              (λ ne. undone_same m s t q (states q b) (λ g c. sends_new g q c ne) u))
+            (λ e. inr (h, n + 1, subst (λ y. Sends (t.place h) y (n + 1)) (sym e) sends_there))
+            (λ ne. undone_same m s t q (states q b) (λ g c. sends_new g q c ne) u))
             (λ q b u. dite (ℕ_discrete q i)
-              (λ e. inr (h, n, subst (λ y. Sends (s.place h) y n) (sym e) sent_here))
-              (λ ne. undone_same m t s q (sym (states q b)) (λ g c. sends_old g q c ne) u))
+            (λ e. inr (h, n, subst (λ y. Sends (s.place h) y n) (sym e) sent_here))
+            (λ ne. undone_same m t s q (sym (states q b)) (λ g c. sends_old g q c ne) u))
             k.end);
         looked = λ g x w. let o : Looks (s.place g) x = old s t h p (live (Sending i (n + 1))) turn (λ q. Looks q x) (λ z. z) g w in
             zero_same x (looks_in_range m (s.place g) x o (k.in_range g)) (k.looked g x o);
@@ -153,12 +158,13 @@ module _ (m : Meaning) (law : IsLawful m) (s t : Stage) (h i n left : ℕ) (p : 
         ended = λ g w. end ∙ k.ended g (old s t h p (live (Sending i (n + 1))) turn HasEnded (λ z. z) g w);
         released = λ g. dite (ℕ_discrete g h)
             (λ e. subst (λ y. AreReleased m t (t.released y)) (sym e) (subst (AreReleased m t) (sym mine)
-              (let kept : AreReleased m t (s.released h) = released_same m s t zero_same (s.released h) (k.released h) in
-                elim left as (λ l. t.counter (next_at m i n) ≡ l → AreReleased m t (released_after (s.released h) (next_at m i n) l)) [
-                  zero ↦ λ z. released_more m t (s.released h) (next_at m i n) kept next_known z i (record { known = known; at = n; below = below; is = refl })
-                    (λ c b e. let r = k.released h in let z : s.counter (get_or (s.released h) c 0) ≡ 0 = r.zero c b in
-                      let a : s.counter (get_or (s.released h) c 0) ≡ s.counter (next_at m i n) = ap s.counter e in omega (arith, was))
-                | suc l ↦ λ z. kept ] counters.here)))
+            (let kept : AreReleased m t (s.released h) = released_same m s t zero_same (s.released h) (k.released h) in
+            elim left as (λ l. t.counter (next_at m i n) ≡ l → AreReleased m t (released_after (s.released h) (next_at m i n) l)) [
+              | zero ↦ λ z. released_more m t (s.released h) (next_at m i n) kept next_known z i (record { known = known; at = n; below = below; is = refl })
+                  (λ c b e. let r = k.released h in let z : s.counter (get_or (s.released h) c 0) ≡ 0 = r.zero c b in
+                  let a : s.counter (get_or (s.released h) c 0) ≡ s.counter (next_at m i n) = ap s.counter e in omega (arith, was))
+              | suc l ↦ λ z. kept
+            ] counters.here)))
             (λ ne. subst (AreReleased m t) (sym (theirs g ne)) (released_same m s t zero_same (s.released g) (k.released g)));
       }
 
@@ -192,20 +198,22 @@ module _ (m : Meaning) (law : IsLawful m) (s t : Stage) (h i n left : ℕ) (p : 
   pub finishes_keep : n ≡ next_total m i → s.end ≡ suc left → Same (cell_total m) s.cell t.cell → Same (item_total m) s.state t.state → Same (item_total m) s.counter t.counter → t.end ≡ left → ((g : ℕ) → t.released g ≡ s.released g) → IsKept m t
   finishes_keep done was cells states counters end released =
       let target_same : (x c : ℕ) → IsStep m x c → t.cell (target_of m x c) ≡ s.cell (target_of m x c) =
-            λ x c st. cells (target_of m x c) (law.target_in_range x c st) in
+      λ x c st. cells (target_of m x c) (law.target_in_range x c st) in
       let delivered_old : (x q : ℕ) → q < item_total m → HasDelivered m t q x → HasDelivered m s q x = λ x q l d. dite (ℕ_discrete q i)
-            (λ e. record { state = ap s.state e ∙ filled;
-              sent = λ g c at w b is. let f : c ≡ n = count_before g q c e w in
-                let a : at < next_total m i = subst (λ y. at < next_total m y) e b in omega (arith, done) })
-            (λ no. delivered_same m t s q x (sym (states q l)) (λ g c. sends_after g q c no) d) in
+      (λ e. record {
+        state = ap s.state e ∙ filled;
+        sent = λ g c at w b is. let f : c ≡ n = count_before g q c e w in
+            let a : at < next_total m i = subst (λ y. at < next_total m y) e b in omega (arith, done);
+      })
+      (λ no. delivered_same m t s q x (sym (states q l)) (λ g c. sends_after g q c no) d) in
       let delivered_new : (x q : ℕ) → q < item_total m → HasDelivered m s q x → HasDelivered m t q x = λ x q l d.
-            delivered_same m s t q x (states q l) (λ g c. sends_before g q c) d in
+      delivered_same m s t q x (states q l) (λ g c. sends_before g q c) d in
       let fallen : (l : ℕ) × (s.end ≡ suc l) × Counts (IsUndone t) (item_total m) l =
-            falls (IsUndone s) (IsUndone t) i item_known (inr (h, n, was_here))
-              (λ u. ⊎_elim (λ a. a (states i item_known ∙ filled)) (λ b. none_after b.0 i b.1 refl b.2) u)
-              (λ q b ne u. undone_same m s t q (states q b) (λ g c. sends_after g q c ne) u)
-              (λ q b ne u. undone_same m t s q (sym (states q b)) (λ g c. sends_before g q c) u)
-              k.end in
+      falls (IsUndone s) (IsUndone t) i item_known (inr (h, n, was_here))
+      (λ u. ⊎_elim (λ a. a (states i item_known ∙ filled)) (λ b. none_after b.0 i b.1 refl b.2) u)
+      (λ q b ne u. undone_same m s t q (states q b) (λ g c. sends_after g q c ne) u)
+      (λ q b ne u. undone_same m t s q (sym (states q b)) (λ g c. sends_before g q c) u)
+      k.end in
       let left_is : fallen.0 ≡ left = let a : s.end ≡ suc fallen.0 = fallen.1 in omega (arith, was) in
       record {
         in_range = range_after s t h p (live Idle) turn m tt k.in_range;

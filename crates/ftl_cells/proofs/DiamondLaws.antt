@@ -65,7 +65,7 @@ preds i l = below4 (λ x. Counts (λ p. IsNext diamond p x) x (pred_total diamon
     (counts_it (next_of 0 0 1 (omega arith) (omega arith) refl) at_zero)
     (skips_it (not_next 1 2 (below1 (λ at. next_at diamond 1 at ≡ 2 → ⊥) (λ e. omega arith))) (counts_it (next_of 0 1 2 (omega arith) (omega arith) refl) at_zero))
     (counts_it (next_of 2 0 3 (omega arith) (omega arith) refl) (counts_it (next_of 1 0 3 (omega arith) (omega arith) refl)
-      (skips_it (not_next 0 3 (below2 (λ at. next_at diamond 0 at ≡ 3 → ⊥) (λ e. omega arith) (λ e. omega arith))) at_zero)))
+    (skips_it (not_next 0 3 (below2 (λ at. next_at diamond 0 at ≡ 3 → ⊥) (λ e. omega arith) (λ e. omega arith))) at_zero)))
     i l
 
 -- what holds of each place of each list of next items
@@ -87,23 +87,23 @@ diamond_is_lawful = record {
   next_in_range = each_next (λ i k. next_at diamond i k < item_total diamond) (omega arith) (omega arith) (omega arith) (omega arith);
   next_is_later = each_next (λ i k. i < next_at diamond i k) (omega arith) (omega arith) (omega arith) (omega arith);
   next_once = λ i k l a b c e. each_next (λ x y. (z : ℕ) → z < next_total diamond x → next_at diamond x y ≡ next_at diamond x z → y ≡ z)
-    (below2 (λ z. 1 ≡ next_at diamond 0 z → 0 ≡ z) (λ e. refl) (λ e. absurd (omega arith)))
-    (below2 (λ z. 2 ≡ next_at diamond 0 z → 1 ≡ z) (λ e. absurd (omega arith)) (λ e. refl))
-    (below1 (λ z. 3 ≡ next_at diamond 1 z → 0 ≡ z) (λ e. refl))
-    (below1 (λ z. 3 ≡ next_at diamond 2 z → 0 ≡ z) (λ e. refl)) i k a b l c e;
+      (below2 (λ z. 1 ≡ next_at diamond 0 z → 0 ≡ z) (λ e. refl) (λ e. absurd (omega arith)))
+      (below2 (λ z. 2 ≡ next_at diamond 0 z → 1 ≡ z) (λ e. absurd (omega arith)) (λ e. refl))
+      (below1 (λ z. 3 ≡ next_at diamond 1 z → 0 ≡ z) (λ e. refl))
+      (below1 (λ z. 3 ≡ next_at diamond 2 z → 0 ≡ z) (λ e. refl)) i k a b l c e;
   preds = preds;
   target_in_range = each_step (λ i j. target_of diamond i j < cell_total diamond) (omega arith) (omega arith) (omega arith) (omega arith);
   target_kind = each_step (λ i j. kind_at diamond (target_of diamond i j) ≡ Target) refl refl refl refl;
   target_once = λ i j k l a b e. let x = target_is i j a in let y = target_is k l b in let u = only_step i j a in let w = only_step k l b in (omega arith, omega arith);
   each_target = λ c l. below5 (λ x. kind_at diamond x ≡ Target → IsTargeted diamond x) (λ e. absurd (cc))
-    (λ e. record { item = 0; step = 0; known = step_of 0 (omega arith); is = refl })
-    (λ e. record { item = 1; step = 0; known = step_of 1 (omega arith); is = refl })
-    (λ e. record { item = 2; step = 0; known = step_of 2 (omega arith); is = refl })
-    (λ e. record { item = 3; step = 0; known = step_of 3 (omega arith); is = refl }) c l;
+      (λ e. record { item = 0; step = 0; known = step_of 0 (omega arith); is = refl })
+      (λ e. record { item = 1; step = 0; known = step_of 1 (omega arith); is = refl })
+      (λ e. record { item = 2; step = 0; known = step_of 2 (omega arith); is = refl })
+      (λ e. record { item = 3; step = 0; known = step_of 3 (omega arith); is = refl }) c l;
   read_in_range = each_read (λ i j r. read_of diamond i j r < cell_total diamond) (omega arith) (omega arith) (omega arith) (omega arith) (omega arith);
   readable = each_read (λ i j r. IsReadable diamond i j (read_of diamond i j r)) (inl refl)
-    (handed 0 0 1 1 (omega arith) (omega arith) refl refl) (handed 0 1 2 1 (omega arith) (omega arith) refl refl)
-    (handed 1 0 3 2 (omega arith) (omega arith) refl refl) (handed 2 0 3 3 (omega arith) (omega arith) refl refl);
+      (handed 0 0 1 1 (omega arith) (omega arith) refl refl) (handed 0 1 2 1 (omega arith) (omega arith) refl refl)
+      (handed 1 0 3 2 (omega arith) (omega arith) refl refl) (handed 2 0 3 3 (omega arith) (omega arith) refl refl);
   few_reads = each_step (λ i j. read_total diamond i j ≤ 2) (omega arith) (omega arith) (omega arith) (omega arith);
   counted = λ i l. below4 (λ x. (next_total diamond x < 2 ^ 32) × (step_total diamond x < 2 ^ 32)) (omega arith, omega arith) (omega arith, omega arith) (omega arith, omega arith) (omega arith, omega arith) i l;
   reads_counted = each_step (λ i j. read_total diamond i j < 2 ^ 32) (omega arith) (omega arith) (omega arith) (omega arith);

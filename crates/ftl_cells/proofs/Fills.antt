@@ -39,23 +39,23 @@ module _ (m : Meaning) (law : IsLawful m) (s t : Stage) (h i j r : ℕ) (turn : 
   fills_keep below cells states counters end released =
       let here : IsStep m i j = record { item = known; step = below } in
       let target_same : (x n : ℕ) → IsStep m x n → target_of m x n ≢ target_of m i j → t.cell (target_of m x n) ≡ s.cell (target_of m x n) =
-            λ x n st ne. cells.there (target_of m x n) (law.target_in_range x n st) ne in
+      λ x n st ne. cells.there (target_of m x n) (law.target_in_range x n st) ne in
       let not_empty : t.cell (target_of m i j) ≢ 0 = λ z. word_of_value_pos (solution_at m (target_of m i j)) (law.values (target_of m i j) (law.target_in_range i j here)) (sym cells.here ∙ z) in
       let half : IsHalfFilled m s i j = k.working h i j works in
       let more : IsHalfFilled m t i (j + 1) = record {
-            state = states i known ∙ claimed;
-            before = λ n a b. dite (ℕ_discrete n j)
-              (λ e. subst (λ y. t.cell (target_of m i y) ≢ 0) (sym e) not_empty)
-              (λ ne z. let st : IsStep m i n = record { item = known; step = b } in
-                half.before n (omega arith) b (sym (target_same i n st (λ e. ne (law.target_once i n i j st here e).1)) ∙ z));
-            rest = λ n a b. let st : IsStep m i n = record { item = known; step = b } in
-              target_same i n st (λ e. let q : n ≡ j = (law.target_once i n i j st here e).1 in omega arith) ∙ half.rest n (omega arith) b;
-          } in
+        state = states i known ∙ claimed;
+        before = λ n a b. dite (ℕ_discrete n j)
+            (λ e. subst (λ y. t.cell (target_of m i y) ≢ 0) (sym e) not_empty)
+            (λ ne z. let st : IsStep m i n = record { item = known; step = b } in
+            half.before n (omega arith) b (sym (target_same i n st (λ e. ne (law.target_once i n i j st here e).1)) ∙ z));
+        rest = λ n a b. let st : IsStep m i n = record { item = known; step = b } in
+            target_same i n st (λ e. let q : n ≡ j = (law.target_once i n i j st here e).1 in omega arith) ∙ half.rest n (omega arith) b;
+      } in
       record {
         in_range = range_after s t h (live (Working i j r)) (live (Working i (j + 1) 0)) turn m (known, omega arith, omega arith) k.in_range;
         cells = λ c l. dite (ℕ_discrete c (target_of m i j))
             (λ e. subst (λ y. CellHolds (kind_at m y) (t.cell y) (solved_word m y)) (sym e)
-              (subst (λ q. CellHolds q (t.cell (target_of m i j)) (solved_word m (target_of m i j))) (sym (law.target_kind i j here)) (inr cells.here)))
+            (subst (λ q. CellHolds q (t.cell (target_of m i j)) (solved_word m (target_of m i j))) (sym (law.target_kind i j here)) (inr cells.here)))
             (λ ne. subst (λ n. CellHolds (kind_at m c) n (solved_word m c)) (sym (cells.there c l ne)) (k.cells c l));
         states = λ x l. let a : t.state x ≡ s.state x = states x l in let b = k.states x l in omega arith;
         free = λ x n st e. let z : s.state x ≡ 0 = sym (states x st.item) ∙ e in
@@ -66,15 +66,18 @@ module _ (m : Meaning) (law : IsLawful m) (s t : Stage) (h i j r : ℕ) (turn : 
             (λ ne. k.full x n st (sym (states x st.item) ∙ e) (sym (target_same x n st ne) ∙ z));
         claimed = λ x l e. dite (ℕ_discrete x i)
             (λ eq. (h, j + 1, subst (λ p. Works p x (j + 1)) (sym turn.is) (sym eq, refl)))
-            (λ ne. let c = k.claimed x l (sym (states x l) ∙ e) in
-              (c.0, c.1, ⊎_elim (λ a. absurd (ne (sym a.1.0))) (λ b. b.1)
-                (before_turn s t h (live (Working i j r)) (live (Working i (j + 1) 0)) turn (λ p. Works p x c.1) c.0 c.2)));
+            (λ ne. let c = k.claimed x l (sym (states x l) ∙ e) in (
+              c.0,
+              c.1,
+              ⊎_elim (λ a. absurd (ne (sym a.1.0))) (λ b. b.1)
+                  (before_turn s t h (live (Working i j r)) (live (Working i (j + 1) 0)) turn (λ p. Works p x c.1) c.0 c.2),
+            ));
         working = λ g x n w. ⊎_elim
             (λ a. subst (λ y. IsHalfFilled m t y n) a.1.0 (subst (λ y. IsHalfFilled m t i y) a.1.1 more))
             (λ b. let l : x < item_total m = has_in_range m (s.place g) x (works_has (s.place g) x n b.1) (k.in_range g) in
-              half_same m s t x n (states x l)
-                (λ y c. let st : IsStep m x y = record { item = l; step = c } in target_same x y st (λ eq. apart g x n b.0 b.1 (law.target_once x y i j st here eq).0))
-                (k.working g x n b.1))
+            half_same m s t x n (states x l)
+            (λ y c. let st : IsStep m x y = record { item = l; step = c } in target_same x y st (λ eq. apart g x n b.0 b.1 (law.target_once x y i j st here eq).0))
+            (k.working g x n b.1))
             (after_turn s t h (live (Working i j r)) (live (Working i (j + 1) 0)) turn (λ p. Works p x n) g w);
         sending = λ g x n w. let o = sends_old g x n w in
             states x (has_in_range m (s.place g) x (sends_has (s.place g) x n o) (k.in_range g)) ∙ k.sending g x n o;

@@ -23,8 +23,8 @@ module _ (m : Meaning) (law : IsLawful m) (s : Stage) (k : IsKept m s) where
   pub preds_filled : (i p : ℕ) → i < item_total m → s.state i ≢ 0 → IsNext m p i → s.state p ≡ 2
   preds_filled i p l ne next = dite (ℕ_discrete (s.state p) 2) (λ e. e)
       (λ no. absurd (none_left (Owes m s i) (k.counters i l) (k.started i l ne) p
-        (subst (λ y. p < y) next.is (law.next_is_later p next.at next.known next.below))
-        (record { next = next; open_ = λ d. no d.state })))
+      (subst (λ y. p < y) next.is (law.next_is_later p next.at next.known next.below))
+      (record { next = next; open_ = λ d. no d.state })))
 
   -- a cell that a hand reads holds the solution's word
   pub read_is : (h i j r : ℕ) → Works (s.place h) i j → j < step_total m i → r < read_total m i j → s.cell (read_of m i j r) ≡ solved_word m (read_of m i j r)
@@ -34,14 +34,14 @@ module _ (m : Meaning) (law : IsLawful m) (s : Stage) (k : IsKept m s) where
       let half : IsHalfFilled m s i j = k.working h i j w in
       let P : ℕ → Type 0 = λ c. s.cell c ≡ solved_word m c in
       ⊎_elim (λ given. given_holds (read_of m i j r) (law.read_in_range i j r st c) given)
-        (λ more. ⊎_elim
-          (λ (own : IsOwn m i j (read_of m i j r)). let early : own.step < step_total m i = omega arith in
-            let e : own.step < j = own.earlier in
-            subst P own.is (target_holds i own.step (record { item = l; step = early }) (half.before own.step e early)))
-          (λ (on : IsHandedOn m i (read_of m i j r)). let one : s.state i ≡ 1 = half.state in
-            subst P on.is (target_holds on.item on.step on.known (k.full on.item on.step on.known (preds_filled i on.item l (λ z. omega arith) on.next))))
-          more)
-        (law.readable i j r st c)
+      (λ more. ⊎_elim
+      (λ (own : IsOwn m i j (read_of m i j r)). let early : own.step < step_total m i = omega arith in
+      let e : own.step < j = own.earlier in
+      subst P own.is (target_holds i own.step (record { item = l; step = early }) (half.before own.step e early)))
+      (λ (on : IsHandedOn m i (read_of m i j r)). let one : s.state i ≡ 1 = half.state in
+      subst P on.is (target_holds on.item on.step on.known (k.full on.item on.step on.known (preds_filled i on.item l (λ z. omega arith) on.next))))
+      more)
+      (law.readable i j r st c)
 
   -- where the common end's counter is 0, each item is filled, and no hand has one
   pub all_filled : s.end ≡ 0 → (i : ℕ) → i < item_total m → s.state i ≡ 2
@@ -54,9 +54,10 @@ module _ (m : Meaning) (law : IsLawful m) (s : Stage) (k : IsKept m s) where
   pub last_holds : s.end ≡ 0 → (c : ℕ) → c < cell_total m → s.cell c ≡ last_word_of (kind_at m c) (solved_word m c)
   last_holds z c l =
       let by : (q : CellKind) → kind_at m c ≡ q → CellHolds q (s.cell c) (solved_word m c) → s.cell c ≡ last_word_of q (solved_word m c) = elim [
-            Given ↦ λ e h. h
-          | Target ↦ λ e h. let t = law.each_target c l e in
-              let st : IsStep m t.item t.step = t.known in
-              subst (λ y. s.cell y ≡ solved_word m y) t.is (target_holds t.item t.step st (k.full t.item t.step st (all_filled z t.item st.item)))
-          | Later ↦ λ e h. h ] in
+        | Given ↦ λ e h. h
+        | Target ↦ λ e h. let t = law.each_target c l e in
+            let st : IsStep m t.item t.step = t.known in
+            subst (λ y. s.cell y ≡ solved_word m y) t.is (target_holds t.item t.step st (k.full t.item t.step st (all_filled z t.item st.item)))
+        | Later ↦ λ e h. h
+      ] in
       by (kind_at m c) refl (k.cells c l)

@@ -92,15 +92,15 @@ module _ (m : Meaning) (law : IsLawful m) (words : List ℕ) (hands : List HandS
       let other : (g : ℕ) → g ≢ h → hand_at (set hands h w) g ≡ hand_at hands g = λ g ne. get_or-set_other hands h g w given_up ne in
       let rule = k.rule in
       let each : (P : HandState → Type 0) → P w → (g : ℕ) → (g ≢ h → P (hand_at hands g)) → P (hand_at (set hands h w) g) = λ P here g there. dite (ℕ_discrete g h)
-            (λ e. subst (λ y. P (hand_at (set hands h w) y)) (sym e) (subst P (sym is) here))
-            (λ ne. subst P (sym (other g ne)) (there ne)) in
+      (λ e. subst (λ y. P (hand_at (set hands h w) y)) (sym e) (subst P (sym is) here))
+      (λ ne. subst P (sym (other g ne)) (there ne)) in
       record {
         count = k.count;
         rule = loads_keep m (stage_of m words hands) (λ g. (hand_at (set hands h w) g).place) (λ g. (hand_at (set hands h w) g).released) rule
             (λ g. dite (ℕ_discrete g h)
-              (λ e. subst (λ y. Alike (hand_at hands y).place (hand_at (set hands h w) y).place) (sym e)
-                (subst (λ y. Alike y.place (hand_at (set hands h w) h).place) (sym was) (subst (λ y. Alike v.place y.place) (sym is) alike)))
-              (λ ne. alike_self (hand_at hands g).place (hand_at (set hands h w) g).place (ap (λ y. y.place) (other g ne))))
+            (λ e. subst (λ y. Alike (hand_at hands y).place (hand_at (set hands h w) y).place) (sym e)
+            (subst (λ y. Alike y.place (hand_at (set hands h w) h).place) (sym was) (subst (λ y. Alike v.place y.place) (sym is) alike)))
+            (λ ne. alike_self (hand_at hands g).place (hand_at (set hands h w) g).place (ap (λ y. y.place) (other g ne))))
             (λ g. each (λ y. IsInRange m y.place) range g (λ ne. rule.in_range g))
             (λ g. each (λ y. (i : ℕ) → Looks y.place i → get_or words (count_word m i) 0 ≡ 0) looked g (λ ne. rule.looked g))
             (λ g. each (λ y. HasEnded y.place → get_or words end_word 0 ≡ 0) ended g (λ ne. rule.ended g))
@@ -116,16 +116,16 @@ module _ (m : Meaning) (law : IsLawful m) (words : List ℕ) (hands : List HandS
       let was : hand_at hands (length hands) ≡ given_up = past_end hands given_up (length hands) (omega arith) in
       let other : (g : ℕ) → g ≢ length hands → hand_at (hands ++ newcomer m ∷ []) g ≡ hand_at hands g = λ g ne. snoc_other hands (newcomer m) given_up g ne in
       let each : (P : HandState → Type 0) → P (newcomer m) → (g : ℕ) → (g ≢ length hands → P (hand_at hands g)) → P (hand_at (hands ++ newcomer m ∷ []) g) = λ P here g there. dite (ℕ_discrete g (length hands))
-            (λ e. subst (λ y. P (hand_at (hands ++ newcomer m ∷ []) y)) (sym e) (subst P (sym is) here))
-            (λ ne. subst P (sym (other g ne)) (there ne)) in
+      (λ e. subst (λ y. P (hand_at (hands ++ newcomer m ∷ []) y)) (sym e) (subst P (sym is) here))
+      (λ ne. subst P (sym (other g ne)) (there ne)) in
       record {
         count = k.count;
         rule = loads_keep m (stage_of m words hands) (λ g. (hand_at (hands ++ newcomer m ∷ []) g).place) (λ g. (hand_at (hands ++ newcomer m ∷ []) g).released) rule
             (λ g. dite (ℕ_discrete g (length hands))
-              (λ e. subst (λ y. Alike (hand_at hands y).place (hand_at (hands ++ newcomer m ∷ []) y).place) (sym e)
-                (subst (λ y. Alike y.place (hand_at (hands ++ newcomer m ∷ []) (length hands)).place) (sym was)
-                  (subst (λ y. Alike spent y.place) (sym is) (alike_none spent (live Idle) (λ i w. w) (λ i w. w)))))
-              (λ ne. alike_self (hand_at hands g).place (hand_at (hands ++ newcomer m ∷ []) g).place (ap (λ y. y.place) (other g ne))))
+            (λ e. subst (λ y. Alike (hand_at hands y).place (hand_at (hands ++ newcomer m ∷ []) y).place) (sym e)
+            (subst (λ y. Alike y.place (hand_at (hands ++ newcomer m ∷ []) (length hands)).place) (sym was)
+            (subst (λ y. Alike spent y.place) (sym is) (alike_none spent (live Idle) (λ i w. w) (λ i w. w)))))
+            (λ ne. alike_self (hand_at hands g).place (hand_at (hands ++ newcomer m ∷ []) g).place (ap (λ y. y.place) (other g ne))))
             (λ g. each (λ y. IsInRange m y.place) tt g (λ ne. rule.in_range g))
             (λ g. each (λ y. (i : ℕ) → Looks y.place i → get_or words (count_word m i) 0 ≡ 0) (λ i w. absurd w) g (λ ne. rule.looked g))
             (λ g. each (λ y. HasEnded y.place → get_or words end_word 0 ≡ 0) (λ w. absurd w) g (λ ne. rule.ended g))
@@ -181,11 +181,11 @@ module _ (m : Meaning) (law : IsLawful m) (words : List ℕ) (hands : List HandS
         record {
           count = put_count (state_word m i) 1;
           rule = claims_keep m law (stage_of m words hands) (stage_of m (set words (state_word m i) 1) (set hands h w)) h i (turns (set words (state_word m i) 1) w (live (Looked i)) e) rule z
-            (λ c b. put_there (state_word m i) 1 (cell_word c) (λ q. omega arith))
-            (record { here = put_here (state_word m i) 1 (omega arith); there = λ x b ne. put_there (state_word m i) 1 (state_word m x) (λ q. ne (omega arith)) })
-            (λ x b. put_there (state_word m i) 1 (count_word m x) (λ q. omega arith))
-            (put_there (state_word m i) 1 end_word (λ q. omega arith))
-            (released_stays w refl);
+              (λ c b. put_there (state_word m i) 1 (cell_word c) (λ q. omega arith))
+              (record { here = put_here (state_word m i) 1 (omega arith); there = λ x b ne. put_there (state_word m i) 1 (state_word m x) (λ q. ne (omega arith)) })
+              (λ x b. put_there (state_word m i) 1 (count_word m x) (λ q. omega arith))
+              (put_there (state_word m i) 1 end_word (λ q. omega arith))
+              (released_stays w refl);
         }
     kept_step next w (misses i e z) = load_one h v w at
         (subst (λ p. Alike p (live Idle)) (sym e) (alike_none (live (Looked i)) (live Idle) (λ i w. w) (λ i w. w)))
@@ -203,11 +203,11 @@ module _ (m : Meaning) (law : IsLawful m) (words : List ℕ) (hands : List HandS
         record {
           count = put_count (cell_word (target_of m i j)) (solved_word m (target_of m i j));
           rule = fills_keep m law (stage_of m words hands) (stage_of m (set words (cell_word (target_of m i j)) (solved_word m (target_of m i j))) (set hands h w)) h i j r (turns (set words (cell_word (target_of m i j)) (solved_word m (target_of m i j))) w (live (Working i j r)) e) rule b
-            (record { here = put_here (cell_word (target_of m i j)) (solved_word m (target_of m i j)) (omega arith); there = λ x b ne. put_there (cell_word (target_of m i j)) (solved_word m (target_of m i j)) (cell_word x) (λ q. ne (omega arith)) })
-            (λ x b. put_there (cell_word (target_of m i j)) (solved_word m (target_of m i j)) (state_word m x) (λ q. omega arith))
-            (λ x b. put_there (cell_word (target_of m i j)) (solved_word m (target_of m i j)) (count_word m x) (λ q. omega arith))
-            (put_there (cell_word (target_of m i j)) (solved_word m (target_of m i j)) end_word (λ q. omega arith))
-            (released_stays w refl);
+              (record { here = put_here (cell_word (target_of m i j)) (solved_word m (target_of m i j)) (omega arith); there = λ x b ne. put_there (cell_word (target_of m i j)) (solved_word m (target_of m i j)) (cell_word x) (λ q. ne (omega arith)) })
+              (λ x b. put_there (cell_word (target_of m i j)) (solved_word m (target_of m i j)) (state_word m x) (λ q. omega arith))
+              (λ x b. put_there (cell_word (target_of m i j)) (solved_word m (target_of m i j)) (count_word m x) (λ q. omega arith))
+              (put_there (cell_word (target_of m i j)) (solved_word m (target_of m i j)) end_word (λ q. omega arith))
+              (released_stays w refl);
         }
     kept_step next w (marks i j r e b) =
         let rule = k.rule in
@@ -216,11 +216,11 @@ module _ (m : Meaning) (law : IsLawful m) (words : List ℕ) (hands : List HandS
         record {
           count = put_count (state_word m i) 2;
           rule = marks_keep m law (stage_of m words hands) (stage_of m (set words (state_word m i) 2) (set hands h w)) h i j r (turns (set words (state_word m i) 2) w (live (Working i j r)) e) rule b
-            (λ c b. put_there (state_word m i) 2 (cell_word c) (λ q. omega arith))
-            (record { here = put_here (state_word m i) 2 (omega arith); there = λ x b ne. put_there (state_word m i) 2 (state_word m x) (λ q. ne (omega arith)) })
-            (λ x b. put_there (state_word m i) 2 (count_word m x) (λ q. omega arith))
-            (put_there (state_word m i) 2 end_word (λ q. omega arith))
-            (released_stays w refl);
+              (λ c b. put_there (state_word m i) 2 (cell_word c) (λ q. omega arith))
+              (record { here = put_here (state_word m i) 2 (omega arith); there = λ x b ne. put_there (state_word m i) 2 (state_word m x) (λ q. ne (omega arith)) })
+              (λ x b. put_there (state_word m i) 2 (count_word m x) (λ q. omega arith))
+              (put_there (state_word m i) 2 end_word (λ q. omega arith))
+              (released_stays w refl);
         }
     kept_step next w (sends i n left e b z) =
         let rule = k.rule in
@@ -230,23 +230,23 @@ module _ (m : Meaning) (law : IsLawful m) (words : List ℕ) (hands : List HandS
         record {
           count = put_count (count_word m (next_at m i n)) left;
           rule = sends_keep m law (stage_of m words hands) (stage_of m (set words (count_word m (next_at m i n)) left) (set hands h w)) h i n left v.place e (turns (set words (count_word m (next_at m i n)) left) w v.place refl) rule b z
-            (λ c b. put_there (count_word m (next_at m i n)) left (cell_word c) (λ q. omega arith))
-            (λ x b. put_there (count_word m (next_at m i n)) left (state_word m x) (λ q. omega arith))
-            (record { here = put_here (count_word m (next_at m i n)) left (omega arith); there = λ x b ne. put_there (count_word m (next_at m i n)) left (count_word m x) (λ q. ne (omega arith)) })
-            (put_there (count_word m (next_at m i n)) left end_word (λ q. omega arith))
-            (ap (λ y. y.released) (get_or-set_same hands h w given_up (elem_below hands h v at)) ∙ sym (ap (λ y. released_after y.released (next_at m i n) left) hand_is))
-            (λ g ne. ap (λ y. y.released) (get_or-set_other hands h g w given_up ne));
+              (λ c b. put_there (count_word m (next_at m i n)) left (cell_word c) (λ q. omega arith))
+              (λ x b. put_there (count_word m (next_at m i n)) left (state_word m x) (λ q. omega arith))
+              (record { here = put_here (count_word m (next_at m i n)) left (omega arith); there = λ x b ne. put_there (count_word m (next_at m i n)) left (count_word m x) (λ q. ne (omega arith)) })
+              (put_there (count_word m (next_at m i n)) left end_word (λ q. omega arith))
+              (ap (λ y. y.released) (get_or-set_same hands h w given_up (elem_below hands h v at)) ∙ sym (ap (λ y. released_after y.released (next_at m i n) left) hand_is))
+              (λ g ne. ap (λ y. y.released) (get_or-set_other hands h g w given_up ne));
         }
     kept_step next w (finishes i n left e b z) =
         let rule = k.rule in
         record {
           count = put_count end_word left;
           rule = finishes_keep m law (stage_of m words hands) (stage_of m (set words end_word left) (set hands h w)) h i n left v.place e (turns (set words end_word left) w v.place refl) rule b z
-            (λ c b. put_there end_word left (cell_word c) (λ q. omega arith))
-            (λ x b. put_there end_word left (state_word m x) (λ q. omega arith))
-            (λ x b. put_there end_word left (count_word m x) (λ q. omega arith))
-            (put_here end_word left (omega arith))
-            (released_stays w refl);
+              (λ c b. put_there end_word left (cell_word c) (λ q. omega arith))
+              (λ x b. put_there end_word left (state_word m x) (λ q. omega arith))
+              (λ x b. put_there end_word left (count_word m x) (λ q. omega arith))
+              (put_here end_word left (omega arith))
+              (released_stays w refl);
         }
     kept_step next w (ends e z) = load_one h v w at
         (subst (λ p. Alike p (live Ended)) (sym e) (alike_none (live Idle) (live Ended) (λ i w. w) (λ i w. w)))
@@ -271,7 +271,7 @@ kept_after m law words next hands more k (splits h v at e) =
     hand_comes m law words (set hands h (after v v.place split end_word None)) (stays m law words hands k h v at (after v v.place split end_word None) refl refl)
 kept_after m law words next hands more k (joins h other v w ne at there f g) =
     goes m law words (set hands h (after v v.place join end_word None)) (stays m law words hands k h v at (after v v.place join end_word None) refl refl) other w
-      (set_else hands h other (after v v.place join end_word None) ne ∙ there) g
+    (set_else hands h other (after v v.place join end_word None) ne ∙ there) g
 
 -- what a cell holds at the opening
 opening_holds : (q : CellKind) (n word : ℕ) → n ≡ first_word_of q word → CellHolds q n word
@@ -303,17 +303,19 @@ kept_opening m law words o =
         sending = λ h i n w. absurd (none (λ p. Sends p i n) (λ x. x) (λ x. x) h w);
         alone = λ h g i a b. absurd (none (λ p. Has p i) (λ x. x) (λ x. x) h a);
         counters = λ i l. subst (Counts (Owes m (stage_of m words (newcomer m ∷ [])) i) i) (sym (o.counters i l))
-          (same_count (λ p. IsNext m p i) (Owes m (stage_of m words (newcomer m ∷ [])) i)
+            (same_count (λ p. IsNext m p i) (Owes m (stage_of m words (newcomer m ∷ [])) i)
             (λ p b next. record { next = next; open_ = λ d. let y : get_or words (state_word m p) 0 ≡ 0 = o.states p next.known in let z : get_or words (state_word m p) 0 ≡ 2 = d.state in omega arith })
             (λ p b owes. owes.next)
             (law.preds i l));
         end = subst (Counts (IsUndone (stage_of m words (newcomer m ∷ []))) (item_total m)) (sym o.end)
-          (all_of (IsUndone (stage_of m words (newcomer m ∷ []))) (item_total m) (λ p l. inl (λ z. let y : get_or words (state_word m p) 0 ≡ 0 = o.states p l in omega arith)));
+            (all_of (IsUndone (stage_of m words (newcomer m ∷ []))) (item_total m) (λ p l. inl (λ z. let y : get_or words (state_word m p) 0 ≡ 0 = o.states p l in omega arith)));
         looked = λ h i w. absurd (none (λ p. Looks p i) (λ x. x) (λ x. x) h w);
         started = λ i l ne. absurd (ne (o.states i l));
         ended = λ h w. absurd (none HasEnded (λ x. x) (λ x. x) h w);
         released = λ h. elim h as (λ y. AreReleased m (stage_of m words (newcomer m ∷ [])) (hand_at (newcomer m ∷ []) y).released) [
-          zero ↦ none_released m (stage_of m words (newcomer m ∷ [])) | suc g ↦ none_released m (stage_of m words (newcomer m ∷ [])) ];
+          | zero ↦ none_released m (stage_of m words (newcomer m ∷ []))
+          | suc g ↦ none_released m (stage_of m words (newcomer m ∷ []))
+        ];
       };
     }
 

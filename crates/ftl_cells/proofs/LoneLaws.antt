@@ -76,5 +76,5 @@ pub lone_first : (words : List ℕ) → words ≡ 0 ∷ [] → AreFirst (listed 
 lone_first words e = subst (AreFirst (listed lone)) (sym e) (record {
   count = sym lone_cells;
   each = λ c l. let b : c < 1 = subst (λ x. c < x) lone_cells l in
-    (let z : c ≡ 0 = omega arith in ap (λ x. get_or (0 ∷ []) x 0) z) ∙ sym (ap (λ q. first_word_of q (solved_word (listed lone) c)) (lone_kinds c l));
+      (let z : c ≡ 0 = omega arith in ap (λ x. get_or (0 ∷ []) x 0) z) ∙ sym (ap (λ q. first_word_of q (solved_word (listed lone) c)) (lone_kinds c l));
 })

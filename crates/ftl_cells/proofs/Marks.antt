@@ -35,11 +35,11 @@ module _ (m : Meaning) (law : IsLawful m) (s t : Stage) (h i j r : ℕ) (turn : 
   marks_keep done cells states counters end released =
       let claimed : s.state i ≡ 1 = mark_finds_claimed in
       let target_same : (x n : ℕ) → IsStep m x n → t.cell (target_of m x n) ≡ s.cell (target_of m x n) =
-            λ x n st. cells (target_of m x n) (law.target_in_range x n st) in
+      λ x n st. cells (target_of m x n) (law.target_in_range x n st) in
       let half : IsHalfFilled m s i j = k.working h i j works in
       -- no item has taken this one's delivery, before or after
       let undelivered : (x : ℕ) → IsNext m i x → HasDelivered m t i x → ⊥ = λ x next d.
-            let a = d.sent h 0 next.at sends_here next.below next.is in omega arith in
+      let a = d.sent h 0 next.at sends_here next.below next.is in omega arith in
       let unmarked : (x : ℕ) → HasDelivered m s i x → ⊥ = λ x d. let a : s.state i ≡ 2 = d.state in omega (arith, claimed) in
       record {
         in_range = range_after s t h (live (Working i j r)) (live (Filled i)) turn m known k.in_range;
@@ -52,38 +52,41 @@ module _ (m : Meaning) (law : IsLawful m) (s t : Stage) (h i j r : ℕ) (turn : 
             (λ ne. target_same x n st ∙ k.free x n st (sym (states.there x st.item ne) ∙ e));
         full = λ x n st e z. dite (ℕ_discrete x i)
             (λ eq. let b : n < step_total m i = subst (λ y. n < step_total m y) eq st.step in
-              half.before n (omega (arith, done)) b (subst (λ y. s.cell (target_of m y n) ≡ 0) eq (sym (target_same x n st) ∙ z)))
+            half.before n (omega (arith, done)) b (subst (λ y. s.cell (target_of m y n) ≡ 0) eq (sym (target_same x n st) ∙ z)))
             (λ ne. k.full x n st (sym (states.there x st.item ne) ∙ e) (sym (target_same x n st) ∙ z));
         claimed = λ x l e. dite (ℕ_discrete x i)
             (λ eq. let a : t.state i ≡ 2 = states.here in let b : t.state x ≡ t.state i = ap t.state eq in absurd (omega arith))
-            (λ ne. let c = k.claimed x l (sym (states.there x l ne) ∙ e) in
-              (c.0, c.1, ⊎_elim (λ a. absurd (ne (sym a.1.0))) (λ b. b.1)
-                (before_turn s t h (live (Working i j r)) (live (Filled i)) turn (λ p. Works p x c.1) c.0 c.2)));
+            (λ ne. let c = k.claimed x l (sym (states.there x l ne) ∙ e) in (
+              c.0,
+              c.1,
+              ⊎_elim (λ a. absurd (ne (sym a.1.0))) (λ b. b.1)
+                  (before_turn s t h (live (Working i j r)) (live (Filled i)) turn (λ p. Works p x c.1) c.0 c.2),
+            ));
         working = λ g x n w. ⊎_elim (λ a. absurd a.1)
             (λ b. let l : x < item_total m = has_in_range m (s.place g) x (works_has (s.place g) x n b.1) (k.in_range g) in
-              let ne : x ≢ i = λ e. b.0 (k.alone g h i (subst (Has (s.place g)) e (works_has (s.place g) x n b.1)) (works_has (s.place h) i j works)) in
-              half_same m s t x n (states.there x l ne) (λ y c. target_same x y (record { item = l; step = c })) (k.working g x n b.1))
+            let ne : x ≢ i = λ e. b.0 (k.alone g h i (subst (Has (s.place g)) e (works_has (s.place g) x n b.1)) (works_has (s.place h) i j works)) in
+            half_same m s t x n (states.there x l ne) (λ y c. target_same x y (record { item = l; step = c })) (k.working g x n b.1))
             (after_turn s t h (live (Working i j r)) (live (Filled i)) turn (λ p. Works p x n) g w);
         sending = λ g x n w. dite (ℕ_discrete x i)
             (λ e. ap t.state e ∙ states.here)
             (λ ne. let o = sends_old g x n ne w in
-              states.there x (has_in_range m (s.place g) x (sends_has (s.place g) x n o) (k.in_range g)) ne ∙ k.sending g x n o);
+            states.there x (has_in_range m (s.place g) x (sends_has (s.place g) x n o) (k.in_range g)) ne ∙ k.sending g x n o);
         alone = alone_after s t h (live (Working i j r)) (live (Filled i)) turn (λ x w. w) k.alone;
         counters = λ x l. subst (Counts (Owes m t x) x) (sym (counters x l)) (same_count (Owes m s x) (Owes m t x)
             (λ p b o. dite (ℕ_discrete p i)
-              (λ e. record { next = o.next; open_ = λ d. undelivered x (subst (λ y. IsNext m y x) e o.next) (subst (λ y. HasDelivered m t y x) e d) })
-              (λ ne. owes_same m s t p x (delivered_same m t s p x (sym (states.there p o.next.known ne)) (λ g n. sends_new g p n)) o))
+            (λ e. record { next = o.next; open_ = λ d. undelivered x (subst (λ y. IsNext m y x) e o.next) (subst (λ y. HasDelivered m t y x) e d) })
+            (λ ne. owes_same m s t p x (delivered_same m t s p x (sym (states.there p o.next.known ne)) (λ g n. sends_new g p n)) o))
             (λ p b o. dite (ℕ_discrete p i)
-              (λ e. record { next = o.next; open_ = λ d. unmarked x (subst (λ y. HasDelivered m s y x) e d) })
-              (λ ne. owes_same m t s p x (delivered_same m s t p x (states.there p o.next.known ne) (λ g n. sends_old g p n ne)) o))
+            (λ e. record { next = o.next; open_ = λ d. unmarked x (subst (λ y. HasDelivered m s y x) e d) })
+            (λ ne. owes_same m t s p x (delivered_same m s t p x (states.there p o.next.known ne) (λ g n. sends_old g p n ne)) o))
             (k.counters x l));
         end = subst (Counts (IsUndone t) (item_total m)) (sym end) (same_count (IsUndone s) (IsUndone t)
             (λ p b u. dite (ℕ_discrete p i)
-              (λ e. inr (h, 0, subst (λ y. Sends (t.place h) y 0) (sym e) sends_here))
-              (λ ne. undone_same m s t p (states.there p b ne) (λ g n. sends_new g p n) u))
+            (λ e. inr (h, 0, subst (λ y. Sends (t.place h) y 0) (sym e) sends_here))
+            (λ ne. undone_same m s t p (states.there p b ne) (λ g n. sends_new g p n) u))
             (λ p b u. dite (ℕ_discrete p i)
-              (λ e. inl (λ z. let c : s.state p ≡ s.state i = ap s.state e in omega (arith, claimed)))
-              (λ ne. undone_same m t s p (sym (states.there p b ne)) (λ g n. sends_old g p n ne) u))
+            (λ e. inl (λ z. let c : s.state p ≡ s.state i = ap s.state e in omega (arith, claimed)))
+            (λ ne. undone_same m t s p (sym (states.there p b ne)) (λ g n. sends_old g p n ne) u))
             k.end);
         looked = λ g x w. let o : Looks (s.place g) x = old s t h (live (Working i j r)) (live (Filled i)) turn (λ p. Looks p x) (λ z. z) g w in
             counters x (looks_in_range m (s.place g) x o (k.in_range g)) ∙ k.looked g x o;

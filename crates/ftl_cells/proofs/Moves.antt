@@ -122,8 +122,8 @@ module _ (s t : Stage) (h : ℕ) (p q : Place) (turn : Turns s t h p q) where
   pub alone_after : ((x : ℕ) → Has q x → Has p x) → ((a b x : ℕ) → Has (s.place a) x → Has (s.place b) x → a ≡ b) → (a b x : ℕ) → Has (t.place a) x → Has (t.place b) x → a ≡ b
   alone_after back k a b x u v =
       let from : (g : ℕ) → Has (t.place g) x → Has (s.place g) x = λ g w. ⊎_elim
-            (λ c. subst (λ y. Has (s.place y) x) (sym c.0) (subst (λ z. Has z x) (sym turn.was) (back x c.1)))
-            (λ c. c.1) (after_turn (λ z. Has z x) g w) in
+      (λ c. subst (λ y. Has (s.place y) x) (sym c.0) (subst (λ z. Has z x) (sym turn.was) (back x c.1)))
+      (λ c. c.1) (after_turn (λ z. Has z x) g w) in
       k a b x (from a u) (from b v)
 
 -- facts of one item stay where what they speak of stays

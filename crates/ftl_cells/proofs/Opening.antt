@@ -23,9 +23,15 @@ module _ (m : Meaning) (words : List ℕ) (first : AreFirst m words) where
   tail = map (pred_total m) (range_with_len 0 (item_total m))
 
   pub length-opening_words : length (opening_words m words) ≡ word_total m
-  length-opening_words = omega (arith, length-append (item_total m ∷ [] ++ words ++ replicate (item_total m) 0) (map (pred_total m) (range_with_len 0 (item_total m))),
-      length-append (item_total m ∷ [] ++ words) (replicate (item_total m) 0), length-append (item_total m ∷ []) words,
-      length-replicate {A = ℕ} (item_total m) 0, length-map-range_with_len (pred_total m) 0 (item_total m), first.count)
+  length-opening_words = omega (
+    arith,
+    length-append (item_total m ∷ [] ++ words ++ replicate (item_total m) 0) (map (pred_total m) (range_with_len 0 (item_total m))),
+    length-append (item_total m ∷ [] ++ words) (replicate (item_total m) 0),
+    length-append (item_total m ∷ []) words,
+    length-replicate {A = ℕ} (item_total m) 0,
+    length-map-range_with_len (pred_total m) 0 (item_total m),
+    first.count,
+  )
 
   front : length (item_total m ∷ [] ++ words) ≡ 1 + cell_total m
   front = omega (arith, length-append (item_total m ∷ []) words, first.count)
@@ -37,18 +43,18 @@ module _ (m : Meaning) (words : List ℕ) (first : AreFirst m words) where
   opening_is = record {
     count = length-opening_words;
     end = get_or_append_left (item_total m ∷ [] ++ words ++ replicate (item_total m) 0) (map (pred_total m) (range_with_len 0 (item_total m))) 0 0 (omega (arith, middle))
-      ∙ get_or_append_left (item_total m ∷ [] ++ words) (replicate (item_total m) 0) 0 0 (omega (arith, front))
-      ∙ get_or_append_left (item_total m ∷ []) words 0 0 (omega arith);
+        ∙ get_or_append_left (item_total m ∷ [] ++ words) (replicate (item_total m) 0) 0 0 (omega (arith, front))
+        ∙ get_or_append_left (item_total m ∷ []) words 0 0 (omega arith);
     cells = λ c l. get_or_append_left (item_total m ∷ [] ++ words ++ replicate (item_total m) 0) (map (pred_total m) (range_with_len 0 (item_total m))) 0 (1 + c) (omega (arith, middle))
-      ∙ get_or_append_left (item_total m ∷ [] ++ words) (replicate (item_total m) 0) 0 (1 + c) (omega (arith, front))
-      ∙ get_or-append_right (item_total m ∷ []) words 1 (1 + c) 0 refl (omega arith)
-      ∙ ap (λ i. get_or words i 0) (let e : 1 + c - 1 ≡ c = omega arith in e)
-      ∙ first.each c l;
+        ∙ get_or_append_left (item_total m ∷ [] ++ words) (replicate (item_total m) 0) 0 (1 + c) (omega (arith, front))
+        ∙ get_or-append_right (item_total m ∷ []) words 1 (1 + c) 0 refl (omega arith)
+        ∙ ap (λ i. get_or words i 0) (let e : 1 + c - 1 ≡ c = omega arith in e)
+        ∙ first.each c l;
     states = λ i l. get_or_append_left (item_total m ∷ [] ++ words ++ replicate (item_total m) 0) (map (pred_total m) (range_with_len 0 (item_total m))) 0 (1 + cell_total m + i) (omega (arith, middle))
-      ∙ get_or-append_right (item_total m ∷ [] ++ words) (replicate (item_total m) 0) (1 + cell_total m) (1 + cell_total m + i) 0 front (omega arith)
-      ∙ get_or-replicate (item_total m) (1 + cell_total m + i - (1 + cell_total m)) 0 0 (omega arith);
+        ∙ get_or-append_right (item_total m ∷ [] ++ words) (replicate (item_total m) 0) (1 + cell_total m) (1 + cell_total m + i) 0 front (omega arith)
+        ∙ get_or-replicate (item_total m) (1 + cell_total m + i - (1 + cell_total m)) 0 0 (omega arith);
     counters = λ i l. get_or-append_right (item_total m ∷ [] ++ words ++ replicate (item_total m) 0) (map (pred_total m) (range_with_len 0 (item_total m))) (1 + cell_total m + item_total m) (1 + cell_total m + item_total m + i) 0 middle (omega arith)
-      ∙ get_or-map-range_with_len (pred_total m) 0 (item_total m) (1 + cell_total m + item_total m + i - (1 + cell_total m + item_total m)) i 0 (omega arith) (omega arith);
+        ∙ get_or-map-range_with_len (pred_total m) 0 (item_total m) (1 + cell_total m + item_total m + i - (1 + cell_total m + item_total m)) i 0 (omega arith) (omega arith);
   }
 
 -- the layout of a table of these words

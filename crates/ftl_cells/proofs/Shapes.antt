@@ -127,15 +127,15 @@ module _ (s : Shape) where
           subst (λ x. x < cell_total (listed s)) (sym (read_of-listed i j r st' r')) (subst (λ n. s.read i j r < n) (sym cell_total-listed) (law.read_in_range i j r st' r'));
       readable = λ i j r st b. let st' = has_step i j st in let r' = read_below i j r st' b in
           subst (IsReadable (listed s) i j) (sym (read_of-listed i j r st' r'))
-            (⊎_elim (λ g. inl (kind_at-listed (s.read i j r) (law.read_in_range i j r st' r') ∙ g))
-              (λ more. inr (⊎_elim
-                (λ (own : IsOwnCell s i j (s.read i j r)). let early : own.step < s.steps i = (let x : own.step < j = own.earlier in let y : j < s.steps i = st'.step in omega arith) in
-                  let o : HasStep s i own.step = record { item = st'.item; step = early } in
-                  let t : IsOwn (listed s) i j (s.read i j r) = record { step = own.step; earlier = own.earlier; is = target_of-listed i own.step o ∙ own.is } in inl t)
-                (λ (on : IsPassedCell s i (s.read i j r)).
-                  let t : IsHandedOn (listed s) i (s.read i j r) = record { item = on.item; step = on.step; next = is_next on.item i on.next; known = is_step on.item on.step on.known; is = target_of-listed on.item on.step on.known ∙ on.is } in inr t)
-                more))
-              (law.readable i j r st' r'));
+          (⊎_elim (λ g. inl (kind_at-listed (s.read i j r) (law.read_in_range i j r st' r') ∙ g))
+          (λ more. inr (⊎_elim
+          (λ (own : IsOwnCell s i j (s.read i j r)). let early : own.step < s.steps i = (let x : own.step < j = own.earlier in let y : j < s.steps i = st'.step in omega arith) in
+          let o : HasStep s i own.step = record { item = st'.item; step = early } in
+          let t : IsOwn (listed s) i j (s.read i j r) = record { step = own.step; earlier = own.earlier; is = target_of-listed i own.step o ∙ own.is } in inl t)
+          (λ (on : IsPassedCell s i (s.read i j r)).
+          let t : IsHandedOn (listed s) i (s.read i j r) = record { item = on.item; step = on.step; next = is_next on.item i on.next; known = is_step on.item on.step on.known; is = target_of-listed on.item on.step on.known ∙ on.is } in inr t)
+          more))
+          (law.readable i j r st' r'));
       few_reads = λ i j st. let st' = has_step i j st in subst (λ n. n ≤ (listed s).max_reads) (sym (read_total-listed i j st')) (fits (s.read_count i j) (law.few_reads i j st'));
       counted = λ i l. let i' = item_below i l in let c = law.counted i i' in (subst (λ n. n < 2 ^ 32) (sym (next_total-listed i i')) c.0, subst (λ n. n < 2 ^ 32) (sym (step_total-listed i i')) c.1);
       reads_counted = λ i j st. let st' = has_step i j st in subst (λ n. n < 2 ^ 32) (sym (read_total-listed i j st')) (law.reads_counted i j st');

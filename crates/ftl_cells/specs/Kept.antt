@@ -102,30 +102,24 @@ pub record AreReleased (m : Meaning) (s : Stage) (items : List ℕ) : Type 0 whe
 -- The kept rule
 pub record IsKept (m : Meaning) (s : Stage) : Type 0 where
   pub in_range : (h : ℕ) → IsInRange m (s.place h)
-
   -- each Given cell holds the solution's word, each Target cell that or 0, and each Later cell 0
   pub cells : (c : ℕ) → c < cell_total m → CellHolds (kind_at m c) (s.cell c) (solved_word m c)
-
   -- an item is free, claimed or filled: at 0 all its targets are empty, at 2 none is, and it is 1 exactly where a hand is Working it
   pub states : (i : ℕ) → i < item_total m → s.state i ≤ 2
   pub free : (i j : ℕ) → IsStep m i j → s.state i ≡ 0 → s.cell (target_of m i j) ≡ 0
   pub full : (i j : ℕ) → IsStep m i j → s.state i ≡ 2 → s.cell (target_of m i j) ≢ 0
   pub claimed : (i : ℕ) → i < item_total m → s.state i ≡ 1 → IsClaimed s i
   pub working : (h i j : ℕ) → Works (s.place h) i j → IsHalfFilled m s i j
-
   -- a hand is Filled or Sending an item only where it is filled, and no two hands have one item
   pub sending : (h i k : ℕ) → Sends (s.place h) i k → s.state i ≡ 2
   pub alone : (h g i : ℕ) → Has (s.place h) i → Has (s.place g) i → h ≡ g
-
   -- an item's counter is the number of its predecessors that have not delivered to it, and the common end's that of the items that are not done
   pub counters : (i : ℕ) → i < item_total m → Counts (Owes m s i) i (s.counter i)
   pub end : Counts (IsUndone s) (item_total m) s.end
-
   -- an item that a hand Looked at, or that is not free, waits for none; and where a hand Ended, all items are done
   pub looked : (h i : ℕ) → Looks (s.place h) i → s.counter i ≡ 0
   pub started : (i : ℕ) → i < item_total m → s.state i ≢ 0 → s.counter i ≡ 0
   pub ended : (h : ℕ) → HasEnded (s.place h) → s.end ≡ 0
-
   -- the lists of released items
   pub released : (h : ℕ) → AreReleased m s (s.released h)
 

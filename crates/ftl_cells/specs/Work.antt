@@ -128,20 +128,16 @@ pub record IsTargeted (m : Meaning) (c : ℕ) : Type 0 where
 pub record IsLawful (m : Meaning) : Type 0 where
   pub solved : length m.solution ≡ cell_total m
   pub values : (c : ℕ) → c < cell_total m → IsValue (solution_at m c)
-
   pub next_in_range : (i k : ℕ) → i < item_total m → k < next_total m i → next_at m i k < item_total m
   pub next_is_later : (i k : ℕ) → i < item_total m → k < next_total m i → i < next_at m i k
   pub next_once : (i k l : ℕ) → i < item_total m → k < next_total m i → l < next_total m i → next_at m i k ≡ next_at m i l → k ≡ l
   pub preds : (i : ℕ) → i < item_total m → Counts (λ p. IsNext m p i) i (pred_total m i)
-
   pub target_in_range : (i j : ℕ) → IsStep m i j → target_of m i j < cell_total m
   pub target_kind : (i j : ℕ) → IsStep m i j → kind_at m (target_of m i j) ≡ Target
   pub target_once : (i j k l : ℕ) → IsStep m i j → IsStep m k l → target_of m i j ≡ target_of m k l → (i ≡ k) × (j ≡ l)
   pub each_target : (c : ℕ) → c < cell_total m → kind_at m c ≡ Target → IsTargeted m c
-
   pub read_in_range : (i j r : ℕ) → IsStep m i j → r < read_total m i j → read_of m i j r < cell_total m
   pub readable : (i j r : ℕ) → IsStep m i j → r < read_total m i j → IsReadable m i j (read_of m i j r)
   pub few_reads : (i j : ℕ) → IsStep m i j → read_total m i j ≤ m.max_reads
-
   pub counted : (i : ℕ) → i < item_total m → (next_total m i < 2 ^ 32) × (step_total m i < 2 ^ 32)
   pub reads_counted : (i j : ℕ) → IsStep m i j → read_total m i j < 2 ^ 32

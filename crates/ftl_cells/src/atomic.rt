@@ -10,7 +10,10 @@ ghost use Rattle.std.specs.Prelude.{None};
 
 use crate::cells::Cells;
 use crate::hand::Told;
-use crate::rule::{ClaimPlay, FillPlay, FinishPlay, JoinPlay, LeftPlay, LookPlay, MarkPlay, ReadPlay, SendPlay, SplitPlay};
+use crate::rule::{
+    ClaimPlay, FillPlay, FinishPlay, JoinPlay, LeftPlay, LookPlay, MarkPlay, ReadPlay, SendPlay,
+    SplitPlay,
+};
 use crate::work::Work;
 use atomic_table::Seat;
 
@@ -34,9 +37,9 @@ impl<W: Work> Cells<W> {
         ensures table { seat.new.table_id ≡ seat.old.table_id }
         ensures told { ClaimTold seat.old.me item result seat.new.me }
     {
-        self.table
-            .shared
-            .compare_exchange::<ClaimPlay>(seat, self.states + item as usize, 0, 1)
+        let shared = &self.table.shared;
+        let at = self.states + item as usize;
+        shared.compare_exchange::<ClaimPlay>(seat, at, 0, 1)
     }
 
     /// Loads the cell of a read.

@@ -20,9 +20,7 @@ pub struct Cells<W: Work> {
 
 impl<W: Work> Model for Cells<W> {
     ghost use Rattle.std.specs.Prelude.{◌≡◌};
-
     ghost use Rattle.atomic_table.specs.Seated.{TableId};
-
     ghost use Rattle.ftl_cells.specs.Table.{IsTableOf};
 
     ghost Value = { TableId × W };

@@ -12,7 +12,6 @@ pub(crate) struct Told {}
 
 impl Model for Told {
     ghost use Rattle.ftl_cells.specs.State.{HandState, newcomer};
-
     ghost use Rattle.ftl_cells.specs.Work.{no_work};
 
     ghost Value = { HandState };

@@ -102,8 +102,7 @@ fn make(cells: &Cells<Diamond>, hand: &mut Hand, call: Call) -> Answer
         (Call::Read, _) => read(cells, hand),
         (Call::Fill(value), _) => fill(cells, hand, value),
         (Call::Mark, HandPlace::Working { item, step, .. })
-            if step == cells.work().step_count(item) =>
-        {
+            if step == cells.work().step_count(item) => {
             cells.mark(hand);
             Answer::Done
         }
@@ -125,23 +124,51 @@ static CALLS: [(Who, Call, Answer); 35] = [
     (Who::A, Call::Read, Answer::Value(7)),
     (Who::A, Call::Fill(8), Answer::Done),
     (Who::A, Call::Mark, Answer::Done),
-    (Who::A, Call::Deliver, Answer::Delivered(Deliver::Sent { next: 1, last: true })),
+    (
+        Who::A,
+        Call::Deliver,
+        Answer::Delivered(Deliver::Sent {
+            next: 1,
+            last: true,
+        }),
+    ),
     (Who::B, Call::Look(1), Answer::Looked(Look::Ready)),
     (Who::B, Call::Claim, Answer::Claimed(Claim::Mine)),
-    (Who::A, Call::Deliver, Answer::Delivered(Deliver::Sent { next: 2, last: true })),
+    (
+        Who::A,
+        Call::Deliver,
+        Answer::Delivered(Deliver::Sent {
+            next: 2,
+            last: true,
+        }),
+    ),
     (Who::A, Call::Deliver, Answer::Delivered(Deliver::Finished)),
     (Who::A, Call::Left, Answer::Left(3)),
     (Who::B, Call::Read, Answer::Value(8)),
     (Who::B, Call::Fill(16), Answer::Done),
     (Who::B, Call::Mark, Answer::Done),
-    (Who::B, Call::Deliver, Answer::Delivered(Deliver::Sent { next: 3, last: false })),
+    (
+        Who::B,
+        Call::Deliver,
+        Answer::Delivered(Deliver::Sent {
+            next: 3,
+            last: false,
+        }),
+    ),
     (Who::B, Call::Deliver, Answer::Delivered(Deliver::Finished)),
     (Who::A, Call::Look(2), Answer::Looked(Look::Ready)),
     (Who::A, Call::Claim, Answer::Claimed(Claim::Mine)),
     (Who::A, Call::Read, Answer::Value(8)),
     (Who::A, Call::Fill(-2), Answer::Done),
     (Who::A, Call::Mark, Answer::Done),
-    (Who::A, Call::Deliver, Answer::Delivered(Deliver::Sent { next: 3, last: true })),
+    (
+        Who::A,
+        Call::Deliver,
+        Answer::Delivered(Deliver::Sent {
+            next: 3,
+            last: true,
+        }),
+    ),
     (Who::A, Call::Deliver, Answer::Delivered(Deliver::Finished)),
     (Who::A, Call::Left, Answer::Left(1)),
     (Who::A, Call::Look(3), Answer::Looked(Look::Ready)),

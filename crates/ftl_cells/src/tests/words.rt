@@ -7,10 +7,7 @@ use ftl_base::{Val, val_of, word_of};
 use std::alloc::{AllocError, Global};
 
 /// The words of the diamond's cells before: 7 in the first, and the others empty.
-#[tactic(
-    auto,
-    using(crate::proofs::DiamondLaws::diamond_first),
-)]
+#[tactic(auto, using(crate::proofs::DiamondLaws::diamond_first),)]
 pub(crate) fn first_words(alloc: Global) -> Result<Vec<u64>, AllocError>
     ensures { IfOk result (λ v. AreFirst diamond v.items) }
 {

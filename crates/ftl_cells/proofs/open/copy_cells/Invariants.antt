@@ -7,5 +7,5 @@ abbrev pub invariant-loop-cell : goal.invariant-loop-cell
 invariant-loop-cell l = record {
   copied : l.words.items ≡ map (λ c. get_or (slots_items l.closed.words) (1 + c) 0) (range_with_len 0 l.cell);
   count : vec_len l.words ≡ l.cell;
-  room : l.cells ≤ vec_capacity l.words
+  room : l.cells ≤ vec_capacity l.words;
 }

@@ -5,5 +5,5 @@ use Rattle.ftl_cells.proofs.tests.row.make_all.Given as goal
 abbrev pub invariant-loop-who : goal.invariant-loop-who
 invariant-loop-who g l = record {
   one : IsMadeBy diamond l.cells.0 l.a;
-  other : IsMadeBy diamond l.cells.0 l.b
+  other : IsMadeBy diamond l.cells.0 l.b;
 }

@@ -9,5 +9,5 @@ invariant-loop-item g l = record {
   made : IsMadeBy (g.W.Work.meaning l.cells.1) l.cells.0 l.hand;
   idle : l.hand.state.place ≡ live Idle;
   room : l.stack.room ≡ l.initial.stack.room;
-  few : l.taken ≤ l.item
+  few : l.taken ≤ l.item;
 }

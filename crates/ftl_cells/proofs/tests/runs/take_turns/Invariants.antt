@@ -12,5 +12,5 @@ invariant-loop-item g l = record {
   one_idle : l.a.state.place ≡ live Idle;
   two_idle : l.b.state.place ≡ live Idle;
   three_idle : l.c.state.place ≡ live Idle;
-  room : l.stack.room ≡ l.initial.stack.room
+  room : l.stack.room ≡ l.initial.stack.room;
 }
