@@ -1,21 +1,30 @@
 -- How a count follows its property.
-use Rattle.std.proofs.Common.{◌≡◌, ◌≢◌, ℕ, zero, suc, ◌+◌, ◌<◌, subst, refl, ap, sym, ◌∙◌, arith}
+use Rattle.std.proofs.Common.{◌≡◌, ◌≢◌, ℕ, zero, suc, ◌<◌, subst, refl, ap, sym, arith}
 use mathlib.Core.Logic.{dite}
 use native.Mathlib.Decide.{ℕ_discrete}
 use Rattle.ftl_cells.specs.Count.{Counts, at_zero, counts_it, skips_it}
 
 -- equivalent properties have one count
-pub same_count : (P Q : ℕ → Type 0) {k n : ℕ} → ((x : ℕ) → x < k → P x → Q x) → ((x : ℕ) → x < k → Q x → P x) → Counts P k n → Counts Q k n
+pub same_count : (P Q : ℕ → Type 0) {k n : ℕ} → ((x : ℕ) → x < k → P x → Q x) → ((x : ℕ) → x < k → Q x → P x)
+    → Counts P k n → Counts Q k n
 same_count P Q f g at_zero = at_zero
-same_count P Q f g (counts_it {k = k} p c) = counts_it (f k (omega arith) p) (same_count P Q (λ x h. f x (omega arith)) (λ x h. g x (omega arith)) c)
-same_count P Q f g (skips_it {k = k} p c) = skips_it (λ q. p (g k (omega arith) q)) (same_count P Q (λ x h. f x (omega arith)) (λ x h. g x (omega arith)) c)
+same_count P Q f g (counts_it {k = k} p c) = counts_it (f k (omega arith) p)
+    (same_count P Q (λ x h. f x (omega arith)) (λ x h. g x (omega arith)) c)
+same_count P Q f g (skips_it {k = k} p c) = skips_it (λ q. p (g k (omega arith) q))
+    (same_count P Q (λ x h. f x (omega arith)) (λ x h. g x (omega arith)) c)
 
 -- where one number loses the property and all others keep what they had, the count falls by one
-pub falls : (P Q : ℕ → Type 0) (i : ℕ) {k n : ℕ} → i < k → P i → (Q i → ⊥) → ((x : ℕ) → x < k → x ≢ i → P x → Q x) → ((x : ℕ) → x < k → x ≢ i → Q x → P x) → Counts P k n
+pub falls : (P Q : ℕ → Type 0) (i : ℕ) {k n : ℕ} → i < k → P i → (Q i → ⊥) → ((x : ℕ) → x < k → x ≢ i → P x → Q x)
+    → ((x : ℕ) → x < k → x ≢ i → Q x → P x) → Counts P k n
     → (l : ℕ) × (n ≡ suc l) × Counts Q k l
 falls P Q i below here gone f g at_zero = absurd (omega arith)
 falls P Q i below here gone f g (counts_it {k = k} {n = n} p c) = dite (ℕ_discrete k i)
-    (λ e. (n, refl, skips_it (λ q. gone (subst Q e q)) (same_count P Q (λ x h. f x (omega arith) (omega arith)) (λ x h. g x (omega arith) (omega arith)) c)))
+    (λ e. (
+      n,
+      refl,
+      skips_it (λ q. gone (subst Q e q))
+          (same_count P Q (λ x h. f x (omega arith) (omega arith)) (λ x h. g x (omega arith) (omega arith)) c),
+    ))
     (λ ne. let r = falls P Q i (omega arith) here gone (λ x h. f x (omega arith)) (λ x h. g x (omega arith)) c in
     (suc r.0, ap suc r.1, counts_it (f k (omega arith) ne p) r.2))
 falls P Q i below here gone f g (skips_it {k = k} {n = n} p c) = dite (ℕ_discrete k i)

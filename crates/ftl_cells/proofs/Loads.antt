@@ -1,8 +1,8 @@
 -- Steps that change no word keep the rule.
-use Rattle.std.proofs.Common.{◌≡◌, ◌≢◌, ℕ, ◌<◌, ◌⊎◌, inl, inr, ⊎_elim, subst, refl, sym, arith, List}
-use Rattle.ftl_cells.specs.Work.{Meaning, cell_total, item_total, IsStep}
-use Rattle.ftl_cells.specs.State.{Place, live, spent, Sends}
-use Rattle.ftl_cells.specs.Kept.{Stage, Looks, Works, HasEnded, Has, IsInRange, IsHalfFilled, HasDelivered, Owes, IsUndone, AreReleased, IsKept}
+use Rattle.std.proofs.Common.{◌≡◌, ℕ, subst, refl, sym, List}
+use Rattle.ftl_cells.specs.Work.{Meaning}
+use Rattle.ftl_cells.specs.State.{Place, Sends}
+use Rattle.ftl_cells.specs.Kept.{Stage, Looks, Works, HasEnded, Has, IsInRange, Owes, IsUndone, AreReleased, IsKept}
 use Rattle.ftl_cells.proofs.Counting.{same_count}
 use Rattle.ftl_cells.proofs.Moves.{half_same, delivered_same, owes_same, undone_same, released_same}
 
@@ -25,7 +25,8 @@ alike_self p q e = record {
 
 module _ (m : Meaning) (s : Stage) (place : ℕ → Place) (released : ℕ → List ℕ) where
   abbrev pub moved : Stage
-  moved = record { cell = s.cell; state = s.state; counter = s.counter; end = s.end; place = place; released = released }
+  moved = record
+      { cell = s.cell; state = s.state; counter = s.counter; end = s.end; place = place; released = released }
 
   pub loads_keep : IsKept m s → ((h : ℕ) → Alike (s.place h) (place h)) → ((h : ℕ) → IsInRange m (place h))
       → ((h i : ℕ) → Looks (place h) i → s.counter i ≡ 0) → ((h : ℕ) → HasEnded (place h) → s.end ≡ 0)

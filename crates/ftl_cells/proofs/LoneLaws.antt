@@ -1,14 +1,13 @@
 -- The lone item is lawful work, and what its functions are.
-use Rattle.std.proofs.Common.{◌≡◌, ℕ, zero, suc, ◌+◌, ◌<◌, ◌≤◌, subst, refl, sym, ap, ◌∙◌, arith, List, [], ◌∷◌, get_or}
+use Rattle.std.proofs.Common.{◌≡◌, ℕ, zero, suc, ◌<◌, subst, refl, sym, ap, ◌∙◌, arith, List, [], ◌∷◌, get_or}
 use Rattle.std.specs.Prelude.{pos}
 use Rattle.std.proofs.lemmas.Int.{ints}
 use Rattle.ftl_model.specs.Values.{number}
 use Rattle.ftl_cells.specs.Count.{Counts, at_zero}
 use Rattle.ftl_cells.specs.Work.{cell_total, kind_at, solution_at, item_total, pred_total, next_total, step_total, target_of, read_total, solved_word, IsStep, IsLawful}
 use Rattle.ftl_cells.specs.State.{AreFirst, first_word_of}
-use Rattle.ftl_cells.specs.Shape.{listed, HasStep, ComesNext, IsLawfulShape}
+use Rattle.ftl_cells.specs.Shape.{listed, ComesNext, IsLawfulShape}
 use Rattle.ftl_cells.specs.Lone.{lone}
-use Rattle.ftl_cells.specs.declared.kind.CellKind.{CellKind}
 use Rattle.ftl_cells.specs.declared.kind.CellKind.TheVariants.{Target}
 use Rattle.ftl_cells.proofs.Shapes.{cell_total-listed, kind_at-listed, solution_at-listed, item_total-listed, pred_total-listed, next_total-listed, step_total-listed, target_of-listed, read_total-listed, item_below, has_step, is_lawful}
 
@@ -25,8 +24,10 @@ lone_shape = record {
   counts = lone_counts;
   target_in_range = λ i j st. omega arith;
   target_kind = λ i j st. refl;
-  target_once = λ i j k l a b e. let x = a.step in let y = b.step in let u = a.item in let w = b.item in (omega arith, omega arith);
-  each_target = λ c l e. record { item = 0; step = 0; known = record { item = omega arith; step = omega arith }; is = omega arith };
+  target_once = λ i j k l a b e. let x = a.step in let y = b.step in let u = a.item in let w = b.item in
+      (omega arith, omega arith);
+  each_target = λ c l e. record
+      { item = 0; step = 0; known = record { item = omega arith; step = omega arith }; is = omega arith };
   read_in_range = λ i j r st b. absurd (omega arith);
   readable = λ i j r st b. absurd (omega arith);
   few_reads = λ i j st. omega arith;
@@ -69,12 +70,15 @@ pub lone_room : (listed lone).max_stack ≡ 0
 unfolding listed
 lone_room = refl
 
-pub lone_result : (i j : ℕ) → IsStep (listed lone) i j → number (pos 5) ≡ solution_at (listed lone) (target_of (listed lone) i j)
-lone_result i j st = sym (solution_at-listed lone 0 (omega arith)) ∙ ap (solution_at (listed lone)) (sym (lone_targets i j st))
+pub lone_result : (i j : ℕ) → IsStep (listed lone) i j
+    → number (pos 5) ≡ solution_at (listed lone) (target_of (listed lone) i j)
+lone_result i j st = sym (solution_at-listed lone 0 (omega arith)) ∙ ap (solution_at (listed lone))
+    (sym (lone_targets i j st))
 
 pub lone_first : (words : List ℕ) → words ≡ 0 ∷ [] → AreFirst (listed lone) words
 lone_first words e = subst (AreFirst (listed lone)) (sym e) (record {
   count = sym lone_cells;
   each = λ c l. let b : c < 1 = subst (λ x. c < x) lone_cells l in
-      (let z : c ≡ 0 = omega arith in ap (λ x. get_or (0 ∷ []) x 0) z) ∙ sym (ap (λ q. first_word_of q (solved_word (listed lone) c)) (lone_kinds c l));
+      (let z : c ≡ 0 = omega arith in ap (λ x. get_or (0 ∷ []) x 0) z) ∙ sym
+      (ap (λ q. first_word_of q (solved_word (listed lone) c)) (lone_kinds c l));
 })

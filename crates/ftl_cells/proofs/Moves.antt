@@ -1,11 +1,10 @@
 -- One hand goes from one place to another, and one word changes: what stays as it was.
-use Rattle.std.proofs.Common.{◌≡◌, ◌≢◌, ℕ, zero, suc, ◌+◌, ◌<◌, ◌≤◌, ◌⊎◌, inl, inr, ⊎_elim, subst, refl, ap, sym, ◌∙◌, arith, List, length, get_or}
+use Rattle.std.proofs.Common.{◌≡◌, ◌≢◌, ℕ, ◌<◌, ◌⊎◌, inl, inr, ⊎_elim, subst, refl, sym, ◌∙◌, arith, List, get_or}
 use mathlib.Core.Logic.{dite}
 use native.Mathlib.Decide.{ℕ_discrete}
-use Rattle.ftl_cells.specs.Work.{Meaning, cell_total, item_total, next_total, next_at, step_total, target_of, IsStep, IsNext, IsLawful}
+use Rattle.ftl_cells.specs.Work.{Meaning, item_total, step_total, target_of}
 use Rattle.ftl_cells.specs.State.{Place, live, spent, Sends}
-use Rattle.ftl_cells.specs.Kept.{Stage, Looks, Works, HasEnded, Has, IsInRange, IsHalfFilled, HasDelivered, Owes, IsUndone, AreReleased, IsKept}
-use Rattle.ftl_cells.specs.declared.place.HandPlace.{HandPlace}
+use Rattle.ftl_cells.specs.Kept.{Stage, Looks, Works, Has, IsInRange, IsHalfFilled, HasDelivered, Owes, IsUndone, AreReleased, IsKept}
 use Rattle.ftl_cells.specs.declared.place.HandPlace.TheVariants.{Idle, Looked, Working, Filled, Sending, Ended}
 
 -- below the bound, the second function is the first
@@ -114,12 +113,14 @@ module _ (s t : Stage) (h : ℕ) (p q : Place) (turn : Turns s t h p q) where
   pub new : (P : Place → Type 0) → (P p → ⊥) → (g : ℕ) → P (s.place g) → P (t.place g)
   new P never g w = ⊎_elim (λ a. absurd (never a.1)) (λ b. b.1) (before_turn P g w)
 
-  pub range_after : (m : Meaning) → IsInRange m q → ((g : ℕ) → IsInRange m (s.place g)) → (g : ℕ) → IsInRange m (t.place g)
+  pub range_after : (m : Meaning) → IsInRange m q → ((g : ℕ) → IsInRange m (s.place g)) → (g : ℕ)
+      → IsInRange m (t.place g)
   range_after m r k g = dite (ℕ_discrete g h)
       (λ e. subst (λ x. IsInRange m (t.place x)) (sym e) (subst (IsInRange m) (sym turn.is) r))
       (λ ne. subst (IsInRange m) (sym (turn.others g ne)) (k g))
 
-  pub alone_after : ((x : ℕ) → Has q x → Has p x) → ((a b x : ℕ) → Has (s.place a) x → Has (s.place b) x → a ≡ b) → (a b x : ℕ) → Has (t.place a) x → Has (t.place b) x → a ≡ b
+  pub alone_after : ((x : ℕ) → Has q x → Has p x) → ((a b x : ℕ) → Has (s.place a) x → Has (s.place b) x → a ≡ b)
+      → (a b x : ℕ) → Has (t.place a) x → Has (t.place b) x → a ≡ b
   alone_after back k a b x u v =
       let from : (g : ℕ) → Has (t.place g) x → Has (s.place g) x = λ g w. ⊎_elim
       (λ c. subst (λ y. Has (s.place y) x) (sym c.0) (subst (λ z. Has z x) (sym turn.was) (back x c.1)))
@@ -128,23 +129,28 @@ module _ (s t : Stage) (h : ℕ) (p q : Place) (turn : Turns s t h p q) where
 
 -- facts of one item stay where what they speak of stays
 module _ (m : Meaning) (s t : Stage) where
-  pub half_same : (x j : ℕ) → t.state x ≡ s.state x → ((n : ℕ) → n < step_total m x → t.cell (target_of m x n) ≡ s.cell (target_of m x n)) → IsHalfFilled m s x j → IsHalfFilled m t x j
+  pub half_same : (x j : ℕ) → t.state x ≡ s.state x
+      → ((n : ℕ) → n < step_total m x → t.cell (target_of m x n) ≡ s.cell (target_of m x n)) → IsHalfFilled m s x j
+      → IsHalfFilled m t x j
   half_same x j states cells k = record {
     state = states ∙ k.state;
     before = λ n a b z. k.before n a b (sym (cells n b) ∙ z);
     rest = λ n a b. cells n b ∙ k.rest n a b;
   }
 
-  pub delivered_same : (p i : ℕ) → t.state p ≡ s.state p → ((h k : ℕ) → Sends (t.place h) p k → Sends (s.place h) p k) → HasDelivered m s p i → HasDelivered m t p i
+  pub delivered_same : (p i : ℕ) → t.state p ≡ s.state p → ((h k : ℕ) → Sends (t.place h) p k → Sends (s.place h) p k)
+      → HasDelivered m s p i → HasDelivered m t p i
   delivered_same p i e f d = record { state = e ∙ d.state; sent = λ h k at w. d.sent h k at (f h k w) }
 
   pub owes_same : (p i : ℕ) → (HasDelivered m t p i → HasDelivered m s p i) → Owes m s i p → Owes m t i p
-  owes_same p i f o = record { next = o.next; open_ = λ d. o.open_ (f d) }
+  owes_same p i f o = record { next = o.next; waits = λ d. o.waits (f d) }
 
-  pub undone_same : (p : ℕ) → t.state p ≡ s.state p → ((h k : ℕ) → Sends (s.place h) p k → Sends (t.place h) p k) → IsUndone s p → IsUndone t p
+  pub undone_same : (p : ℕ) → t.state p ≡ s.state p → ((h k : ℕ) → Sends (s.place h) p k → Sends (t.place h) p k)
+      → IsUndone s p → IsUndone t p
   undone_same p e f u = ⊎_elim (λ a. inl (λ z. a (sym e ∙ z))) (λ b. inr (b.0, b.1, f b.0 b.1 b.2)) u
 
-  pub released_same : ((y : ℕ) → y < item_total m → s.counter y ≡ 0 → t.counter y ≡ 0) → (xs : List ℕ) → AreReleased m s xs → AreReleased m t xs
+  pub released_same : ((y : ℕ) → y < item_total m → s.counter y ≡ 0 → t.counter y ≡ 0) → (xs : List ℕ)
+      → AreReleased m s xs → AreReleased m t xs
   released_same f xs r = record {
     known = r.known;
     zero = λ k h. f (get_or xs k 0) (r.known k h) (r.zero k h);

@@ -1,7 +1,7 @@
 -- The word of a value is not that of an empty cell.
-use Rattle.std.proofs.Common.{◌≡◌, ◌≢◌, ℕ, ◌+◌, ◌-◌, ◌≤◌, arith}
+use Rattle.std.proofs.Common.{◌≢◌, ◌≤◌, arith}
 use Rattle.std.proofs.lemmas.Int.{ints}
-use Rattle.ftl_model.specs.Values.{Value, number, overflow, IsValue, word_of_value, word_of_number, least_number, greatest_number}
+use Rattle.ftl_model.specs.Values.{Value, number, overflow, IsValue, word_of_value, word_of_number, least_number}
 use Rattle.std.specs.Prelude.{ℤ, pos, negsuc, ◌≤ℤ◌}
 
 word_of_number_pos : (n : ℤ) → least_number ≤ℤ n → word_of_number n ≢ 0

@@ -1,10 +1,9 @@
 -- What each call asks of its hand, and what its one step makes of it.
-use Rattle.std.specs.Prelude.{◌≡◌, ◌≢◌, ℕ, zero, suc, ◌+◌, ◌<◌, ◌≤◌, ◌⊎◌, ◌↔◌, Bool, IsTrue, Some, None}
+use Rattle.std.specs.Prelude.{◌≡◌, ◌≢◌, ℕ, zero, suc, ◌+◌, ◌<◌, ◌⊎◌, ◌↔◌, Bool, IsTrue, Some}
 use Rattle.ftl_model.specs.Values.{Value}
 use Rattle.atomic_table.specs.Seated.{TableId}
-use Rattle.ftl_cells.specs.Work.{Meaning, item_total, next_total, next_at, step_total, target_of, read_total, read_of, solution_at}
+use Rattle.ftl_cells.specs.Work.{Meaning, next_total, next_at, step_total, target_of, read_total, read_of, solution_at}
 use Rattle.ftl_cells.specs.State.{Place, live, HandState, after, after_delivery, load_counter, claim, load_cell, store_cell, mark, delivery, end_word, cell_word, state_word, count_word}
-use Rattle.ftl_cells.specs.declared.place.HandPlace.{HandPlace}
 use Rattle.ftl_cells.specs.declared.place.HandPlace.TheVariants.{Idle, Looked, Working, Filled, Sending, Ended}
 use Rattle.ftl_cells.specs.declared.answer.Look.{Look}
 use Rattle.ftl_cells.specs.declared.answer.Look.TheVariants.{Ready, NotYet}
@@ -34,7 +33,8 @@ CanRead m p = ⊥
 
 -- the place is Working, with all reads of its step done, and this is the solution's value at the step's target
 abbrev pub CanFill : Meaning → Place → Value → Type 0
-CanFill m (live (Working item step reads)) v = (step < step_total m item) × (reads ≡ read_total m item step) × (v ≡ solution_at m (target_of m item step))
+CanFill m (live (Working item step reads)) v = (step < step_total m item) × (reads ≡ read_total m item step) ×
+    (v ≡ solution_at m (target_of m item step))
 CanFill m p v = ⊥
 
 -- the place is Working, with all steps filled
@@ -53,10 +53,12 @@ abbrev pub LookSteps : HandState → ℕ → Look → HandState → Type 0
 LookSteps v item Ready w = w ≡ after v (live (Looked item)) load_counter (count_word v.of item) (Some 0)
 LookSteps v item (NotYet n) w = (n ≢ 0) × (w ≡ after v (live Idle) load_counter (count_word v.of item) (Some n))
 
--- a compare-exchange of the item's state from 0 to 1: Mine where it held 0, and Taken with the number that it held elsewhere
+-- a compare-exchange of the item's state from 0 to 1: Mine where it held 0, and Taken with the number that it held
+-- elsewhere
 abbrev pub ClaimSteps : HandState → Place → Claim → HandState → Type 0
 ClaimSteps v (live (Looked item)) Mine w = w ≡ after v (live (Working item 0 0)) claim (state_word v.of item) (Some 0)
-ClaimSteps v (live (Looked item)) (Taken n) w = ((n ≡ 1) ⊎ (n ≡ 2)) × (w ≡ after v (live Idle) claim (state_word v.of item) (Some n))
+ClaimSteps v (live (Looked item)) (Taken n) w = ((n ≡ 1) ⊎ (n ≡ 2)) ×
+    (w ≡ after v (live Idle) claim (state_word v.of item) (Some n))
 ClaimSteps v p answer w = Unit {0}
 
 -- the solution's value at the next read
@@ -66,12 +68,14 @@ ReadAnswers m p v = Unit {0}
 
 -- a load of the cell of the next read, which holds the word of this value
 abbrev pub ReadSteps : HandState → Place → ℕ → HandState → Type 0
-ReadSteps v (live (Working item step reads)) n w = w ≡ after v (live (Working item step (reads + 1))) load_cell (cell_word (read_of v.of item step reads)) (Some n)
+ReadSteps v (live (Working item step reads)) n w = w ≡ after v (live (Working item step (reads + 1))) load_cell
+    (cell_word (read_of v.of item step reads)) (Some n)
 ReadSteps v p n w = Unit {0}
 
 -- a store in the step's target, which was empty
 abbrev pub FillSteps : HandState → Place → HandState → Type 0
-FillSteps v (live (Working item step reads)) w = w ≡ after v (live (Working item (step + 1) 0)) store_cell (cell_word (target_of v.of item step)) (Some 0)
+FillSteps v (live (Working item step reads)) w = w ≡ after v (live (Working item (step + 1) 0)) store_cell
+    (cell_word (target_of v.of item step)) (Some 0)
 FillSteps v p w = Unit {0}
 
 -- a store of 2 in the item's state, which was 1

@@ -1,6 +1,6 @@
 -- A chain of items, for tests: each reads the cell that the one before it filled, and adds 1.
 use Rattle.std.specs.Prelude.{ℕ, zero, suc, ◌+◌, ◌-◌, min, pos}
-use Rattle.ftl_model.specs.Values.{Value, number}
+use Rattle.ftl_model.specs.Values.{number}
 use Rattle.ftl_cells.specs.Shape.{Shape}
 use Rattle.ftl_cells.specs.declared.kind.CellKind.{CellKind}
 use Rattle.ftl_cells.specs.declared.kind.CellKind.TheVariants.{Given, Target}

@@ -2,11 +2,10 @@
 use Rattle.std.specs.Prelude.{◌≡◌, ◌≢◌, ℕ, ◌<◌, ◌≤◌, ◌⊎◌, List, length, slice_index, slice_index_or}
 use Rattle.ftl_cells.specs.Count.{Counts}
 use Rattle.ftl_cells.specs.Work.{Meaning, cell_total, kind_at, item_total, next_total, next_at, step_total, target_of, read_total, solved_word, IsStep, IsNext}
-use Rattle.ftl_cells.specs.State.{Place, live, spent, HandState, given_up, Sends, end_word, cell_word, state_word, count_word, word_total}
+use Rattle.ftl_cells.specs.State.{Place, live, HandState, given_up, Sends, end_word, cell_word, state_word, count_word, word_total}
 use Rattle.ftl_cells.specs.declared.kind.CellKind.{CellKind}
 use Rattle.ftl_cells.specs.declared.kind.CellKind.TheVariants.{Given, Target, Later}
-use Rattle.ftl_cells.specs.declared.place.HandPlace.{HandPlace}
-use Rattle.ftl_cells.specs.declared.place.HandPlace.TheVariants.{Idle, Looked, Working, Filled, Sending, Ended}
+use Rattle.ftl_cells.specs.declared.place.HandPlace.TheVariants.{Looked, Working, Filled, Sending, Ended}
 
 -- the state of a stage by what its words are for: the cells, the state and the counter of each item, and the common
 -- end's counter; and of each hand its place and the items that it released
@@ -56,7 +55,8 @@ Has p i = ⊥
 -- numbers in places are in range
 abbrev pub IsInRange : Meaning → Place → Type 0
 IsInRange m (live (Looked item)) = item < item_total m
-IsInRange m (live (Working item step reads)) = (item < item_total m) × (step ≤ step_total m item) × (reads ≤ read_total m item step)
+IsInRange m (live (Working item step reads)) = (item < item_total m) × (step ≤ step_total m item) ×
+    (reads ≤ read_total m item step)
 IsInRange m (live (Filled item)) = item < item_total m
 IsInRange m (live (Sending item sent)) = (item < item_total m) × (sent ≤ next_total m item)
 IsInRange m p = Unit {0}
@@ -86,7 +86,7 @@ pub record HasDelivered (m : Meaning) (s : Stage) (p i : ℕ) : Type 0 where
 -- an item is a predecessor of another, and has not delivered to it
 pub record Owes (m : Meaning) (s : Stage) (i p : ℕ) : Type 0 where
   pub next : IsNext m p i
-  pub open_ : HasDelivered m s p i → ⊥
+  pub waits : HasDelivered m s p i → ⊥
 
 -- an item is not filled, or a hand is Filled or Sending it
 abbrev pub IsUndone : Stage → ℕ → Type 0
@@ -104,7 +104,8 @@ pub record IsKept (m : Meaning) (s : Stage) : Type 0 where
   pub in_range : (h : ℕ) → IsInRange m (s.place h)
   -- each Given cell holds the solution's word, each Target cell that or 0, and each Later cell 0
   pub cells : (c : ℕ) → c < cell_total m → CellHolds (kind_at m c) (s.cell c) (solved_word m c)
-  -- an item is free, claimed or filled: at 0 all its targets are empty, at 2 none is, and it is 1 exactly where a hand is Working it
+  -- an item is free, claimed or filled: at 0 all its targets are empty, at 2 none is, and it is 1 exactly where a
+  -- hand is Working it
   pub states : (i : ℕ) → i < item_total m → s.state i ≤ 2
   pub free : (i j : ℕ) → IsStep m i j → s.state i ≡ 0 → s.cell (target_of m i j) ≡ 0
   pub full : (i j : ℕ) → IsStep m i j → s.state i ≡ 2 → s.cell (target_of m i j) ≢ 0
@@ -113,10 +114,12 @@ pub record IsKept (m : Meaning) (s : Stage) : Type 0 where
   -- a hand is Filled or Sending an item only where it is filled, and no two hands have one item
   pub sending : (h i k : ℕ) → Sends (s.place h) i k → s.state i ≡ 2
   pub alone : (h g i : ℕ) → Has (s.place h) i → Has (s.place g) i → h ≡ g
-  -- an item's counter is the number of its predecessors that have not delivered to it, and the common end's that of the items that are not done
+  -- an item's counter is the number of its predecessors that have not delivered to it, and the common end's that of
+  -- the items that are not done
   pub counters : (i : ℕ) → i < item_total m → Counts (Owes m s i) i (s.counter i)
   pub end : Counts (IsUndone s) (item_total m) s.end
-  -- an item that a hand Looked at, or that is not free, waits for none; and where a hand Ended, all items are done
+  -- an item that a hand Looked at, or that is not free, waits for none; and where a hand is Ended, the common end's
+  -- counter is 0
   pub looked : (h i : ℕ) → Looks (s.place h) i → s.counter i ≡ 0
   pub started : (i : ℕ) → i < item_total m → s.state i ≢ 0 → s.counter i ≡ 0
   pub ended : (h : ℕ) → HasEnded (s.place h) → s.end ≡ 0

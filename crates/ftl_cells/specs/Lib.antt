@@ -9,3 +9,4 @@ pub mod Diamond
 pub mod Shape
 pub mod Chain
 pub mod Lone
+pub mod Interleavings

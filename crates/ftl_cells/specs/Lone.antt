@@ -1,5 +1,5 @@
 -- One item with one step that reads nothing, for tests.
-use Rattle.std.specs.Prelude.{ℕ, pos}
+use Rattle.std.specs.Prelude.{pos}
 use Rattle.ftl_model.specs.Values.{number}
 use Rattle.ftl_cells.specs.Shape.{Shape}
 use Rattle.ftl_cells.specs.declared.kind.CellKind.TheVariants.{Target}

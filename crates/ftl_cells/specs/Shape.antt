@@ -31,10 +31,17 @@ abbrev pub step_of : Shape → ℕ → ℕ → StepMeaning
 step_of s i j = record { target = s.target i j; reads = listing (s.read i j) (s.read_count i j) }
 
 abbrev pub item_of : Shape → ℕ → ItemMeaning
-item_of s i = record { preds = s.preds i; next = listing (s.next i) (s.next_count i); steps = listing (step_of s i) (s.steps i) }
+item_of s i = record
+    { preds = s.preds i; next = listing (s.next i) (s.next_count i); steps = listing (step_of s i) (s.steps i) }
 
 unfoldable pub listed : Shape → Meaning
-listed s = record { kinds = listing s.kind s.cells; items = listing (item_of s) s.items; solution = listing s.value s.cells; max_reads = s.max_reads; max_stack = s.max_stack }
+listed s = record {
+  kinds = listing s.kind s.cells;
+  items = listing (item_of s) s.items;
+  solution = listing s.value s.cells;
+  max_reads = s.max_reads;
+  max_stack = s.max_stack;
+}
 
 -- the item has this step
 pub record HasStep (s : Shape) (i j : ℕ) : Type 0 where
@@ -74,14 +81,16 @@ pub record IsLawfulShape (s : Shape) : Type 0 where
   pub values : (c : ℕ) → c < s.cells → IsValue (s.value c)
   pub next_in_range : (i k : ℕ) → i < s.items → k < s.next_count i → s.next i k < s.items
   pub next_is_later : (i k : ℕ) → i < s.items → k < s.next_count i → i < s.next i k
-  pub next_once : (i k l : ℕ) → i < s.items → k < s.next_count i → l < s.next_count i → s.next i k ≡ s.next i l → k ≡ l
+  pub next_once : (i k l : ℕ) → i < s.items → k < s.next_count i → l < s.next_count i → s.next i k ≡ s.next i l
+      → k ≡ l
   pub counts : (i : ℕ) → i < s.items → Counts (λ p. ComesNext s p i) i (s.preds i)
   pub target_in_range : (i j : ℕ) → HasStep s i j → s.target i j < s.cells
   pub target_kind : (i j : ℕ) → HasStep s i j → s.kind (s.target i j) ≡ Target
   pub target_once : (i j k l : ℕ) → HasStep s i j → HasStep s k l → s.target i j ≡ s.target k l → (i ≡ k) × (j ≡ l)
   pub each_target : (c : ℕ) → c < s.cells → s.kind c ≡ Target → IsFilledBy s c
   pub read_in_range : (i j r : ℕ) → HasStep s i j → r < s.read_count i j → s.read i j r < s.cells
-  pub readable : (i j r : ℕ) → HasStep s i j → r < s.read_count i j → (s.kind (s.read i j r) ≡ Given) ⊎ IsOwnCell s i j (s.read i j r) ⊎ IsPassedCell s i (s.read i j r)
+  pub readable : (i j r : ℕ) → HasStep s i j → r < s.read_count i j
+      → (s.kind (s.read i j r) ≡ Given) ⊎ IsOwnCell s i j (s.read i j r) ⊎ IsPassedCell s i (s.read i j r)
   pub few_reads : (i j : ℕ) → HasStep s i j → s.read_count i j ≤ s.max_reads
   pub counted : (i : ℕ) → i < s.items → (s.next_count i < 2 ^ 32) × (s.steps i < 2 ^ 32)
   pub reads_counted : (i j : ℕ) → HasStep s i j → s.read_count i j < 2 ^ 32

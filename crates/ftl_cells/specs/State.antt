@@ -1,5 +1,5 @@
 -- The state of a stage, on the words of a table and the states of all hands, and its steps.
-use Rattle.std.specs.Prelude.{◌≡◌, ◌≢◌, ℕ, zero, suc, ◌+◌, ◌<◌, List, [], ◌∷◌, ◌++◌, length, map, replicate, slice_index, slice_index_or, slice_set, Option, Some, None}
+use Rattle.std.specs.Prelude.{◌≡◌, ◌≢◌, ℕ, zero, suc, ◌+◌, ◌<◌, List, [], ◌∷◌, ◌++◌, length, map, replicate, slice_index, slice_set, Option, Some, None}
 use Rattle.std.specs.List.{range_with_len}
 use mathlib.Core.Option.{some}
 use lib.ListN.{get_elem?}
@@ -65,7 +65,13 @@ given_up = record { of = no_work; place = spent; last = None; count = 0; release
 
 -- a hand after one more step, at this place
 abbrev pub after : HandState → Place → StepKind → ℕ → Option ℕ → HandState
-after v place kind word held = record { of = v.of; place = place; last = Some (record { kind = kind; word = word; held = held }); count = v.count + 1; released = v.released }
+after v place kind word held = record {
+  of = v.of;
+  place = place;
+  last = Some (record { kind = kind; word = word; held = held });
+  count = v.count + 1;
+  released = v.released;
+}
 
 -- the list of released items after a delivery that left this number in the item's counter
 abbrev pub released_after : List ℕ → ℕ → ℕ → List ℕ
@@ -74,7 +80,13 @@ released_after released item (suc left) = released
 
 -- a hand after a delivery to an item
 abbrev pub after_delivery : HandState → ℕ → ℕ → ℕ → ℕ → ℕ → HandState
-after_delivery v item sent next word left = record { of = v.of; place = live (Sending item (sent + 1)); last = Some (record { kind = delivery; word = word; held = Some (suc left) }); count = v.count + 1; released = released_after v.released next left }
+after_delivery v item sent next word left = record {
+  of = v.of;
+  place = live (Sending item (sent + 1));
+  last = Some (record { kind = delivery; word = word; held = Some (suc left) });
+  count = v.count + 1;
+  released = released_after v.released next left;
+}
 
 -- the place is Filled this item or Sending it, with so many sent
 abbrev pub Sends : Place → ℕ → ℕ → Type 0
@@ -93,19 +105,28 @@ pub data Steps (m : Meaning) (words : List ℕ) (v : HandState) : List ℕ → H
   finds_ready : (i : ℕ) → v.place ≡ live Idle → i < item_total m → slice_index words (count_word m i) ≡ 0
       → Steps m words v words (after v (live (Looked i)) load_counter (count_word m i) (Some 0))
   finds_waiting : (i : ℕ) → v.place ≡ live Idle → i < item_total m → slice_index words (count_word m i) ≢ 0
-      → Steps m words v words (after v (live Idle) load_counter (count_word m i) (Some (slice_index words (count_word m i))))
+      → Steps m words v words
+      (after v (live Idle) load_counter (count_word m i) (Some (slice_index words (count_word m i))))
   claims : (i : ℕ) → v.place ≡ live (Looked i) → slice_index words (state_word m i) ≡ 0
-      → Steps m words v (slice_set words (state_word m i) 1) (after v (live (Working i 0 0)) claim (state_word m i) (Some 0))
+      → Steps m words v (slice_set words (state_word m i) 1)
+      (after v (live (Working i 0 0)) claim (state_word m i) (Some 0))
   misses : (i : ℕ) → v.place ≡ live (Looked i) → slice_index words (state_word m i) ≢ 0
       → Steps m words v words (after v (live Idle) claim (state_word m i) (Some (slice_index words (state_word m i))))
   reads : (i j r : ℕ) → v.place ≡ live (Working i j r) → j < step_total m i → r < read_total m i j
-      → Steps m words v words (after v (live (Working i j (r + 1))) load_cell (cell_word (read_of m i j r)) (Some (slice_index words (cell_word (read_of m i j r)))))
+      → Steps m words v words
+      (after v (live (Working i j (r + 1))) load_cell (cell_word (read_of m i j r))
+      (Some (slice_index words (cell_word (read_of m i j r)))))
   fills : (i j r : ℕ) → v.place ≡ live (Working i j r) → j < step_total m i → r ≡ read_total m i j
-      → Steps m words v (slice_set words (cell_word (target_of m i j)) (solved_word m (target_of m i j))) (after v (live (Working i (j + 1) 0)) store_cell (cell_word (target_of m i j)) (Some (slice_index words (cell_word (target_of m i j)))))
+      → Steps m words v (slice_set words (cell_word (target_of m i j)) (solved_word m (target_of m i j)))
+      (after v (live (Working i (j + 1) 0)) store_cell (cell_word (target_of m i j))
+      (Some (slice_index words (cell_word (target_of m i j)))))
   marks : (i j r : ℕ) → v.place ≡ live (Working i j r) → j ≡ step_total m i
-      → Steps m words v (slice_set words (state_word m i) 2) (after v (live (Filled i)) mark (state_word m i) (Some (slice_index words (state_word m i))))
-  sends : (i k left : ℕ) → Sends v.place i k → k < next_total m i → slice_index words (count_word m (next_at m i k)) ≡ suc left
-      → Steps m words v (slice_set words (count_word m (next_at m i k)) left) (after_delivery v i k (next_at m i k) (count_word m (next_at m i k)) left)
+      → Steps m words v (slice_set words (state_word m i) 2)
+      (after v (live (Filled i)) mark (state_word m i) (Some (slice_index words (state_word m i))))
+  sends : (i k left : ℕ) → Sends v.place i k → k < next_total m i
+      → slice_index words (count_word m (next_at m i k)) ≡ suc left
+      → Steps m words v (slice_set words (count_word m (next_at m i k)) left)
+      (after_delivery v i k (next_at m i k) (count_word m (next_at m i k)) left)
   finishes : (i k left : ℕ) → Sends v.place i k → k ≡ next_total m i → slice_index words end_word ≡ suc left
       → Steps m words v (slice_set words end_word left) (after v (live Idle) delivery end_word (Some (suc left)))
   ends : v.place ≡ live Idle → slice_index words end_word ≡ 0
@@ -149,15 +170,18 @@ pub record AreLast (m : Meaning) (words : List ℕ) : Type 0 where
 pub record IsOpening (m : Meaning) (words : List ℕ) : Type 0 where
   pub count : length words ≡ word_total m
   pub end : slice_index words end_word ≡ item_total m
-  pub cells : (c : ℕ) → c < cell_total m → slice_index words (cell_word c) ≡ first_word_of (kind_at m c) (solved_word m c)
+  pub cells : (c : ℕ) → c < cell_total m
+      → slice_index words (cell_word c) ≡ first_word_of (kind_at m c) (solved_word m c)
   pub states : (i : ℕ) → i < item_total m → slice_index words (state_word m i) ≡ 0
   pub counters : (i : ℕ) → i < item_total m → slice_index words (count_word m i) ≡ pred_total m i
 
 -- the states that steps lead to from an opening with one hand
 pub data Reached (m : Meaning) : List ℕ → List HandState → Type 0 where
   begins : (words : List ℕ) → IsOpening m words → Reached m words (newcomer m ∷ [])
-  goes_on : {words next : List ℕ} {hands more : List HandState} → Reached m words hands → Makes m words hands next more → Reached m next more
+  goes_on : {words next : List ℕ} {hands more : List HandState} → Reached m words hands
+      → Makes m words hands next more → Reached m next more
 
 -- the words of a table at the opening, in order, where these are the words of the cells
 abbrev pub opening_words : Meaning → List ℕ → List ℕ
-opening_words m words = item_total m ∷ [] ++ words ++ replicate (item_total m) 0 ++ map (pred_total m) (range_with_len 0 (item_total m))
+opening_words m words =
+    item_total m ∷ [] ++ words ++ replicate (item_total m) 0 ++ map (pred_total m) (range_with_len 0 (item_total m))

@@ -1,10 +1,9 @@
 -- What a step tells its caller, of the hand before, the number found and the hand after.
-use Rattle.std.specs.Prelude.{◌≡◌, ◌≢◌, ℕ, suc, ◌+◌, ◌-◌, ◌%◌, ◌^◌, ◌≤◌, Some}
+use Rattle.std.specs.Prelude.{◌≡◌, ◌≢◌, ℕ, suc, ◌+◌, ◌≤◌, Some}
 use Rattle.ftl_model.specs.Values.{IsValue}
 use Rattle.atomic_table.specs.Table.{Step, Me}
-use Rattle.ftl_cells.specs.Work.{Meaning, next_total, next_at, target_of, read_of, solution_at, solved_word}
+use Rattle.ftl_cells.specs.Work.{next_at, target_of, read_of, solution_at, solved_word}
 use Rattle.ftl_cells.specs.State.{Place, live, HandState, after, after_delivery, load_counter, claim, load_cell, store_cell, mark, delivery, Sends, end_word, cell_word, state_word, count_word}
-use Rattle.ftl_cells.specs.declared.place.HandPlace.{HandPlace}
 use Rattle.ftl_cells.specs.declared.place.HandPlace.TheVariants.{Idle, Looked, Working, Filled, Ended}
 
 abbrev pub Known : Type 0
@@ -26,10 +25,13 @@ pub record ClaimTold (me : Known) (item n : ℕ) (new : Known) : Type 0 where
 pub record ReadTold (me : Known) (item step reads n : ℕ) (new : Known) : Type 0 where
   pub word : n ≡ solved_word me.0.of (read_of me.0.of item step reads)
   pub value : IsValue (solution_at me.0.of (read_of me.0.of item step reads))
-  pub now : IsNow me (after me.0 (live (Working item step (reads + 1))) load_cell (cell_word (read_of me.0.of item step reads)) (Some n)) new
+  pub now : IsNow me
+      (after me.0 (live (Working item step (reads + 1))) load_cell (cell_word (read_of me.0.of item step reads))
+      (Some n)) new
 
 abbrev pub FillTold : Known → ℕ → ℕ → Known → Type 0
-FillTold me item step new = IsNow me (after me.0 (live (Working item (step + 1) 0)) store_cell (cell_word (target_of me.0.of item step)) (Some 0)) new
+FillTold me item step new = IsNow me
+    (after me.0 (live (Working item (step + 1) 0)) store_cell (cell_word (target_of me.0.of item step)) (Some 0)) new
 
 abbrev pub MarkTold : Known → ℕ → Known → Type 0
 MarkTold me item new = IsNow me (after me.0 (live (Filled item)) mark (state_word me.0.of item) (Some 1)) new
@@ -37,7 +39,9 @@ MarkTold me item new = IsNow me (after me.0 (live (Filled item)) mark (state_wor
 pub record SendTold (me : Known) (item sent n : ℕ) (new : Known) : Type 0 where
   pub left : ℕ
   pub found : n ≡ suc left
-  pub now : IsNow me (after_delivery me.0 item sent (next_at me.0.of item sent) (count_word me.0.of (next_at me.0.of item sent)) left) new
+  pub now : IsNow me
+      (after_delivery me.0 item sent (next_at me.0.of item sent)
+      (count_word me.0.of (next_at me.0.of item sent)) left) new
 
 pub record FinishTold (me : Known) (n : ℕ) (new : Known) : Type 0 where
   pub left : ℕ

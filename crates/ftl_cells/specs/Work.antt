@@ -130,11 +130,13 @@ pub record IsLawful (m : Meaning) : Type 0 where
   pub values : (c : ℕ) → c < cell_total m → IsValue (solution_at m c)
   pub next_in_range : (i k : ℕ) → i < item_total m → k < next_total m i → next_at m i k < item_total m
   pub next_is_later : (i k : ℕ) → i < item_total m → k < next_total m i → i < next_at m i k
-  pub next_once : (i k l : ℕ) → i < item_total m → k < next_total m i → l < next_total m i → next_at m i k ≡ next_at m i l → k ≡ l
+  pub next_once : (i k l : ℕ) → i < item_total m → k < next_total m i → l < next_total m i
+      → next_at m i k ≡ next_at m i l → k ≡ l
   pub preds : (i : ℕ) → i < item_total m → Counts (λ p. IsNext m p i) i (pred_total m i)
   pub target_in_range : (i j : ℕ) → IsStep m i j → target_of m i j < cell_total m
   pub target_kind : (i j : ℕ) → IsStep m i j → kind_at m (target_of m i j) ≡ Target
-  pub target_once : (i j k l : ℕ) → IsStep m i j → IsStep m k l → target_of m i j ≡ target_of m k l → (i ≡ k) × (j ≡ l)
+  pub target_once : (i j k l : ℕ) → IsStep m i j → IsStep m k l → target_of m i j ≡ target_of m k l
+      → (i ≡ k) × (j ≡ l)
   pub each_target : (c : ℕ) → c < cell_total m → kind_at m c ≡ Target → IsTargeted m c
   pub read_in_range : (i j r : ℕ) → IsStep m i j → r < read_total m i j → read_of m i j r < cell_total m
   pub readable : (i j r : ℕ) → IsStep m i j → r < read_total m i j → IsReadable m i j (read_of m i j r)

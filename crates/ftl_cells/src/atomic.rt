@@ -58,7 +58,8 @@ impl<W: Work> Cells<W> {
 
     pub(crate) fn store_cell(&self, seat: &mut Seat<u8, Told>, item: u32, step: u32, word: u64)
         requires seat { IsSeatOf (W.meaning self.now.1) self.now.0 seat.old }
-        requires working { seat.old.me.0.place ≡ live (Working item step (read_total (W.meaning self.now.1) item step)) }
+        requires working { seat.old.me.0.place
+            ≡ live (Working item step (read_total (W.meaning self.now.1) item step)) }
         requires step { IsStep (W.meaning self.now.1) item step }
         requires word { word ≡ solved_word (W.meaning self.now.1) (target_of (W.meaning self.now.1) item step) }
         ensures table { seat.new.table_id ≡ seat.old.table_id }
@@ -73,7 +74,8 @@ impl<W: Work> Cells<W> {
 
     pub(crate) fn mark_state(&self, seat: &mut Seat<u8, Told>, item: u32)
         requires seat { IsSeatOf (W.meaning self.now.1) self.now.0 seat.old }
-        requires working { seat.old.me.0.place ≡ live (Working item (step_total (W.meaning self.now.1) item) 0) }
+        requires working { seat.old.me.0.place
+            ≡ live (Working item (step_total (W.meaning self.now.1) item) 0) }
         requires item { item < item_total (W.meaning self.now.1) }
         ensures table { seat.new.table_id ≡ seat.old.table_id }
         ensures told { MarkTold seat.old.me item seat.new.me }
@@ -121,7 +123,8 @@ impl<W: Work> Cells<W> {
         requires seat { IsSeatOf (W.meaning self.now.1) self.now.0 seat.old }
         requires idle { seat.old.me.0.place ≡ live Idle }
         ensures table { seat.new.table_id ≡ seat.old.table_id }
-        ensures kept { seat.new.me ≡ (after seat.old.me.0 seat.old.me.0.place split end_word None, seat.old.me.1) }
+        ensures kept { seat.new.me
+            ≡ (after seat.old.me.0 seat.old.me.0.place split end_word None, seat.old.me.1) }
         ensures made { result.table_id ≡ seat.old.table_id }
         ensures newcomer { result.me ≡ (newcomer seat.old.me.0.of, []) }
     {
@@ -135,7 +138,8 @@ impl<W: Work> Cells<W> {
         requires free { IsFree seat.old.me.0.place }
         requires other_free { IsFree other.me.0.place }
         ensures table { seat.new.table_id ≡ seat.old.table_id }
-        ensures kept { seat.new.me ≡ (after seat.old.me.0 seat.old.me.0.place join end_word None, seat.old.me.1) }
+        ensures kept { seat.new.me
+            ≡ (after seat.old.me.0 seat.old.me.0.place join end_word None, seat.old.me.1) }
     {
         self.table.shared.join_seat::<JoinPlay>(seat, other);
     }

@@ -72,7 +72,10 @@ fn opening_row<W: Work>(alloc: Global, work: &W, words: &[u64]) -> Result<Vec<u6
 }
 
 fn push_counters<W: Work>(work: &W, row: &mut Vec<u64>) -> Result<(), AllocError>
-    ensures { OnOk result (row.new.items ≡ row.old.items ++ map (pred_total (W.meaning work.now)) (range_with_len 0 (item_total (W.meaning work.now)))) }
+    ensures { OnOk result
+        (row.new.items
+        ≡ row.old.items
+        ++ map (pred_total (W.meaning work.now)) (range_with_len 0 (item_total (W.meaning work.now)))) }
 {
     for item in 0..work.items() {
         row.push(work.pred_count(item) as u64)?;
@@ -86,7 +89,8 @@ fn copy_cells(closed: &Closed<u8, Global>, cells: usize, words: &mut Vec<u64>)
     requires cells { cells < slots_len closed.now.words }
     requires empty { words.old.items ≡ [] }
     requires room { cells ≤ vec_capacity words.old }
-    ensures { words.new.items ≡ map (λ c. slice_index (slots_items closed.now.words) (1 + c)) (range_with_len 0 cells) }
+    ensures { words.new.items
+        ≡ map (λ c. slice_index (slots_items closed.now.words) (1 + c)) (range_with_len 0 cells) }
 {
     for cell in 0..cells {
         words.push(closed.word(1 + cell)).unwrap();

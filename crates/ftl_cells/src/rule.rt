@@ -1,6 +1,7 @@
 // The rule of a table, and what each kind of step tells.
-ghost use Rattle.ftl_cells.specs.State.{Reached, HandState, Place, newcomer, given_up, after, split, join, end_word};
-ghost use Rattle.ftl_cells.specs.Told.{look_told, claim_told, read_told, fill_told, mark_told, send_told, finish_told, left_told};
+ghost use Rattle.ftl_cells.specs.State.{Reached, newcomer, given_up, after, split, join, end_word};
+ghost use Rattle.ftl_cells.specs.Told.{look_told, claim_told, read_told, fill_told, mark_told};
+ghost use Rattle.ftl_cells.specs.Told.{send_told, finish_told, left_told};
 ghost use Rattle.std.specs.Prelude.{None};
 
 use crate::hand::Told;

@@ -72,6 +72,7 @@ pub trait Work: Sync {
         requires room { (meaning self.now).max_stack ≤ stack.old.room }
 
         // From the solution's values comes the solution's value.
-        ensures value { reads.now ≡ solved_reads (meaning self.now) item step → result ≡ solution_at (meaning self.now) (target_of (meaning self.now) item step) }
+        ensures value { reads.now ≡ solved_reads (meaning self.now) item step
+            → result ≡ solution_at (meaning self.now) (target_of (meaning self.now) item step) }
         ensures room { stack.new.room ≡ stack.old.room };
 }

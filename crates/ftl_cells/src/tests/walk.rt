@@ -21,7 +21,9 @@ fn read_all<W: Work>(
     requires working { hand.old.state.place ≡ live (Working item step 0) }
     requires step { IsStep (W.meaning cells.now.1) item step }
     ensures made { IsMadeBy (W.meaning cells.now.1) cells.now.0 hand.new }
-    ensures working { OnOk result (hand.new.state.place ≡ live (Working item step (read_total (W.meaning cells.now.1) item step))) }
+    ensures working { OnOk result
+        (hand.new.state.place
+        ≡ live (Working item step (read_total (W.meaning cells.now.1) item step))) }
     ensures reads { OnOk result (reads.new.items ≡ solved_reads (W.meaning cells.now.1) item step) }
 {
     reads.clear();
