@@ -146,3 +146,20 @@ chain_first n words e = subst (AreFirst (listed (chain n))) (sym e) (record {
       first_is n c b ∙ ap (first_word_of (chain_kind c)) (ap word_of_value (sym (solution_at-listed (chain n) c b)))
       ∙ ap (λ q. first_word_of q (solved_word (listed (chain n)) c)) (sym (chain_kinds n c l));
 })
+
+-- what each call of the chain answers
+pub ruleset chain_facts = (
+  chain_is_lawful,
+  chain_cells,
+  chain_items,
+  chain_kinds,
+  chain_preds,
+  chain_next_count,
+  chain_next,
+  chain_steps,
+  chain_targets,
+  chain_read_count,
+  chain_read,
+  chain_most,
+  chain_room,
+)

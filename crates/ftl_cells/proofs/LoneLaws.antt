@@ -82,3 +82,19 @@ lone_first words e = subst (AreFirst (listed lone)) (sym e) (record {
       (let z : c ≡ 0 = omega arith in ap (λ x. get_or (0 ∷ []) x 0) z) ∙ sym
       (ap (λ q. first_word_of q (solved_word (listed lone) c)) (lone_kinds c l));
 })
+
+-- what each call of the lone item answers
+pub ruleset lone_facts = (
+  lone_is_lawful,
+  lone_cells,
+  lone_items,
+  lone_kinds,
+  lone_preds,
+  lone_next_count,
+  lone_steps,
+  lone_targets,
+  lone_read_count,
+  lone_most,
+  lone_room,
+  lone_result,
+)

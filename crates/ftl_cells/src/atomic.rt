@@ -1,10 +1,13 @@
 // Each kind of step, as one atomic instruction on a seat.
 ghost use Rattle.std.specs.Prelude.{◌≡◌, ℕ, ◌<◌, ◌^◌, []};
 ghost use Rattle.ftl_model.specs.Values.{word_of_value};
-ghost use Rattle.ftl_cells.specs.Work.{IsStep, item_total, next_total, next_at, step_total, target_of, read_total, read_of, solved_word};
-ghost use Rattle.ftl_cells.specs.State.{live, Sends, IsFree, newcomer, after, split, join, end_word};
+ghost use Rattle.ftl_cells.specs.Work.{IsStep, item_total, next_total, next_at, step_total};
+ghost use Rattle.ftl_cells.specs.Work.{target_of, read_total, read_of, solved_word};
+ghost use Rattle.ftl_cells.specs.State.{live, Sends, IsFree, newcomer, after, split, join};
+ghost use Rattle.ftl_cells.specs.State.{end_word};
 ghost use Rattle.ftl_cells.specs.Table.{IsSeatOf};
-ghost use Rattle.ftl_cells.specs.Told.{LookTold, ClaimTold, ReadTold, FillTold, MarkTold, SendTold, FinishTold, LeftTold};
+ghost use Rattle.ftl_cells.specs.Told.{LookTold, ClaimTold, ReadTold, FillTold, MarkTold, SendTold};
+ghost use Rattle.ftl_cells.specs.Told.{FinishTold, LeftTold};
 ghost use Rattle.ftl_cells.specs.declared.place.HandPlace.TheVariants.{Idle, Looked, Working};
 ghost use Rattle.std.specs.Prelude.{None};
 
@@ -61,7 +64,8 @@ impl<W: Work> Cells<W> {
         requires working { seat.old.me.0.place
             ≡ live (Working item step (read_total (W.meaning self.now.1) item step)) }
         requires step { IsStep (W.meaning self.now.1) item step }
-        requires word { word ≡ solved_word (W.meaning self.now.1) (target_of (W.meaning self.now.1) item step) }
+        requires word { word
+            ≡ solved_word (W.meaning self.now.1) (target_of (W.meaning self.now.1) item step) }
         ensures table { seat.new.table_id ≡ seat.old.table_id }
         ensures told { FillTold seat.old.me item step seat.new.me }
         ensures counted { step_total (W.meaning self.now.1) item < 2 ^ 32 }

@@ -27,7 +27,8 @@ impl<W: Work> Model for Cells<W> {
 
     ghost view = { λ c. (c.table.shared.table_id, c.work) };
 
-    ghost invariant = { λ c. (c.table.shared.key ≡ c.work) × IsTableOf (W.meaning c.work) c.table.shared.table_id c.states c.counters };
+    ghost invariant = { λ c. (c.table.shared.key ≡ c.work)
+        × IsTableOf (W.meaning c.work) c.table.shared.table_id c.states c.counters };
 }
 
 impl<W: Work> Cells<W> {

@@ -3,7 +3,9 @@ ghost use Rattle.std.specs.Prelude.{◌≡◌, ◌<◌, None};
 ghost use Rattle.ftl_model.specs.Values.{word_of_value};
 ghost use Rattle.ftl_cells.specs.Work.{item_total};
 ghost use Rattle.ftl_cells.specs.State.{live, IsFree, newcomer, after, split, join, end_word};
-ghost use Rattle.ftl_cells.specs.Calls.{IsMadeBy, CanClaim, CanRead, CanFill, CanMark, CanDeliver, LookSteps, ClaimSteps, ReadAnswers, ReadSteps, FillSteps, MarkSteps, DeliverSteps, LeftSteps};
+ghost use Rattle.ftl_cells.specs.Calls.{IsMadeBy, CanClaim, CanRead, CanFill, CanMark, CanDeliver};
+ghost use Rattle.ftl_cells.specs.Calls.{LookSteps, ClaimSteps, ReadAnswers, ReadSteps, FillSteps};
+ghost use Rattle.ftl_cells.specs.Calls.{MarkSteps, DeliverSteps, LeftSteps};
 ghost use Rattle.ftl_cells.specs.declared.place.HandPlace.TheVariants.{Idle, Looked, Working};
 
 use crate::answer::{Claim, Deliver, Look};
@@ -63,7 +65,8 @@ impl<W: Work> Cells<W> {
         requires working { CanRead (W.meaning self.now.1) hand.old.state.place }
         ensures table { hand.new.table ≡ hand.old.table }
         ensures value { ReadAnswers (W.meaning self.now.1) hand.old.state.place result }
-        ensures step { ReadSteps hand.old.state hand.old.state.place (word_of_value result) hand.new.state }
+        ensures step { ReadSteps hand.old.state hand.old.state.place (word_of_value result)
+            hand.new.state }
     {
         let HandPlace::Working { item, step, reads } = hand.place else {
             unreachable!()
@@ -175,7 +178,8 @@ impl<W: Work> Cells<W> {
         requires free { IsFree hand.old.state.place }
         requires other_free { IsFree other.state.place }
         ensures table { hand.new.table ≡ hand.old.table }
-        ensures step { hand.new.state ≡ after hand.old.state hand.old.state.place join end_word None }
+        ensures step { hand.new.state
+            ≡ after hand.old.state hand.old.state.place join end_word None }
     {
         let Hand { seat, .. } = other;
         self.join(&mut hand.seat, seat);

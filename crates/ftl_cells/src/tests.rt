@@ -1,4 +1,5 @@
 mod chain;
+mod examples;
 mod row;
 mod runs;
 mod walk;

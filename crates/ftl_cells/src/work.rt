@@ -1,5 +1,7 @@
 ghost use Rattle.std.specs.Prelude.{◌≡◌, ◌<◌, ◌≤◌, length};
-ghost use Rattle.ftl_cells.specs.Work.{Meaning, IsLawful, IsStep, cell_total, kind_at, item_total, pred_total, next_total, next_at, step_total, target_of, read_total, read_of, solved_reads, solution_at};
+ghost use Rattle.ftl_cells.specs.Work.{Meaning, IsLawful, IsStep, cell_total, kind_at, item_total};
+ghost use Rattle.ftl_cells.specs.Work.{pred_total, next_total, next_at, step_total, target_of};
+ghost use Rattle.ftl_cells.specs.Work.{read_total, read_of, solved_reads, solution_at};
 
 use crate::kind::CellKind;
 use ftl_base::{CodeStack, Val};

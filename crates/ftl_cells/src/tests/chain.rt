@@ -15,7 +15,7 @@ pub(crate) struct Chain {
     pub(crate) items: u8,
 }
 
-#[tactic(auto, using(crate::proofs::ChainLaws::chain_is_lawful, crate::proofs::ChainLaws::chain_cells, crate::proofs::ChainLaws::chain_items, crate::proofs::ChainLaws::chain_kinds, crate::proofs::ChainLaws::chain_preds, crate::proofs::ChainLaws::chain_next_count, crate::proofs::ChainLaws::chain_next, crate::proofs::ChainLaws::chain_steps, crate::proofs::ChainLaws::chain_targets, crate::proofs::ChainLaws::chain_read_count, crate::proofs::ChainLaws::chain_read, crate::proofs::ChainLaws::chain_most, crate::proofs::ChainLaws::chain_room))]
+#[tactic(auto, using(crate::proofs::ChainLaws::chain_facts))]
 impl Work for Chain {
     ghost use Rattle.ftl_cells.specs.Shape.{listed};
     ghost use Rattle.ftl_cells.specs.Chain.{chain};
@@ -96,7 +96,7 @@ pub(crate) fn first_of_chain(alloc: Global, items: u8) -> Result<Vec<u64>, Alloc
 #[derive(Drop)]
 pub(crate) struct Lone;
 
-#[tactic(auto, using(crate::proofs::LoneLaws::lone_is_lawful, crate::proofs::LoneLaws::lone_cells, crate::proofs::LoneLaws::lone_items, crate::proofs::LoneLaws::lone_kinds, crate::proofs::LoneLaws::lone_preds, crate::proofs::LoneLaws::lone_next_count, crate::proofs::LoneLaws::lone_steps, crate::proofs::LoneLaws::lone_targets, crate::proofs::LoneLaws::lone_read_count, crate::proofs::LoneLaws::lone_most, crate::proofs::LoneLaws::lone_room, crate::proofs::LoneLaws::lone_result))]
+#[tactic(auto, using(crate::proofs::LoneLaws::lone_facts))]
 impl Work for Lone {
     ghost use Rattle.ftl_cells.specs.Shape.{listed};
     ghost use Rattle.ftl_cells.specs.Lone.{lone};

@@ -1,8 +1,7 @@
 // Whole works, by hands that take turns and by threads.
-ghost use Rattle.std.specs.Prelude.{◌≡◌, OnOk, IfSome};
-ghost use Rattle.ftl_cells.specs.State.{live};
+ghost use Rattle.std.specs.Prelude.{◌≡◌, OnOk, IfOk, IfSome};
+ghost use Rattle.ftl_cells.specs.State.{live, AreFirst, AreLast};
 ghost use Rattle.ftl_cells.specs.Calls.{IsMadeBy};
-ghost use Rattle.ftl_cells.specs.Diamond.{diamond};
 ghost use Rattle.ftl_cells.specs.declared.place.HandPlace.TheVariants.{Idle, Ended};
 
 use crate::tests::chain::{Chain, Lone, first_of_chain, first_of_lone};
@@ -81,37 +80,48 @@ fn take_turns<W: Work>(
     Ok(all)
 }
 
-/// The diamond by two threads, each with a hand of its own: whether its five values come out.
-fn by_two_threads<R: Threads + Sync>(rt: &R, alloc: Global) -> Result<bool, AllocError> {
-    let (cells, mut a) = Cells::open(alloc, Diamond, first_words(alloc)?)?;
+/// Fills the cells of a work by two threads, each with a hand of its own.
+fn by_two_threads<R: Threads + Sync, W: Work + Drop>(
+    rt: &R,
+    alloc: Global,
+    work: W,
+    first: Vec<u64>,
+) -> Result<Option<Vec<u64>>, AllocError>
+    requires { AreFirst (W.meaning work) first.items }
+    ensures { IfOk result (λ r. IfSome r (λ words. AreLast (W.meaning work) words.items)) }
+{
+    let (cells, mut a) = Cells::open(alloc, work, first)?;
     let b = cells.another(&mut a);
     let (a, b) = join(
         rt,
         || -> Option<Hand>
-            requires made { IsMadeBy diamond cells.0 a }
+            requires made { IsMadeBy (W.meaning cells.1) cells.0 a }
             requires idle { a.state.place ≡ live Idle }
-            ensures made { IfSome result (IsMadeBy diamond cells.0) }
+            ensures made { IfSome result (IsMadeBy (W.meaning cells.1) cells.0) }
             ensures ended { IfSome result (λ h. h.state.place ≡ live Ended) }
         { work_off(alloc, &cells, a) },
         || -> Option<Hand>
-            requires made { IsMadeBy diamond cells.0 b }
+            requires made { IsMadeBy (W.meaning cells.1) cells.0 b }
             requires idle { b.state.place ≡ live Idle }
-            ensures made { IfSome result (IsMadeBy diamond cells.0) }
+            ensures made { IfSome result (IsMadeBy (W.meaning cells.1) cells.0) }
             ensures ended { IfSome result (λ h. h.state.place ≡ live Ended) }
         { work_off(alloc, &cells, b) },
     );
     let (Some(mut a), Some(b)) = (a, b) else {
-        return Ok(false);
+        return Ok(None);
     };
     cells.give_up(&mut a, b);
-    let words = cells.close(alloc, a)?;
-    Ok(are_words_of(words.as_slice(), &[7, 8, 16, -2, 14]))
+    Ok(Some(cells.close(alloc, a)?))
 }
 
 #[test]
 fn two_threads_fill_the_diamond_a_thousand_times(rt: HostRuntime) -> Result<(), Fail> {
     for _ in 0..1000 {
-        assert!(rt; by_two_threads(&rt, rt.alloc())?);
+        let first = first_words(rt.alloc())?;
+        let Some(words) = by_two_threads(&rt, rt.alloc(), Diamond, first)? else {
+            panic!(rt; "a thread did not come to the end")
+        };
+        assert!(rt; are_words_of(words.as_slice(), &[7, 8, 16, -2, 14]));
     }
     Ok(())
 }

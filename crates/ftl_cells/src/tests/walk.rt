@@ -1,6 +1,7 @@
 // A hand takes an item from the look to the last delivery, for any work.
 ghost use Rattle.std.specs.Prelude.{◌≡◌, ◌<◌, ◌≤◌, OnOk};
-ghost use Rattle.ftl_cells.specs.Work.{IsStep, item_total, next_total, step_total, read_total, solved_reads};
+ghost use Rattle.ftl_cells.specs.Work.{IsStep, item_total, next_total, step_total, read_total};
+ghost use Rattle.ftl_cells.specs.Work.{solved_reads};
 ghost use Rattle.ftl_cells.specs.State.{live, Sends};
 ghost use Rattle.ftl_cells.specs.Calls.{IsMadeBy};
 ghost use Rattle.ftl_cells.specs.declared.place.HandPlace.TheVariants.{Idle, Working, Filled};
