@@ -1,2 +1,3 @@
 pub use Rattle.ftl_model.specs.Values
 pub mod Kept
+pub mod Stacked

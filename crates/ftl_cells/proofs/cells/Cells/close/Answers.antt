@@ -1,0 +1,21 @@
+use Rattle.std.proofs.Common.{ap, ◌∙◌, subst}
+use Rattle.std.specs.Slots.{slots_items}
+use Rattle.atomic_table.specs.Table.{Final, Seen}
+use Rattle.ftl_cells.specs.State.{AreLast}
+use Rattle.ftl_cells.proofs.Plays.{Holds}
+use Rattle.ftl_cells.proofs.Closing.{are_last}
+use Rattle.ftl_cells.proofs.cells.Cells.close.Goals as goal
+
+pub returns : goal.returns
+returns g c =
+    let inside = c.self.inside in
+    let seat = c.hand.inside.seat in
+    let table = c.self.invariant.1 in
+    let closed = c.close_with-closed.result in
+    subst (λ z. AreLast (g.W.Work.meaning z.1) c.copy_cells.new.words.items) c.self.view_is
+    (are_last (g.W.Work.meaning inside.work) table.lawful seat.id seat.me.0 (slots_items closed.words)
+    (slots_items closed.slots)
+    (ap (λ h. h.state.place) c.hand.view_is ∙ c.requires.ended)
+    (subst (λ w. Final (Seen (Holds (g.W.Work.meaning w)) seat.id seat.me.0) (slots_items closed.words)
+    (slots_items closed.slots)) c.self.invariant.0 c.close_with-closed.ensures.values.2)
+    c.cells-cells.result c.copy_cells.new.words.items c.cells-cells.ensures c.copy_cells.ensures)

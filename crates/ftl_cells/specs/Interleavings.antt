@@ -1,0 +1,30 @@
+-- What the words of a table tell at any moment, whatever steps led there.
+use Rattle.std.specs.Prelude.{◌≡◌, ◌≢◌, ℕ, ◌<◌, List, slice_index}
+use Rattle.ftl_cells.specs.Work.{Meaning, cell_total, kind_at, item_total, step_total, target_of, read_total, read_of, solved_word}
+use Rattle.ftl_cells.specs.State.{live, HandState, cell_word, state_word, last_word_of}
+use Rattle.ftl_cells.specs.Kept.{hand_at}
+use Rattle.ftl_cells.specs.declared.place.HandPlace.TheVariants.{Working}
+
+-- a cell that a hand is about to read holds the solution's word
+abbrev pub ReadsFindValues : Meaning → List ℕ → List HandState → Type 0
+ReadsFindValues m words hands = (h i j r : ℕ) → (hand_at hands h).place ≡ live (Working i j r) → j < step_total m i
+    → r < read_total m i j → slice_index words (cell_word (read_of m i j r)) ≡ solved_word m (read_of m i j r)
+
+-- a cell that a hand is about to fill is empty
+abbrev pub FillsFindEmpty : Meaning → List ℕ → List HandState → Type 0
+FillsFindEmpty m words hands = (h i j r : ℕ) → (hand_at hands h).place ≡ live (Working i j r) → j < step_total m i
+    → slice_index words (cell_word (target_of m i j)) ≡ 0
+
+-- an item that was claimed is never free again
+abbrev pub ClaimsStay : Meaning → List ℕ → List ℕ → Type 0
+ClaimsStay m words next = (i : ℕ) → i < item_total m → slice_index words (state_word m i) ≢ 0
+    → slice_index next (state_word m i) ≢ 0
+
+-- each item was claimed and filled
+abbrev pub AllFilled : Meaning → List ℕ → Type 0
+AllFilled m words = (i : ℕ) → i < item_total m → slice_index words (state_word m i) ≡ 2
+
+-- each Given and each Target cell holds the solution's word, and each Later cell 0
+abbrev pub HoldSolution : Meaning → List ℕ → Type 0
+HoldSolution m words = (c : ℕ) → c < cell_total m
+    → slice_index words (cell_word c) ≡ last_word_of (kind_at m c) (solved_word m c)

@@ -1,0 +1,12 @@
+pub mod Count
+pub mod Work
+pub mod State
+pub mod Kept
+pub mod Calls
+pub mod Told
+pub mod Table
+pub mod Diamond
+pub mod Shape
+pub mod Chain
+pub mod Lone
+pub mod Interleavings

@@ -1,0 +1,40 @@
+ghost use Rattle.std.specs.Prelude.{◌≡◌};
+
+use crate::hand::Told;
+use crate::rule::Law;
+use crate::work::Work;
+use atomic_table::Table;
+use std::alloc::Global;
+use std::marker::Model;
+
+/// The words of a work that threads share: the common end's counter, the cells, the states of the
+/// items and their counters.
+#[derive(Drop)]
+pub struct Cells<W: Work> {
+    pub(crate) table: Table<u8, Told, W, Law, Global>,
+    pub(crate) work: W,
+    /// Where the states and the counters of the items begin.
+    pub(crate) states: usize,
+    pub(crate) counters: usize,
+}
+
+impl<W: Work> Model for Cells<W> {
+    ghost use Rattle.std.specs.Prelude.{◌≡◌};
+    ghost use Rattle.atomic_table.specs.Seated.{TableId};
+    ghost use Rattle.ftl_cells.specs.Table.{IsTableOf};
+
+    ghost Value = { TableId × W };
+
+    ghost view = { λ c. (c.table.shared.table_id, c.work) };
+
+    ghost invariant = { λ c. (c.table.shared.key ≡ c.work)
+        × IsTableOf (W.meaning c.work) c.table.shared.table_id c.states c.counters };
+}
+
+impl<W: Work> Cells<W> {
+    pub fn work(&self) -> &W
+        ensures { result.now ≡ self.now.1 }
+    {
+        &self.work
+    }
+}

@@ -1,0 +1,110 @@
+use crate::kind::CellKind;
+use crate::work::Work;
+use ftl_base::{CodeStack, Val, add};
+
+/// A work of four items, for tests: the first comes before two, and both of these before the last.
+#[derive(Drop)]
+pub struct Diamond;
+
+#[tactic(auto, using(crate::proofs::DiamondLaws::diamond_is_lawful, crate::proofs::DiamondLaws::only_step), unfolding(crate::specs::Work::cell_total, crate::specs::Work::kind_at, crate::specs::Work::solution_at, crate::specs::Work::item_total, crate::specs::Work::pred_total, crate::specs::Work::next_total, crate::specs::Work::next_at, crate::specs::Work::step_total, crate::specs::Work::target_of, crate::specs::Work::reads_of))]
+impl Work for Diamond {
+    ghost use Rattle.ftl_cells.specs.Diamond.{diamond};
+
+    ghost meaning = { λ _. diamond };
+
+    fn items(&self) -> u32 {
+        4
+    }
+
+    fn cells(&self) -> u32 {
+        5
+    }
+
+    fn cell_kind(&self, cell: u32) -> CellKind {
+        match cell {
+            0 => CellKind::Given,
+            1 | 2 | 3 | 4 => CellKind::Target,
+            _ => unreachable!(),
+        }
+    }
+
+    fn pred_count(&self, item: u32) -> u32 {
+        match item {
+            0 => 0,
+            1 | 2 => 1,
+            3 => 2,
+            _ => unreachable!(),
+        }
+    }
+
+    fn next_count(&self, item: u32) -> u32 {
+        match item {
+            0 => 2,
+            1 | 2 => 1,
+            3 => 0,
+            _ => unreachable!(),
+        }
+    }
+
+    fn next(&self, item: u32, k: u32) -> u32 {
+        match (item, k) {
+            (0, 0) => 1,
+            (0, 1) => 2,
+            (1, 0) | (2, 0) => 3,
+            _ => unreachable!(),
+        }
+    }
+
+    fn step_count(&self, item: u32) -> u32 {
+        match item {
+            0 | 1 | 2 | 3 => 1,
+            _ => unreachable!(),
+        }
+    }
+
+    fn target(&self, item: u32, step: u32) -> u32 {
+        match (item, step) {
+            (0, 0) => 1,
+            (1, 0) => 2,
+            (2, 0) => 3,
+            (3, 0) => 4,
+            _ => unreachable!(),
+        }
+    }
+
+    fn read_count(&self, item: u32, step: u32) -> u32 {
+        match (item, step) {
+            (0, 0) | (1, 0) | (2, 0) => 1,
+            (3, 0) => 2,
+            _ => unreachable!(),
+        }
+    }
+
+    fn read(&self, item: u32, step: u32, k: u32) -> u32 {
+        match (item, step, k) {
+            (0, 0, 0) => 0,
+            (1, 0, 0) | (2, 0, 0) => 1,
+            (3, 0, 0) => 2,
+            (3, 0, 1) => 3,
+            _ => unreachable!(),
+        }
+    }
+
+    fn max_reads(&self) -> u32 {
+        2
+    }
+
+    fn max_stack(&self) -> u32 {
+        0
+    }
+
+    fn result(&self, item: u32, step: u32, reads: &[Val], stack: &mut CodeStack) -> Val {
+        match (item, step, reads) {
+            (0, 0, [a]) => add(*a, Val::num(1)),
+            (1, 0, [a]) => add(*a, *a),
+            (2, 0, [a]) => add(*a, Val::num(-10)),
+            (3, 0, [a, b]) => add(*a, *b),
+            _ => unreachable!(),
+        }
+    }
+}

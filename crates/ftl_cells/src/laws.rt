@@ -1,0 +1,55 @@
+//! What holds over all interleavings of the steps of any number of hands.
+ghost use Rattle.std.specs.Prelude.{◌≡◌, ℕ, List, slice_index};
+ghost use Rattle.ftl_cells.specs.Work.{Meaning, IsLawful};
+ghost use Rattle.ftl_cells.specs.State.{HandState, Makes, Reached, end_word};
+ghost use Rattle.ftl_cells.specs.Kept.{IsKeptBy, HasEnded, hand_at};
+ghost use Rattle.ftl_cells.specs.Interleavings.{ReadsFindValues, FillsFindEmpty, ClaimsStay};
+ghost use Rattle.ftl_cells.specs.Interleavings.{AllFilled, HoldSolution};
+
+/// Between any two steps the rule is kept: the words of the cells and the states of all hands are
+/// always ones that steps lead to, since that is the rule of their table.
+pub fn rule_is_kept()
+    ensures { (m : Meaning) (words : List ℕ) (hands : List HandState) → IsLawful m
+        → Reached m words hands → IsKeptBy m words hands }
+{}
+
+/// Each step keeps the rule.
+pub fn steps_keep_the_rule()
+    ensures { (m : Meaning) (words next : List ℕ) (hands more : List HandState) → IsLawful m
+        → IsKeptBy m words hands → Makes m words hands next more → IsKeptBy m next more }
+{}
+
+/// A read never finds its cell empty, but always the solution's word.
+pub fn reads_find_values()
+    ensures { (m : Meaning) (words : List ℕ) (hands : List HandState) → IsLawful m
+        → IsKeptBy m words hands → ReadsFindValues m words hands }
+{}
+
+/// A fill finds its cell empty.
+pub fn fills_find_empty_cells()
+    ensures { (m : Meaning) (words : List ℕ) (hands : List HandState)
+        → IsKeptBy m words hands → FillsFindEmpty m words hands }
+{}
+
+/// A claim wins only where the item is free, and then it is never free again: so at most one claim
+/// of an item wins.
+pub fn claims_win_once()
+    ensures { (m : Meaning) (words next : List ℕ) (hands more : List HandState) → IsLawful m
+        → IsKeptBy m words hands → Makes m words hands next more → ClaimsStay m words next }
+{}
+
+/// Where the common end's counter is 0, each item was claimed and filled, and the cells hold the
+/// solution.
+pub fn end_means_all()
+    ensures items { (m : Meaning) (words : List ℕ) (hands : List HandState) → IsLawful m
+        → IsKeptBy m words hands → slice_index words end_word ≡ 0 → AllFilled m words }
+    ensures cells { (m : Meaning) (words : List ℕ) (hands : List HandState) → IsLawful m
+        → IsKeptBy m words hands → slice_index words end_word ≡ 0 → HoldSolution m words }
+{}
+
+/// Where a hand is Ended, the common end's counter is 0.
+pub fn ended_means_the_end()
+    ensures { (m : Meaning) (words : List ℕ) (hands : List HandState) (h : ℕ)
+        → IsKeptBy m words hands → HasEnded (hand_at hands h).place
+        → slice_index words end_word ≡ 0 }
+{}

@@ -1,0 +1,6 @@
+mod chain;
+mod examples;
+mod row;
+mod runs;
+mod walk;
+mod words;

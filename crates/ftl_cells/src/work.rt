@@ -1,0 +1,80 @@
+ghost use Rattle.std.specs.Prelude.{◌≡◌, ◌<◌, ◌≤◌, length};
+ghost use Rattle.ftl_cells.specs.Work.{Meaning, IsLawful, IsStep, cell_total, kind_at, item_total};
+ghost use Rattle.ftl_cells.specs.Work.{pred_total, next_total, next_at, step_total, target_of};
+ghost use Rattle.ftl_cells.specs.Work.{read_total, read_of, solved_reads, solution_at};
+
+use crate::kind::CellKind;
+use ftl_base::{CodeStack, Val};
+
+/// What there is to do: cells, and items with steps that each read cells and fill one.
+pub trait Work: Sync {
+    /// The cells, the items and the solution, which is what `result` answers when it is fed with
+    /// the solution.
+    ghost meaning: { Self → Meaning };
+
+    fn items(&self) -> u32
+        ensures count { result ≡ item_total (meaning self.now) }
+
+        // Each work is lawful.
+        ensures lawful { IsLawful (meaning self.now) };
+
+    fn cells(&self) -> u32
+        ensures { result ≡ cell_total (meaning self.now) };
+
+    fn cell_kind(&self, cell: u32) -> CellKind
+        requires { cell < cell_total (meaning self.now) }
+        ensures { result ≡ kind_at (meaning self.now) cell };
+
+    /// How many items have this one in their `next` list.
+    fn pred_count(&self, item: u32) -> u32
+        requires { item < item_total (meaning self.now) }
+        ensures { result ≡ pred_total (meaning self.now) item };
+
+    fn next_count(&self, item: u32) -> u32
+        requires { item < item_total (meaning self.now) }
+        ensures { result ≡ next_total (meaning self.now) item };
+
+    /// The items that wait for this one, by place.
+    fn next(&self, item: u32, k: u32) -> u32
+        requires item { item < item_total (meaning self.now) }
+        requires place { k < next_total (meaning self.now) item }
+        ensures { result ≡ next_at (meaning self.now) item k };
+
+    fn step_count(&self, item: u32) -> u32
+        requires { item < item_total (meaning self.now) }
+        ensures { result ≡ step_total (meaning self.now) item };
+
+    /// The cell that a step fills.
+    fn target(&self, item: u32, step: u32) -> u32
+        requires { IsStep (meaning self.now) item step }
+        ensures { result ≡ target_of (meaning self.now) item step };
+
+    fn read_count(&self, item: u32, step: u32) -> u32
+        requires { IsStep (meaning self.now) item step }
+        ensures { result ≡ read_total (meaning self.now) item step };
+
+    /// The cells that a step reads, by place.
+    fn read(&self, item: u32, step: u32, k: u32) -> u32
+        requires step { IsStep (meaning self.now) item step }
+        requires place { k < read_total (meaning self.now) item step }
+        ensures { result ≡ read_of (meaning self.now) item step k };
+
+    /// No step reads more.
+    fn max_reads(&self) -> u32
+        ensures { result ≡ (meaning self.now).max_reads };
+
+    /// No step needs a stack with more room.
+    fn max_stack(&self) -> u32
+        ensures { result ≡ (meaning self.now).max_stack };
+
+    /// The value that a step gives its target, from what it read.
+    fn result(&self, item: u32, step: u32, reads: &[Val], stack: &mut CodeStack) -> Val
+        requires step { IsStep (meaning self.now) item step }
+        requires reads { length reads.now ≡ read_total (meaning self.now) item step }
+        requires room { (meaning self.now).max_stack ≤ stack.old.room }
+
+        // From the solution's values comes the solution's value.
+        ensures value { reads.now ≡ solved_reads (meaning self.now) item step
+            → result ≡ solution_at (meaning self.now) (target_of (meaning self.now) item step) }
+        ensures room { stack.new.room ≡ stack.old.room };
+}
