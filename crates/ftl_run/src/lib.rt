@@ -10,5 +10,6 @@ mod tests;
 mod top;
 
 pub use answers::one_answer;
+pub use ftl_page::{Page, PageFault, Section, Text, split_page};
 pub use status::Status;
 pub use top::layout_top;
