@@ -5,7 +5,6 @@ and the growth from size to size.
 usage: bench/columns.py [PROGRAM]     PROGRAM is crates/ftl_layout/out/ftl_layout if left out
 """
 import os
-import resource
 import subprocess
 import sys
 import tempfile
@@ -33,21 +32,29 @@ def nested(nodes):
     return f"{HEADING}Sheet {{ body = Column {{ kids = [\n{body}\n] }} }}\n"
 
 
+# Runs the program from a small process: a child's peak memory counts that of the process that it was forked from.
+MEASURE = """
+import os, subprocess, sys, time
+start = time.monotonic()
+child = subprocess.Popen([sys.argv[1], "run"])
+_, status, usage = os.wait4(child.pid, 0)
+print(os.waitstatus_to_exitcode(status), time.monotonic() - start, usage.ru_maxrss * 1024, file=sys.stderr)
+"""
+
+
 def run(program, page):
     """Seconds and peak memory in bytes of one run, and the lines that it wrote."""
     with tempfile.TemporaryFile() as source, tempfile.TemporaryFile() as sink:
-        source.write(page.encode())
+        source.write(page)
         source.seek(0)
-        start = time.monotonic()
-        child = subprocess.Popen([program, "run"], stdin=source, stdout=sink)
-        _, status, usage = os.wait4(child.pid, 0)
-        seconds = time.monotonic() - start
-        child.returncode = os.waitstatus_to_exitcode(status)
-        if child.returncode != 0:
-            sys.exit(f"the program ended with {child.returncode}")
+        command = [sys.executable, "-c", MEASURE, program]
+        told = subprocess.run(command, stdin=source, stdout=sink, stderr=subprocess.PIPE, check=True).stderr
+        status, seconds, peak = told.split()
+        if int(status) != 0:
+            sys.exit(f"the program ended with {int(status)}")
         sink.seek(0)
-        lines = sink.read().count(b"\n")
-    return seconds, usage.ru_maxrss * 1024, lines
+        lines = sum(block.count(b"\n") for block in iter(lambda: sink.read(1 << 20), b""))
+    return float(seconds), int(peak), lines
 
 
 def main():
@@ -58,7 +65,7 @@ def main():
     for name, make in (("flat", flat), ("nested", nested)):
         before = None
         for size in SIZES:
-            page = make(size)
+            page = make(size).encode()
             seconds, peak, nodes = min(run(program, page) for _ in range(3))
             growth = "" if before is None else f"{seconds / before[0] / (nodes / before[1]):7.2f}"
             print(f"{name:8} {nodes:9} {seconds:9.3f} {nodes / seconds:12.0f} {peak / 2**20:9.1f} {peak / len(page):10.2f} {growth:>7}")
