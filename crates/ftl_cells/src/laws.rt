@@ -31,8 +31,8 @@ pub fn fills_find_empty_cells()
         → IsKeptBy m words hands → FillsFindEmpty m words hands }
 {}
 
-/// A claim wins only where the item is free, and then it is never free again: so at most one claim
-/// of an item wins.
+/// A claim wins only where the item is free, and each step leaves an item that was claimed no longer
+/// free.
 pub fn claims_win_once()
     ensures { (m : Meaning) (words next : List ℕ) (hands more : List HandState) → IsLawful m
         → IsKeptBy m words hands → Makes m words hands next more → ClaimsStay m words next }

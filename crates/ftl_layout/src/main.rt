@@ -3,6 +3,7 @@
 
 use ftl_edge::{StdSink, StdSource};
 use ftl_run::{Status, layout_top};
+use std::io::ErrorKind;
 use std::process::ExitCode;
 use std::rt::Env;
 use std::{env, io};
@@ -16,8 +17,16 @@ fn words(rt: &(impl Env + AllocGlobal)) -> io::Result<Vec<String>> {
     Ok(words)
 }
 
+/// The words, or none where one of them is not UTF-8: they are no command then, as no words are.
+fn words_or_none(rt: &(impl Env + AllocGlobal)) -> io::Result<Vec<String>> {
+    match words(rt) {
+        Err(error) if error.kind() == ErrorKind::InvalidData => Ok(Vec::new(rt.alloc())),
+        other => other,
+    }
+}
+
 fn main(rt: HostRuntime) -> ExitCode {
-    let status = match words(&rt) {
+    let status = match words_or_none(&rt) {
         Ok(words) => {
             let mut source = StdSource::new(&rt);
             let mut sink = StdSink::new(&rt);

@@ -52,6 +52,22 @@ fn pages(rt: HostRuntime) -> Result<(), Fail> {
             "grammar \"STACK\" document \"\"",
         ),
         (
+            "%page\r1\n%schedule\rauto\n\n%document\nA\n%grammar\nB\n",
+            "grammar \"B\\n\" document \"A\\n\"",
+        ),
+        (
+            "%page 1\n%grammar\nA\n%document\nB\n%schedule\nC\n",
+            "grammar \"A\\n\" schedule \"C\\n\" document \"B\\n\"",
+        ),
+        (
+            "%page 1\n%document\nB\n%grammar\nA\n%schedule auto\n \n",
+            "grammar \"A\\n\" document \"B\\n\"",
+        ),
+        (
+            "%page 1\n%schedule\nC\n%grammar\nA\n%document\nB\n",
+            "grammar \"A\\n\" schedule \"C\\n\" document \"B\\n\"",
+        ),
+        (
             "%page 1\n%schedule\n%document\n%grammar\n%",
             "UnknownSection { line: 5 }",
         ),
@@ -155,11 +171,35 @@ fn pages_without_a_document(rt: HostRuntime) -> Result<(), Fail> {
     Ok(())
 }
 
+/// The stack grammar, line by line.
+const STACK: [&str; 17] = [
+    "root Page;",
+    "interface Page { syn h; show h; }",
+    "interface Box { inh x, y; syn w, h; show x, y, w, h; }",
+    "class Sheet : Page { body : Box;",
+    "  self.h := body.h;",
+    "  body.x := 0;",
+    "  body.y := 0;",
+    "}",
+    "class Column : Box { kids : [Box];",
+    "  self.w := fold kids from 0 with max(acc, this.w);",
+    "  self.h := fold kids from 0 with acc + this.h;",
+    "  kids.x := self.x;",
+    "  kids.y := first self.y then prev.y + prev.h;",
+    "}",
+    "class Word : Box { input iw, ih;",
+    "  self.w := self.iw;",
+    "  self.h := self.ih;",
+];
+
 #[test]
-fn shipped_grammars(rt: HostRuntime) {
+fn shipped_grammars(rt: HostRuntime) -> Result<(), Fail> {
+    let mut text = String::new(rt.alloc());
+    for line in STACK {
+        writeln!(text, "{line}")?;
+    }
+    writeln!(text, "}}")?;
     assert_eq!(rt; shipped("stock"), None);
-    let stack = shipped("stack").unwrap_or("");
-    assert_eq!(rt; stack.len(), 466);
-    assert!(rt; stack.starts_with("root Page;\ninterface Page { syn h; show h; }\n"));
-    assert!(rt; stack.ends_with("\n  self.h := self.ih;\n}\n"));
+    assert_eq!(rt; shipped("stack"), Some(text.as_str()));
+    Ok(())
 }

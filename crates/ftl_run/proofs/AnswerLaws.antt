@@ -13,7 +13,7 @@ use Rattle.ftl_model.specs.Stack.{stack}
 use Rattle.ftl_tree.specs.FirstForm.{IsPage}
 use Rattle.ftl_tree.proofs.Documents.{document_is_tree, one_page}
 use Rattle.ftl_order.proofs.StackRank.{one_stack_list}
-use Rattle.ftl_run.specs.Headline.{OfAnswer, OneTable, IsAnswerStatus}
+use Rattle.ftl_run.specs.Headline.{OfAnswer, OneTable, IsPageStatus}
 use Rattle.ftl_run.specs.Answer.{Answer, IsAnswer, bad_words, too_long, not_built, boxes_of, refused, run_words, laid_out, HasOneAnswer}
 
 pub page_is_tree : (bytes : List ℕ) (t : Forest) → IsPage bytes t → IsTreeOf stack t
@@ -87,5 +87,5 @@ one_table_holds words None = tt
 one_table_holds words (Some bytes) = λ is t p. one_stack_list t (page_is_tree bytes t p)
 
 -- no answer has the status of a write fault
-pub not_a_write_fault : (status : ℕ) → IsAnswerStatus status → 1 ≡ status → ⊥
+pub not_a_write_fault : (status : ℕ) → (status ≡ 2) ⊎ IsPageStatus status → 1 ≡ status → ⊥
 not_a_write_fault status h e = omega (arith, h, e)

@@ -13,7 +13,7 @@ use Rattle.ftl_model.specs.Stack.{stack}
 use Rattle.ftl_model.specs.StackNames.{stack_names}
 use Rattle.ftl_order.proofs.StackRank.{one_stack_list, one_stack_table}
 use Rattle.ftl_run.specs.Answer.{Answer, run_words}
-use Rattle.ftl_run.specs.Headline.{texts, IsAnswerStatus}
+use Rattle.ftl_run.specs.Headline.{texts, IsPageStatus}
 use Rattle.ftl_run.specs.Deciding.{LaysOut}
 use Rattle.ftl_run.proofs.Agreeing.{boxes-same, shows_overflow-same}
 use Rattle.ftl_tree.proofs.Documents.{pointwise-true}
@@ -32,11 +32,11 @@ lays_out t s a h solves status text =
           ∙ ap (λ x. record { status = cond (shows_overflow stack_names t v) 8 0; text = x }) (text ∙ boxes-same t s v h agree);
     }
 
-pub laid_out_status : (t : Forest) (a : Answer) → LaysOut t a → IsAnswerStatus a.status
-laid_out_status t a l = subst (λ (b : Answer). IsAnswerStatus b.status) (sym l.answer) (go (shows_overflow stack_names t (value_in stack t overflow l.values)))
+pub laid_out_status : (t : Forest) (a : Answer) → LaysOut t a → IsPageStatus a.status
+laid_out_status t a l = subst (λ (b : Answer). IsPageStatus b.status) (sym l.answer) (go (shows_overflow stack_names t (value_in stack t overflow l.values)))
   where
-    go : (b : Bool) → IsAnswerStatus (cond b 8 0)
-    go true = inr (inr (inr refl))
+    go : (b : Bool) → IsPageStatus (cond b 8 0)
+    go true = inr (inr refl)
     go false = inl refl
 
 -- what holds of any list holds of the one that is told

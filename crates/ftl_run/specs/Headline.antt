@@ -21,9 +21,9 @@ OfAnswer words (Some bytes) P = (a : Answer) → IsAnswer words bytes a → P a
 abbrev pub IsTrouble : ℕ → Type 0
 IsTrouble status = (status ≡ 1) ⊎ ((status ≡ 3) ⊎ (status ≡ 9))
 
--- the statuses of answers: done, refused words, refused page, done with Overflow
-abbrev pub IsAnswerStatus : ℕ → Type 0
-IsAnswerStatus status = (status ≡ 0) ⊎ ((status ≡ 2) ⊎ ((status ≡ 4) ⊎ (status ≡ 8)))
+-- the statuses of answers to the command: done, refused page, done with Overflow
+abbrev pub IsPageStatus : ℕ → Type 0
+IsPageStatus status = (status ≡ 0) ⊎ ((status ≡ 4) ⊎ (status ≡ 8))
 
 -- A write fault comes only where the sink's count rose, with a front of the answer's text written; a read fault only where
 -- the source's count rose; and with a read fault or want of memory nothing was written.

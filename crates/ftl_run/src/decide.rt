@@ -1,11 +1,11 @@
-ghost use Rattle.std.specs.Prelude.{◌≡◌, ◌≢◌, ◌≤◌, ◌<◌, ◌++◌, ◌↔◌, IsTrue, IfOk, OnOk, IfSome, length, codes, Some, [], if◌then◌else◌};
+ghost use Rattle.std.specs.Prelude.{◌≡◌, ◌≢◌, ◌≤◌, ◌<◌, ◌++◌, ◌⊎◌, ◌↔◌, IsTrue, IfOk, OnOk, IfSome, length, codes, Some, [], if◌then◌else◌};
 ghost use Rattle.std.specs.Result.{IsErrOf};
 ghost use Rattle.ftl_edge.specs.Counts.{Rose};
 ghost use Rattle.ftl_model.specs.Stack.{stack};
 ghost use Rattle.ftl_model.specs.TreeOf.{IsTreeOf};
 ghost use Rattle.ftl_run.specs.declared.decide.Undecided.TheVariants.{OutOfMemory};
 ghost use Rattle.ftl_run.specs.Answer.{IsAnswer, run_words, refused};
-ghost use Rattle.ftl_run.specs.Headline.{texts, IsAnswerStatus};
+ghost use Rattle.ftl_run.specs.Headline.{texts, IsPageStatus};
 ghost use Rattle.ftl_run.specs.Deciding.{answer_of, LaysOut};
 
 use crate::status::Status;
@@ -86,7 +86,7 @@ fn boxes_of(alloc: Global, tree: &Tree) -> Result<Decided, AllocError>
 fn lay_out(alloc: Global, bytes: &[u8]) -> Result<Decided, AllocError>
     requires { length bytes.now ≤ 67108864 }
     ensures answer { IfOk result (λ d. IsAnswer run_words bytes.now (answer_of d)) }
-    ensures status { IfOk result (λ d. IsAnswerStatus d.status.0) }
+    ensures status { IfOk result (λ d. IsPageStatus d.status.0) }
 {
     match read_stack_page(alloc, bytes) {
         Ok(tree) => boxes_of(alloc, &tree),
@@ -102,7 +102,7 @@ fn lay_out(alloc: Global, bytes: &[u8]) -> Result<Decided, AllocError>
 /// The answer to the page that the source has left.
 fn read_and_lay_out<S: Source>(alloc: Global, source: &mut S) -> Result<Decided, Undecided>
     ensures answer { IfOk result (λ d. IfSome (S.remaining source.old) (λ left. IsAnswer run_words left (answer_of d))) }
-    ensures status { IfOk result (λ d. IsAnswerStatus d.status.0) }
+    ensures status { IfOk result (λ d. IsPageStatus d.status.0) }
     ensures end { IfOk result (λ d. answer_of d ≢ refused 4 (codes "refused page: too long")
         → IfSome (S.remaining source.old) (λ _. S.remaining source.new ≡ Some [])) }
     ensures fault { IsErrOf result Undecided.ReadFault → Rose (S.fault_count source.old) (S.fault_count source.new) }
@@ -126,7 +126,10 @@ pub fn decide<S: Source>(
     source: &mut S,
 ) -> Result<Decided, Undecided>
     ensures answer { IfOk result (λ d. IfSome (S.remaining source.old) (λ left. IsAnswer (texts words.now) left (answer_of d))) }
-    ensures status { IfOk result (λ d. IsAnswerStatus d.status.0) }
+    ensures status { IfOk result (λ d. (d.status.0 ≡ 2) ⊎ IsPageStatus d.status.0) }
+    ensures page { texts words.now ≡ run_words → IfOk result (λ d. IsPageStatus d.status.0) }
+    ensures refused { texts words.now ≢ run_words
+        → IfOk result (λ d. answer_of d ≡ refused 2 (codes "refused words")) }
     ensures end { IfOk result (λ d. texts words.now ≡ run_words → answer_of d ≢ refused 4 (codes "refused page: too long")
         → IfSome (S.remaining source.old) (λ _. S.remaining source.new ≡ Some [])) }
     ensures fault { IsErrOf result Undecided.ReadFault → Rose (S.fault_count source.old) (S.fault_count source.new) }

@@ -1,7 +1,8 @@
-ghost use Rattle.std.specs.Prelude.{◌≡◌, ◌⊎◌, Option, List, ℕ};
+ghost use Rattle.std.specs.Prelude.{◌≡◌, ◌≢◌, ◌⊎◌, Option, List, ℕ, codes};
 ghost use Rattle.std.specs.Io.KnownBytes.{Appends};
 ghost use Rattle.ftl_edge.specs.Counts.{Rose};
-ghost use Rattle.ftl_run.specs.Headline.{texts, OfAnswer, IsTrouble, FaultsHaveCauses, ReadsInput, OneTable};
+ghost use Rattle.ftl_run.specs.Headline.{texts, OfAnswer, IsTrouble, IsPageStatus, FaultsHaveCauses, ReadsInput, OneTable};
+ghost use Rattle.ftl_run.specs.Answer.{run_words};
 
 use crate::decide::{Undecided, decide};
 use crate::status::Status;
@@ -13,7 +14,8 @@ use std::alloc::Global;
 ///
 /// For every page, where it is accepted, exactly one table gives each attribute of each node the value
 /// of its rule, and the bytes written are that table's boxes in preorder, with values out of range as
-/// `overflow`; otherwise they are the one refusal line that the definitions name.
+/// `overflow`; otherwise they are the one refusal line that the definitions name. This speaks of the
+/// command `run`, of sources and sinks that tell their bytes and don't fail, and of enough memory.
 pub fn layout_top<S: Source, K: Sink>(
     alloc: Global,
     words: &[String],
@@ -27,6 +29,12 @@ pub fn layout_top<S: Source, K: Sink>(
     // With the answer's status, its whole text was appended.
     ensures text { OfAnswer (texts words.now) (S.remaining source.old)
         (λ a. result.0 ≡ a.status → Appends (K.written sink.old) (K.written sink.new) a.text) }
+
+    // Words that are no command are refused, and no others, even where the source doesn't tell its bytes.
+    ensures refused { texts words.now ≢ run_words → (result.0 ≡ 2) ⊎ IsTrouble result.0 }
+    ensures line { texts words.now ≢ run_words → result.0 ≡ 2
+        → Appends (K.written sink.old) (K.written sink.new) (codes "refused words\n") }
+    ensures page { texts words.now ≡ run_words → IsPageStatus result.0 ⊎ IsTrouble result.0 }
 
     // A fault has its cause, and what was appended then.
     ensures faults { FaultsHaveCauses result.0 (texts words.now) (S.remaining source.old) (K.written sink.old) (K.written sink.new)
