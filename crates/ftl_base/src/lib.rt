@@ -3,6 +3,7 @@
 //! The stack of values and truths that code runs on is here too.
 #![tactic(auto)]
 
+mod comparison;
 mod stack;
 #[cfg(test)]
 mod tests;
@@ -10,6 +11,7 @@ mod truth;
 mod val;
 mod word;
 
+pub use comparison::Cmp;
 pub use stack::{CodeStack, Entry};
 pub use truth::Truth;
 pub use val::{Val, add, greatest};
