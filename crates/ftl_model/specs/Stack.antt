@@ -47,7 +47,7 @@ word_iw = 5
 abbrev pub word_ih : ℕ
 word_ih = 6
 
--- a rule that reads the same for each kid
+-- a rule with one list of reads, for the first kid and for each later one
 abbrev pub same_for_all : List Read → ((ℕ → ℕ) → ℕ → (Occurrence → Value) → Value) → Rule Value
 same_for_all reads value = record { first = reads; later = reads; value = value }
 

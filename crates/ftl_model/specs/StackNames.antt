@@ -1,7 +1,7 @@
 -- What is printed of the stack grammar.
 use Rattle.std.specs.Prelude.{ℕ, ◌==◌, if◌then◌else◌, List, [], ◌∷◌, codes}
 use Rattle.ftl_model.specs.Boxes.{Names}
-use Rattle.ftl_model.specs.Stack.{sheet, column, page_h, box_x, box_y, box_w, box_h, word_iw}
+use Rattle.ftl_model.specs.Stack.{sheet, column, page_h, box_x, box_y, box_w, box_h, word_iw, word_ih}
 
 abbrev pub stack_class_name : ℕ → List ℕ
 stack_class_name class = if class == sheet then codes "Sheet" else (if class == column then codes "Column" else codes "Word")
@@ -10,7 +10,7 @@ abbrev pub stack_attribute_name : ℕ → List ℕ
 stack_attribute_name a =
     if a == box_x then codes "x"
     else (if a == box_y then codes "y"
-    else (if a == box_w then codes "w" else (if a == word_iw then codes "iw" else (if a == 6 then codes "ih" else codes "h"))))
+    else (if a == box_w then codes "w" else (if a == word_iw then codes "iw" else (if a == word_ih then codes "ih" else codes "h"))))
 
 -- `interface Page` shows h, and `interface Box` shows x, y, w, h
 abbrev pub stack_shown : ℕ → List ℕ

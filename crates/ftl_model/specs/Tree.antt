@@ -1,4 +1,4 @@
--- Trees of boxes, as a family of trees side by side. What the words of a tree mean is for a grammar to say.
+-- Trees of boxes, as a family of trees side by side. What classes, children and inputs mean is for a grammar to say.
 use Rattle.std.specs.Prelude.{ℕ, zero, suc, ◌+◌, max, ◌==◌, if◌then◌else◌, ℤ, List, []}
 
 -- Trees side by side, first to last. Each has a class, says in which declared child of its parent it stands, and has

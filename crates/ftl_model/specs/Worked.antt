@@ -1,5 +1,5 @@
 -- Worked pages of the stack grammar, written out by hand, to hold the definitions against.
-use Rattle.std.specs.Prelude.{◌≡◌, ℕ, List, [], ◌∷◌, pos, map}
+use Rattle.std.specs.Prelude.{◌≡◌, ℕ, List, [], ◌∷◌, ◌++◌, pos, map}
 use Rattle.std.specs.List.{AllByRecursion}
 use Rattle.ftl_model.specs.Values.{Value, number, overflow}
 use Rattle.ftl_model.specs.Tree.{Forest, none, tree}
@@ -13,12 +13,15 @@ EachHolds t values =
     let s = value_in stack t overflow values in
     AllByRecursion (λ i. s i ≡ equation_value stack t s (stack.sort i.attribute) i.node i.attribute) (instances stack t)
 
+-- a word of this size, before the trees beside it
 abbrev pub word_of_size : ℕ → ℕ → Forest → Forest
 word_of_size w h beside = tree word only_child (pos w ∷ (pos h ∷ [])) none beside
 
+-- a sheet with this body
 abbrev pub sheet_over : Forest → Forest
 sheet_over body = tree sheet 0 [] body none
 
+-- a column with these kids, before the trees beside it
 abbrev pub column_of : Forest → Forest → Forest
 column_of kids beside = tree column only_child [] kids beside
 
@@ -34,6 +37,7 @@ abbrev pub two_words_values : List Value
 two_words_values =
     numbers (25 ∷ (0 ∷ (0 ∷ (30 ∷ (25 ∷ (0 ∷ (0 ∷ (20 ∷ (10 ∷ (20 ∷ (10 ∷ (0 ∷ (10 ∷ (30 ∷ (15 ∷ (30 ∷ (15 ∷ [])))))))))))))))))
 
+-- a column without boxes
 abbrev pub empty_column : Forest
 empty_column = sheet_over (column_of none none)
 
@@ -44,3 +48,32 @@ tall_words = sheet_over (column_of (word_of_size 1 1 (word_of_size 1 2147483647 
 abbrev pub tall_words_values : List Value
 tall_words_values =
     overflow ∷ (number (pos 0) ∷ (number (pos 0) ∷ (number (pos 1) ∷ (overflow ∷ numbers (0 ∷ (0 ∷ (1 ∷ (1 ∷ (1 ∷ (1 ∷ (0 ∷ (1 ∷ (1 ∷ (2147483647 ∷ (1 ∷ (2147483647 ∷ []))))))))))))))))
+
+-- a column of a column (words of 5 by 1 and 9 by 2), a word of 3 by 4, and a column (a word of 2 by 8)
+abbrev pub nested_columns : Forest
+nested_columns =
+    sheet_over
+    (column_of
+    (column_of (word_of_size 5 1 (word_of_size 9 2 none)) (word_of_size 3 4 (column_of (word_of_size 2 8 none) none)))
+    none)
+
+-- node by node: the sheet, the column, the first column below it with two words, the word, the last column with its word
+abbrev pub nested_columns_values : List Value
+nested_columns_values =
+    numbers (15 ∷ []) ++ numbers (0 ∷ 0 ∷ 9 ∷ 15 ∷ [])
+    ++ numbers (0 ∷ 0 ∷ 9 ∷ 3 ∷ []) ++ numbers (0 ∷ 0 ∷ 5 ∷ 1 ∷ 5 ∷ 1 ∷ []) ++ numbers (0 ∷ 1 ∷ 9 ∷ 2 ∷ 9 ∷ 2 ∷ [])
+    ++ numbers (0 ∷ 3 ∷ 3 ∷ 4 ∷ 3 ∷ 4 ∷ [])
+    ++ numbers (0 ∷ 7 ∷ 2 ∷ 8 ∷ []) ++ numbers (0 ∷ 7 ∷ 2 ∷ 8 ∷ 2 ∷ 8 ∷ [])
+
+-- two heights of 2147483647, and then one of 5
+abbrev pub greatest_words : Forest
+greatest_words =
+    sheet_over (column_of (word_of_size 1 2147483647 (word_of_size 1 2147483647 (word_of_size 1 5 none))) none)
+
+-- the third word stands at more than the greatest number
+abbrev pub greatest_words_values : List Value
+greatest_words_values =
+    overflow ∷ numbers (0 ∷ 0 ∷ 1 ∷ []) ++ (overflow ∷ [])
+    ++ numbers (0 ∷ 0 ∷ 1 ∷ 2147483647 ∷ 1 ∷ 2147483647 ∷ [])
+    ++ numbers (0 ∷ 2147483647 ∷ 1 ∷ 2147483647 ∷ 1 ∷ 2147483647 ∷ [])
+    ++ (number (pos 0) ∷ overflow ∷ numbers (1 ∷ 5 ∷ 1 ∷ 5 ∷ []))

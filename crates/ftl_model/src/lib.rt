@@ -5,4 +5,7 @@
 
 mod worked;
 
-pub use worked::{a_column_of_two_words, an_empty_column, overflowing_heights};
+pub use worked::{
+    a_column_of_two_words, an_empty_column, an_overflowing_place, columns_in_a_column,
+    overflowing_heights,
+};
