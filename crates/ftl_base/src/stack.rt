@@ -52,6 +52,7 @@ impl CodeStack {
         self.depth
     }
 
+    /// Takes off all entries.
     pub fn clear(&mut self)
         ensures empty { self.new.entries ≡ [] }
         ensures room { self.new.room ≡ self.old.room }
@@ -67,6 +68,7 @@ impl CodeStack {
         self.entries.push(entry).unwrap();
     }
 
+    /// Adds a value at the end.
     pub fn push_val(&mut self, v: Val)
         requires { length self.old.entries < self.old.room }
         ensures entries { self.new.entries ≡ self.old.entries ++ Entry.Number v ∷ [] }
@@ -75,6 +77,7 @@ impl CodeStack {
         self.push(Entry::Number(v));
     }
 
+    /// Adds a truth at the end.
     pub fn push_truth(&mut self, t: Truth)
         requires { length self.old.entries < self.old.room }
         ensures entries { self.new.entries ≡ self.old.entries ++ Entry.Test t ∷ [] }

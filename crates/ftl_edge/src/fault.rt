@@ -19,7 +19,7 @@ pub enum ReadAllFault {
     OutOfMemory,
 }
 
-/// The sink failed before all bytes were written.
+/// The sink failed, or took none of the bytes that were left, before all of them were written.
 #[derive(Debug, Clone, Copy, PartialEq, Eq)]
 pub struct WriteFault;
 

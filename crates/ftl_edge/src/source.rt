@@ -26,7 +26,7 @@ pub trait Source {
     /// The source never says that it is at its end. One that leaves this out doesn't promise it.
     ghost never_ends: { Self → Type 0 } = { λ _. ⊥ };
 
-    /// Takes bytes into the front of `room`, and answers how many. None for a room that is not
+    /// Takes bytes into the front of `room`, and answers how many. 0 for a room that is not
     /// empty means the end.
     fn read_some(&mut self, room: &mut [u8]) -> Result<usize, Failed>
         // What is taken.

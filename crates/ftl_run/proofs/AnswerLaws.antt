@@ -10,17 +10,17 @@ use Rattle.ftl_model.specs.Tree.{Forest}
 use Rattle.ftl_model.specs.TreeOf.{IsTreeOf}
 use Rattle.ftl_model.specs.Table.{SolvesList}
 use Rattle.ftl_model.specs.Stack.{stack}
-use Rattle.ftl_tree.specs.FirstForm.{IsPage}
+use Rattle.ftl_tree.specs.FirstForm.{IsInFirstForm}
 use Rattle.ftl_tree.proofs.Documents.{document_is_tree, one_page}
 use Rattle.ftl_order.proofs.StackRank.{one_stack_list}
 use Rattle.ftl_run.specs.Headline.{OfAnswer, OneTable, IsPageStatus}
 use Rattle.ftl_run.specs.Answer.{Answer, IsAnswer, bad_words, too_long, not_built, boxes_of, refused, run_words, laid_out, HasOneAnswer}
 
-pub page_is_tree : (bytes : List ℕ) (t : Forest) → IsPage bytes t → IsTreeOf stack t
+pub page_is_tree : (bytes : List ℕ) (t : Forest) → IsInFirstForm bytes t → IsTreeOf stack t
 page_is_tree bytes t p = document_is_tree p.body t p.document
 
 -- what the answer to the words that lay out a page is, beside the words
-pub one_for_page : (bytes : List ℕ) (t u : Forest) (xs ys : List Value) → IsPage bytes t → IsPage bytes u → SolvesList stack t overflow xs → SolvesList stack u overflow ys → laid_out t xs ≡ laid_out u ys
+pub one_for_page : (bytes : List ℕ) (t u : Forest) (xs ys : List Value) → IsInFirstForm bytes t → IsInFirstForm bytes u → SolvesList stack t overflow xs → SolvesList stack u overflow ys → laid_out t xs ≡ laid_out u ys
 one_for_page bytes t u xs ys p q h k =
     let same = one_page bytes t u p q in
     let moved = subst (λ (f : Forest). SolvesList stack f overflow xs) same h in
@@ -57,7 +57,7 @@ words_decided (w ∷ []) = go (same_bytes w (codes "run")) refl
 page_answer : (bytes : List ℕ) → (a : Answer) × IsAnswer run_words bytes a
 page_answer bytes = go (cases_lt 67108864 (length bytes))
   where
-    decided : length bytes ≤ 67108864 → Decided (IsPage bytes) → (a : Answer) × IsAnswer run_words bytes a
+    decided : length bytes ≤ 67108864 → Decided (IsInFirstForm bytes) → (a : Answer) × IsAnswer run_words bytes a
     decided short (inl page) =
         let table = (one_stack_list page.0 (page_is_tree bytes page.0 page.1)).some_solves in
         (laid_out page.0 table.0, boxes_of page.1 table.1)

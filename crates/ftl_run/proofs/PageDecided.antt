@@ -7,7 +7,7 @@ use Rattle.ftl_tree.specs.declared.symbol.Symbol.{Symbol}
 use Rattle.ftl_tree.specs.Scanning.{Scanned, scanned, no_symbols, same_bytes}
 use Rattle.ftl_tree.specs.Reading.{State, state, sheet_rows}
 use Rattle.ftl_tree.specs.Document.{IsDocument}
-use Rattle.ftl_tree.specs.FirstForm.{IsPage, heading}
+use Rattle.ftl_tree.specs.FirstForm.{IsInFirstForm, heading}
 use Rattle.ftl_tree.proofs.ScanningLemmas.{same_bytes-true}
 use Rattle.ftl_tree.proofs.SpelledRows.{no_rows}
 use Rattle.ftl_tree.proofs.Documents.{no_document, no_document_with_more, document_found, page_found, page_document}
@@ -39,10 +39,10 @@ document_decided bytes = go (sheet_rows (state (scanned bytes) no_rows)) refl
     go None e = inr (no_document bytes e)
     go (Some s) e = at_end s e (no_symbols_or s.text)
 
-pub page_decided : (bytes : List ℕ) → length bytes ≤ 67108864 → Decided (IsPage bytes)
+pub page_decided : (bytes : List ℕ) → length bytes ≤ 67108864 → Decided (IsInFirstForm bytes)
 page_decided bytes short = go (same_bytes (take (length heading) bytes) heading) refl (document_decided (drop (length heading) bytes))
   where
-    go : (is : Bool) → same_bytes (take (length heading) bytes) heading ≡ is → Decided (IsDocument (drop (length heading) bytes)) → Decided (IsPage bytes)
+    go : (is : Bool) → same_bytes (take (length heading) bytes) heading ≡ is → Decided (IsDocument (drop (length heading) bytes)) → Decided (IsInFirstForm bytes)
     go false e document =
         inr (λ t p.
         let front : take (length heading) bytes ≡ heading = ap (take (length heading)) p.lines ∙ take_at heading p.body (length heading) refl in

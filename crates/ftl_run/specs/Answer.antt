@@ -6,7 +6,7 @@ use Rattle.ftl_model.specs.Table.{SolvesList, value_in}
 use Rattle.ftl_model.specs.Boxes.{boxes, shows_overflow}
 use Rattle.ftl_model.specs.Stack.{stack}
 use Rattle.ftl_model.specs.StackNames.{stack_names}
-use Rattle.ftl_tree.specs.FirstForm.{IsPage}
+use Rattle.ftl_tree.specs.FirstForm.{IsInFirstForm}
 
 pub record Answer : Type 0 where
   pub status : ℕ
@@ -34,8 +34,8 @@ laid_out t values =
 pub data IsAnswer : List (List ℕ) → List ℕ → Answer → Type 0 where
   bad_words : {words : List (List ℕ)} {bytes : List ℕ} → words ≢ run_words → IsAnswer words bytes (refused 2 (codes "refused words"))
   too_long : {bytes : List ℕ} → 67108864 < length bytes → IsAnswer run_words bytes (refused 4 (codes "refused page: too long"))
-  not_built : {bytes : List ℕ} → length bytes ≤ 67108864 → ((t : Forest) → IsPage bytes t → ⊥) → IsAnswer run_words bytes (refused 4 (codes "refused page: form not built"))
-  boxes_of : {bytes : List ℕ} {t : Forest} {values : List Value} → IsPage bytes t → SolvesList stack t overflow values → IsAnswer run_words bytes (laid_out t values)
+  not_built : {bytes : List ℕ} → length bytes ≤ 67108864 → ((t : Forest) → IsInFirstForm bytes t → ⊥) → IsAnswer run_words bytes (refused 4 (codes "refused page: form not built"))
+  boxes_of : {bytes : List ℕ} {t : Forest} {values : List Value} → IsInFirstForm bytes t → SolvesList stack t overflow values → IsAnswer run_words bytes (laid_out t values)
 
 -- words and bytes have one answer
 pub record HasOneAnswer (words : List (List ℕ)) (bytes : List ℕ) : Type 0 where

@@ -1,4 +1,4 @@
-ghost use Rattle.std.specs.Prelude.{◌≡◌, ◌≢◌, ◌≤◌, ◌<◌, ◌++◌, ◌⊎◌, ◌↔◌, IsTrue, IfOk, OnOk, IfSome, length, codes, Some, [], if◌then◌else◌};
+ghost use Rattle.std.specs.Prelude.{◌≡◌, ◌≢◌, ◌≤◌, ◌<◌, ◌+◌, ◌++◌, ◌⊎◌, ◌↔◌, IsTrue, IfOk, OnOk, IfSome, length, codes, Some, [], if◌then◌else◌};
 ghost use Rattle.std.specs.Result.{IsErrOf};
 ghost use Rattle.ftl_edge.specs.Counts.{Rose};
 ghost use Rattle.ftl_model.specs.Stack.{stack};
@@ -106,6 +106,8 @@ fn read_and_lay_out<S: Source>(alloc: Global, source: &mut S) -> Result<Decided,
     ensures end { IfOk result (λ d. answer_of d ≢ refused 4 (codes "refused page: too long")
         → IfSome (S.remaining source.old) (λ _. S.remaining source.new ≡ Some [])) }
     ensures fault { IsErrOf result Undecided.ReadFault → Rose (S.fault_count source.old) (S.fault_count source.new) }
+    ensures at_most { S.taken source.new ≤ S.taken source.old + 67108865 }
+    ensures turns { S.calls source.new ≤ S.calls source.old + 67108866 }
 {
     match read_all(alloc, source, MAX_PAGE) {
         Ok(bytes) => Ok(lay_out(alloc, &bytes)?),
@@ -133,6 +135,8 @@ pub fn decide<S: Source>(
     ensures end { IfOk result (λ d. texts words.now ≡ run_words → answer_of d ≢ refused 4 (codes "refused page: too long")
         → IfSome (S.remaining source.old) (λ _. S.remaining source.new ≡ Some [])) }
     ensures fault { IsErrOf result Undecided.ReadFault → Rose (S.fault_count source.old) (S.fault_count source.new) }
+    ensures at_most { S.taken source.new ≤ S.taken source.old + 67108865 }
+    ensures turns { S.calls source.new ≤ S.calls source.old + 67108866 }
     ensures untouched { texts words.now ≢ run_words → source.new ≡ source.old }
     ensures no_read { texts words.now ≢ run_words → IsErrOf result Undecided.ReadFault → ⊥ }
 {

@@ -14,7 +14,7 @@ use Rattle.ftl_tree.specs.Rows.{RowLists, rows_of}
 use Rattle.ftl_tree.specs.Flat.{AreRows, tree_of}
 use Rattle.ftl_tree.specs.Reading.{State, state, sheet_rows}
 use Rattle.ftl_tree.specs.Document.{IsDocument, HasRows}
-use Rattle.ftl_tree.specs.FirstForm.{IsPage, heading}
+use Rattle.ftl_tree.specs.FirstForm.{IsInFirstForm, heading}
 use Rattle.ftl_tree.proofs.Scanner.{scans_scanned}
 use Rattle.ftl_tree.proofs.ScannerSound.{scanned_scans}
 use Rattle.ftl_tree.proofs.RowShapes.{tree_of-rows_of, are_rows_of}
@@ -88,7 +88,7 @@ tree_of_document bytes rows h =
     subst (λ (t : Forest). IsDocument bytes t) (sym (ap tree_of h.rows_are ∙ tree_of-rows_of h.tree (document_is_tree bytes h.tree h.document))) h.document
 
 -- a page has one document at most
-pub one_page : (bytes : List ℕ) (t u : Forest) → IsPage bytes t → IsPage bytes u → t ≡ u
+pub one_page : (bytes : List ℕ) (t u : Forest) → IsInFirstForm bytes t → IsInFirstForm bytes u → t ≡ u
 one_page bytes t u p q =
     let same : p.body ≡ q.body = append_cancel_left heading p.body q.body (sym p.lines ∙ q.lines) in
     one_document q.body t u (subst (λ (b : List ℕ). IsDocument b t) same p.document) q.document
@@ -98,7 +98,7 @@ pub from_start : (bytes : List ℕ) (text : Scanned) (rows : RowLists) (outcome 
 from_start bytes text rows outcome e f h = ap (λ t. sheet_rows (state t no_rows)) (sym e) ∙ ap (λ r. sheet_rows (state text r)) (sym f) ∙ h
 
 -- a page behind whose heading stands a document
-pub page_found : (bytes body : List ℕ) (t : Forest) → length bytes ≤ 67108864 → take (length heading) bytes ≡ heading → body ≡ drop (length heading) bytes → IsDocument body t → IsPage bytes t
+pub page_found : (bytes body : List ℕ) (t : Forest) → length bytes ≤ 67108864 → take (length heading) bytes ≡ heading → body ≡ drop (length heading) bytes → IsDocument body t → IsInFirstForm bytes t
 page_found bytes body t short front rest d =
     record {
       short = short;
@@ -108,7 +108,7 @@ page_found bytes body t short front rest d =
     }
 
 -- the document of a page is what stands behind the heading
-pub page_document : (bytes body : List ℕ) (t : Forest) → body ≡ drop (length heading) bytes → IsPage bytes t → IsDocument body t
+pub page_document : (bytes body : List ℕ) (t : Forest) → body ≡ drop (length heading) bytes → IsInFirstForm bytes t → IsDocument body t
 page_document bytes body t rest p =
     let same : p.body ≡ body =
     sym (drop_at heading p.body (length heading) refl) ∙ ap (drop (length heading)) (sym p.lines) ∙ sym rest

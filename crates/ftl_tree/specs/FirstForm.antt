@@ -8,7 +8,7 @@ abbrev pub heading : List ℕ
 heading = codes "%page 1\n%grammar stack\n%schedule auto\n%document\n"
 
 -- the bytes are a page with this document: at most 67108864 of them, and behind the heading they spell it
-pub record IsPage (bytes : List ℕ) (t : Forest) : Type 0 where
+pub record IsInFirstForm (bytes : List ℕ) (t : Forest) : Type 0 where
   pub short : length bytes ≤ 67108864
   pub body : List ℕ
   pub lines : bytes ≡ heading ++ body

@@ -1,8 +1,10 @@
 ghost use Rattle.std.specs.Prelude.{◌≡◌, IfOk};
 ghost use Rattle.std.specs.Result.{IsErrOf};
 ghost use Rattle.ftl_model.specs.Tree.{Forest};
+ghost use Rattle.ftl_model.specs.TreeOf.{IsTreeOf};
+ghost use Rattle.ftl_model.specs.Stack.{stack};
 ghost use Rattle.ftl_tree.specs.Document.{IsDocument, ReadsDocument};
-ghost use Rattle.ftl_tree.specs.FirstForm.{IsPage};
+ghost use Rattle.ftl_tree.specs.FirstForm.{IsInFirstForm};
 
 use crate::fault::StackFault;
 use crate::reader::Reader;
@@ -45,10 +47,11 @@ fn read_document(alloc: Global, document: &[u8]) -> Result<Tree, StackFault>
 /// Reads a page whose grammar is the stack grammar and whose schedule is the automatic one.
 pub fn read_stack_page(alloc: Global, bytes: &[u8]) -> Result<Tree, StackFault>
     // What is read is the page's one document.
-    ensures found { IfOk result (λ t. IsPage bytes.now t) }
-    ensures one { IfOk result (λ t. (other : Forest) → IsPage bytes.now other → other ≡ t) }
-    // What is refused is no page.
-    ensures not_built { IsErrOf result StackFault.NotBuilt → (t : Forest) → IsPage bytes.now t → ⊥ }
+    ensures found { IfOk result (λ t. IsInFirstForm bytes.now t) }
+    ensures one { IfOk result (λ t. (other : Forest) → IsInFirstForm bytes.now other → other ≡ t) }
+    ensures tree { IfOk result (λ t. IsTreeOf stack t) }
+    // What is refused is no page in this form.
+    ensures not_built { IsErrOf result StackFault.NotBuilt → (t : Forest) → IsInFirstForm bytes.now t → ⊥ }
 {
     if bytes.len() > MAX_PAGE {
         return Err(StackFault::NotBuilt);

@@ -184,7 +184,7 @@ impl Tree {
 }
 
 impl Tree {
-    /// The number of an input attribute of a node, in pixels.
+    /// The value of an input attribute of a node, in pixels.
     pub fn input(&self, node: u32, attr: u32) -> i64
         requires node { node < size self.now }
         requires attr { IsInputAt self.now (node_at self.now node) attr }

@@ -1,4 +1,4 @@
-use Rattle.std.proofs.Common.{◌≡◌, ◌+◌, ◌∙◌, ap, length, arith}
+use Rattle.std.proofs.Common.{◌+◌, ◌∙◌, ap, length, arith}
 use Rattle.ftl_model.specs.Solves.{attributes_of}
 use Rattle.ftl_model.specs.Table.{place_in, first_instance}
 use Rattle.ftl_model.specs.Path.{node_at}

@@ -1,4 +1,4 @@
-use Rattle.std.proofs.Common.{◌≡◌, ◌∙◌}
+use Rattle.std.proofs.Common.{◌∙◌}
 use Rattle.ftl_tree.specs.FlatTree.{rows_inside}
 use Rattle.ftl_tree.proofs.Access.{kept}
 use Rattle.ftl_tree.proofs.InstanceOffsets.{all_instances}

@@ -1,7 +1,3 @@
-use Rattle.std.proofs.Common.{◌≤◌, ◌+◌}
-use Rattle.ftl_model.specs.Tree.{size}
-use Rattle.ftl_model.specs.TreeOf.{IsTreeOf}
-use Rattle.ftl_model.specs.Stack.{stack}
 use Rattle.ftl_tree.proofs.Walk.{Passed}
 use Rattle.ftl_tree.proofs.tree.Tree.kid.Given as goal
 
