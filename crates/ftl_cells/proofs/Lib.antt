@@ -14,6 +14,7 @@ pub mod Ready
 pub mod Opening
 pub mod Closing
 pub mod Consequences
+pub mod Runs
 pub mod DiamondLaws
 pub mod Shapes
 pub mod ChainLaws

@@ -1,9 +1,22 @@
 -- What the words of a table tell at any moment, whatever steps led there.
 use Rattle.std.specs.Prelude.{◌≡◌, ◌≢◌, ℕ, ◌<◌, List, slice_index}
 use Rattle.ftl_cells.specs.Work.{Meaning, cell_total, kind_at, item_total, step_total, target_of, read_total, read_of, solved_word}
-use Rattle.ftl_cells.specs.State.{live, HandState, cell_word, state_word, last_word_of}
+use Rattle.ftl_cells.specs.State.{live, HandState, Makes, cell_word, state_word, last_word_of}
 use Rattle.ftl_cells.specs.Kept.{hand_at}
-use Rattle.ftl_cells.specs.declared.place.HandPlace.TheVariants.{Working}
+use Rattle.ftl_cells.specs.declared.place.HandPlace.TheVariants.{Looked, Working}
+
+-- any number of steps of any hands, also none
+pub data LeadsTo (m : Meaning) (words : List ℕ) (hands : List HandState) : List ℕ → List HandState → Type 0 where
+  stays : LeadsTo m words hands words hands
+  goes_further : {next last : List ℕ} {more most : List HandState} → LeadsTo m words hands next more
+      → Makes m next more last most → LeadsTo m words hands last most
+
+-- one step, by which a hand that looked at an item comes to work on it
+pub record WinsClaim (m : Meaning) (words : List ℕ) (hands : List HandState) (h i : ℕ) (next : List ℕ)
+    (more : List HandState) : Type 0 where
+  pub made : Makes m words hands next more
+  pub looked : (hand_at hands h).place ≡ live (Looked i)
+  pub mine : (hand_at more h).place ≡ live (Working i 0 0)
 
 -- a cell that a hand is about to read holds the solution's word
 abbrev pub ReadsFindValues : Meaning → List ℕ → List HandState → Type 0

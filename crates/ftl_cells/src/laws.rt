@@ -3,8 +3,8 @@ ghost use Rattle.std.specs.Prelude.{◌≡◌, ℕ, List, slice_index};
 ghost use Rattle.ftl_cells.specs.Work.{Meaning, IsLawful};
 ghost use Rattle.ftl_cells.specs.State.{HandState, Makes, Reached, end_word};
 ghost use Rattle.ftl_cells.specs.Kept.{IsKeptBy, HasEnded, hand_at};
-ghost use Rattle.ftl_cells.specs.Interleavings.{ReadsFindValues, FillsFindEmpty, ClaimsStay};
-ghost use Rattle.ftl_cells.specs.Interleavings.{AllFilled, HoldSolution};
+ghost use Rattle.ftl_cells.specs.Interleavings.{LeadsTo, WinsClaim, ReadsFindValues};
+ghost use Rattle.ftl_cells.specs.Interleavings.{FillsFindEmpty, ClaimsStay, AllFilled, HoldSolution};
 
 /// Between any two steps the rule is kept: the words of the cells and the states of all hands are
 /// always ones that steps lead to, since that is the rule of their table.
@@ -13,10 +13,12 @@ pub fn rule_is_kept()
         → Reached m words hands → IsKeptBy m words hands }
 {}
 
-/// Each step keeps the rule.
+/// Each step keeps the rule, and so does any number of steps.
 pub fn steps_keep_the_rule()
-    ensures { (m : Meaning) (words next : List ℕ) (hands more : List HandState) → IsLawful m
+    ensures one { (m : Meaning) (words next : List ℕ) (hands more : List HandState) → IsLawful m
         → IsKeptBy m words hands → Makes m words hands next more → IsKeptBy m next more }
+    ensures many { (m : Meaning) (words next : List ℕ) (hands more : List HandState) → IsLawful m
+        → IsKeptBy m words hands → LeadsTo m words hands next more → IsKeptBy m next more }
 {}
 
 /// A read never finds its cell empty, but always the solution's word.
@@ -31,11 +33,18 @@ pub fn fills_find_empty_cells()
         → IsKeptBy m words hands → FillsFindEmpty m words hands }
 {}
 
-/// A claim wins only where the item is free, and each step leaves an item that was claimed no longer
-/// free.
-pub fn claims_win_once()
+/// However many steps follow, an item that was claimed is never free again.
+pub fn claims_stay()
     ensures { (m : Meaning) (words next : List ℕ) (hands more : List HandState) → IsLawful m
-        → IsKeptBy m words hands → Makes m words hands next more → ClaimsStay m words next }
+        → IsKeptBy m words hands → LeadsTo m words hands next more → ClaimsStay m words next }
+{}
+
+/// After a hand won the claim of an item, no hand wins a claim of it again, whatever steps of any
+/// hands come between: at most one claim of an item is won.
+pub fn claims_win_once()
+    ensures { (m : Meaning) (first next later last : List ℕ) (all more many most : List HandState)
+        (h g i : ℕ) → IsLawful m → IsKeptBy m first all → WinsClaim m first all h i next more
+        → LeadsTo m next more later many → WinsClaim m later many g i last most → ⊥ }
 {}
 
 /// Where the common end's counter is 0, each item was claimed and filled, and the cells hold the

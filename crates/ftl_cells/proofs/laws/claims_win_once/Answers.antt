@@ -1,5 +1,6 @@
-use Rattle.ftl_cells.proofs.Consequences.{claim_stays}
+use Rattle.ftl_cells.proofs.Runs.{won_once}
 use Rattle.ftl_cells.proofs.laws.claims_win_once.Goals as goal
 
 pub returns : goal.returns
-returns c = λ m words next hands more law k step i l ne. claim_stays m law words hands k i l ne next more step
+returns c = λ m first next later last all more many most h g i law k one run other. won_once m law first next later last
+    all more many most h g i k one run other
