@@ -1,5 +1,5 @@
 -- Each kind of step, made on the table with the right word, is a step of the state.
-use Rattle.std.proofs.Common.{◌≡◌, ℕ, suc, ◌+◌, ◌-◌, ◌%◌, ◌^◌, ◌<◌, ◌≤◌, subst, refl, sym, ap, ◌∙◌, arith, List, get_or, set, eqb}
+use Rattle.std.proofs.Common.{◌≡◌, ℕ, suc, ◌+◌, ◌-◌, ◌%◌, ◌^◌, ◌<◌, ◌≤◌, subst, refl, sym, ap, ◌∙◌, arith, List, [], ◌∷◌, ◌++◌, get_or, set, eqb}
 use Rattle.std.specs.Prelude.{Some, None}
 use Rattle.std.proofs.lemmas.List.{set-get_or}
 use mathlib.Core.Logic.{dite}
@@ -8,29 +8,44 @@ use native.Mathlib.Decide.{ℕ_discrete}
 use lib.ListN.{get_elem?}
 use prog.Atomic.{either}
 use Rattle.atomic_table.specs.Table.{State, step, keeps, Allows, Splits, Joins}
-use Rattle.atomic_table.proofs.Lists.{set_else, exchanged}
+use Rattle.atomic_table.proofs.Lists.{set_here, set_else, exchanged}
 use Rattle.ftl_cells.specs.Work.{Meaning, item_total, next_total, next_at, step_total, target_of, read_total, read_of, solved_word, IsStep, IsLawful}
-use Rattle.ftl_cells.specs.State.{Place, live, HandState, newcomer, given_up, after, after_delivery, load_counter, claim, load_cell, store_cell, mark, delivery, split, join, Sends, IsFree, Steps, finds_ready, finds_waiting, claims, misses, reads, fills, marks, sends, finishes, ends, finds_left, steps, splits, joins, Reached, goes_on, end_word, cell_word, state_word, count_word}
+use Rattle.ftl_cells.specs.State.{Place, live, HandState, newcomer, given_up, after, after_delivery, load_counter, claim, load_cell, store_cell, mark, delivery, split, join, Sends, IsFree, Steps, finds_ready, finds_waiting, claims, misses, reads, fills, marks, sends, finishes, ends, finds_left, Makes, steps, splits, joins, Reached, goes_on, end_word, cell_word, state_word, count_word}
 use Rattle.ftl_cells.specs.Kept.{stage_of, Works, IsInRange, IsHalfFilled, IsKeptBy}
-use Rattle.ftl_cells.specs.Told.{Known, LookTold, look_told, ClaimTold, ClaimTells, claim_told, ReadTells, read_told, FillTells, fill_told, MarkTells, mark_told, SendTold, send_told, finish_told, left_told}
+use Rattle.ftl_cells.specs.Told.{Known, LookTold, LookTells, look_told, ClaimTold, ClaimTells, claim_told, ReadTells, read_told, FillTells, fill_told, MarkTells, mark_told, SendTold, SendTells, send_told, FinishTold, finish_told, LeftTold, left_told}
+use Rattle.ftl_cells.specs.Interleavings.{IsStepOf, IsSplitOf, IsJoinOf}
 use Rattle.ftl_cells.specs.declared.place.HandPlace.TheVariants.{Idle, Looked, Working, Filled, Ended}
 use Rattle.ftl_cells.proofs.Moves.{sends_has, has_one, sends_one}
 use Rattle.ftl_cells.proofs.Deliveries.{next_counter, end_counter}
-use Rattle.ftl_cells.proofs.KeptSteps.{kept, hand_is, range_of}
+use Rattle.ftl_cells.proofs.KeptSteps.{elem_below, kept, hand_is, range_of}
 use Rattle.ftl_cells.proofs.Found.{read_is}
 
 abbrev pub Holds : Meaning → State ℕ HandState → Type 0
 Holds m s = Reached m s.words s.views
 
 -- a play that makes a step of the state
-plays : (m : Meaning) → IsLawful m → (n id : ℕ) (me : Known) (a : ℕ) (f : ℕ → ℕ) (told : ℕ → Known → Type 0)
-    → ((words : List ℕ) (hands : List HandState) → IsKeptBy m words hands → get_elem? hands id ≡ some me.0
+plays : (n id : ℕ) (me : Known) (a : ℕ) (f : ℕ → ℕ) (told : ℕ → Known → Type 0) → IsLawful me.0.of
+    → ((words : List ℕ) (hands : List HandState) → IsKeptBy me.0.of words hands → get_elem? hands id ≡ some me.0
     → get_or words a 0 < 18446744073709551616
-    → (w : HandState) × Steps m words me.0 (set words a (f (get_or words a 0))) w × told (get_or words a 0) (w, me.1))
-    → Allows (Holds m) n id me a f told
-plays m law n id me a f told each s r homes at bound =
-    let e = each s.words s.views (kept m law s.words s.views r) at bound in
-    (e.0, keeps, tt, goes_on r (steps id me.0 e.0 (set s.words a (f (get_or s.words a 0))) at e.1), e.2)
+    → (w : HandState) × Steps me.0.of words me.0 (set words a (f (get_or words a 0))) w × told (get_or words a 0)
+    (w, me.1))
+    → Allows (Holds me.0.of) n id me a f (λ y new. IsStepOf me.0 new.0 × told y new)
+plays n id me a f told law each s r homes at bound =
+    let e = each s.words s.views (kept me.0.of law s.words s.views r) at bound in
+    let made : Makes me.0.of s.words s.views (set s.words a (f (get_or s.words a 0))) (set s.views id e.0) = steps id me.0
+    e.0 (set s.words a (f (get_or s.words a 0))) at e.1 in
+    let step : IsStepOf me.0 e.0 = record {
+      words = s.words;
+      hands = s.views;
+      next = set s.words a (f (get_or s.words a 0));
+      more = set s.views id e.0;
+      hand = id;
+      reached = r;
+      before = at;
+      made = made;
+      after = set_here s.views id e.0 (elem_below s.views id me.0 at);
+    } in
+    (e.0, keeps, tt, goes_on r made, (step, e.2))
 
 -- one less, as the machine takes it
 pub one_less : (l : ℕ) → suc l < 18446744073709551616 → (suc l + (2 ^ 64 - 1)) % 2 ^ 64 ≡ l
@@ -49,9 +64,9 @@ module _ (n id : ℕ) (me : Known) (law : IsLawful me.0.of) where
       → Allows (Holds me.0.of) n id me a (λ y. y) (look_told (step n a 0 0 none) me)
   look_plays a i is l idle = subst (λ b. Allows (Holds me.0.of) n id me b (λ y. y) (look_told (step n b 0 0 none) me))
       (sym is)
-      (plays me.0.of law n id me (count_word me.0.of i) (λ y. y)
-      (look_told (step n (count_word me.0.of i) 0 0 none) me) (λ words hands k at bound.
-      let tell : (w : HandState) → LookTold me i (get_or words (count_word me.0.of i) 0) (w, me.1) → look_told
+      (plays n id me (count_word me.0.of i) (λ y. y)
+      (LookTells (step n (count_word me.0.of i) 0 0 none) me) law (λ words hands k at bound.
+      let tell : (w : HandState) → LookTold me i (get_or words (count_word me.0.of i) 0) (w, me.1) → LookTells
       (step n (count_word me.0.of i) 0 0 none) me (get_or words (count_word me.0.of i) 0) (w, me.1) =
       λ w t item e. let q : i ≡ item = omega arith in subst
       (λ y. LookTold me y (get_or words (count_word me.0.of i) 0) (w, me.1)) q t in
@@ -74,8 +89,8 @@ module _ (n id : ℕ) (me : Known) (law : IsLawful me.0.of) where
       → Allows (Holds me.0.of) n id me a (λ y. either (eqb y 0) 1 y) (claim_told (step n a 0 1 none) me)
   claim_plays a i is looked = subst
       (λ b. Allows (Holds me.0.of) n id me b (λ y. either (eqb y 0) 1 y) (claim_told (step n b 0 1 none) me)) (sym is)
-      (plays me.0.of law n id me (state_word me.0.of i) (λ y. either (eqb y 0) 1 y)
-      (claim_told (step n (state_word me.0.of i) 0 1 none) me) (λ words hands k at bound.
+      (plays n id me (state_word me.0.of i) (λ y. either (eqb y 0) 1 y)
+      (ClaimTells me me.0.place) law (λ words hands k at bound.
       let held : ℕ = get_or words (state_word me.0.of i) 0 in
       let rule = k.rule in
       let known : i < item_total me.0.of = subst (IsInRange me.0.of) looked
@@ -107,8 +122,8 @@ module _ (n id : ℕ) (me : Known) (law : IsLawful me.0.of) where
       → Allows (Holds me.0.of) n id me a (λ y. y) (read_told (step n a 0 0 none) me)
   read_plays a i j r is b c working = subst
       (λ b. Allows (Holds me.0.of) n id me b (λ y. y) (read_told (step n b 0 0 none) me)) (sym is)
-      (plays me.0.of law n id me (cell_word (read_of me.0.of i j r)) (λ y. y)
-      (read_told (step n (cell_word (read_of me.0.of i j r)) 0 0 none) me) (λ words hands k at bound.
+      (plays n id me (cell_word (read_of me.0.of i j r)) (λ y. y)
+      (ReadTells me me.0.place) law (λ words hands k at bound.
       let range : IsInRange me.0.of (live (Working i j r)) = subst (IsInRange me.0.of) working
       (range_of me.0.of law words hands k id me.0 at) in
       let works : Works ((stage_of me.0.of words hands).place id) i j = stands words hands k at (λ p. Works p i j)
@@ -133,8 +148,8 @@ module _ (n id : ℕ) (me : Known) (law : IsLawful me.0.of) where
       → Allows (Holds me.0.of) n id me a (λ y. new) (λ y. fill_told (step n a new 0 none) me new)
   fill_plays a new i j r is word b c working = subst
       (λ b. Allows (Holds me.0.of) n id me b (λ y. new) (λ y. fill_told (step n b new 0 none) me new)) (sym is)
-      (plays me.0.of law n id me (cell_word (target_of me.0.of i j)) (λ y. new)
-      (λ y. fill_told (step n (cell_word (target_of me.0.of i j)) new 0 none) me new) (λ words hands k at bound.
+      (plays n id me (cell_word (target_of me.0.of i j)) (λ y. new)
+      (λ y. FillTells me me.0.place) law (λ words hands k at bound.
       let rule = k.rule in
       let works : Works ((stage_of me.0.of words hands).place id) i j = stands words hands k at (λ p. Works p i j)
       (subst (λ p. Works p i j) (sym working) (refl, refl)) in
@@ -158,8 +173,8 @@ module _ (n id : ℕ) (me : Known) (law : IsLawful me.0.of) where
       → Allows (Holds me.0.of) n id me a (λ y. 2) (λ y. mark_told (step n a 2 0 none) me 2)
   mark_plays a i j r is done working = subst
       (λ b. Allows (Holds me.0.of) n id me b (λ y. 2) (λ y. mark_told (step n b 2 0 none) me 2)) (sym is)
-      (plays me.0.of law n id me (state_word me.0.of i) (λ y. 2)
-      (λ y. mark_told (step n (state_word me.0.of i) 2 0 none) me 2) (λ words hands k at bound.
+      (plays n id me (state_word me.0.of i) (λ y. 2)
+      (λ y. MarkTells me me.0.place) law (λ words hands k at bound.
       let rule = k.rule in
       let works : Works ((stage_of me.0.of words hands).place id) i j = stands words hands k at (λ p. Works p i j)
       (subst (λ p. Works p i j) (sym working) (refl, refl)) in
@@ -179,8 +194,8 @@ module _ (n id : ℕ) (me : Known) (law : IsLawful me.0.of) where
   send_plays a i c is b sent = subst
       (λ b. Allows (Holds me.0.of) n id me b (λ y. (y + (2 ^ 64 - 1)) % 2 ^ 64) (send_told (step n b 1 0 none) me))
       (sym is)
-      (plays me.0.of law n id me (count_word me.0.of (next_at me.0.of i c)) (λ y. (y + (2 ^ 64 - 1)) % 2 ^ 64)
-      (send_told (step n (count_word me.0.of (next_at me.0.of i c)) 1 0 none) me) (λ words hands k at bound.
+      (plays n id me (count_word me.0.of (next_at me.0.of i c)) (λ y. (y + (2 ^ 64 - 1)) % 2 ^ 64)
+      (SendTells me) law (λ words hands k at bound.
       let here : Sends ((stage_of me.0.of words hands).place id) i c = stands words hands k at
       (λ p. Sends p i c) sent in
       let count = next_counter me.0.of law (stage_of me.0.of words hands) id i c here k.rule b in
@@ -206,7 +221,7 @@ module _ (n id : ℕ) (me : Known) (law : IsLawful me.0.of) where
   pub finish_plays : (i c : ℕ) → c ≡ next_total me.0.of i → Sends me.0.place i c
       → Allows (Holds me.0.of) n id me 0 (λ y. (y + (2 ^ 64 - 1)) % 2 ^ 64) (finish_told (step n 0 1 0 none) me)
   finish_plays i c done sent =
-      plays me.0.of law n id me 0 (λ y. (y + (2 ^ 64 - 1)) % 2 ^ 64) (finish_told (step n 0 1 0 none) me)
+      plays n id me 0 (λ y. (y + (2 ^ 64 - 1)) % 2 ^ 64) (FinishTold me) law
       (λ words hands k at bound.
       let here : Sends ((stage_of me.0.of words hands).place id) i c = stands words hands k at
       (λ p. Sends p i c) sent in
@@ -223,7 +238,7 @@ module _ (n id : ℕ) (me : Known) (law : IsLawful me.0.of) where
   pub left_plays : me.0.place ≡ live Idle
       → Allows (Holds me.0.of) n id me 0 (λ y. y) (left_told (step n 0 0 0 none) me)
   left_plays idle =
-      plays me.0.of law n id me 0 (λ y. y) (left_told (step n 0 0 0 none) me) (λ words hands k at bound.
+      plays n id me 0 (λ y. y) (LeftTold me) law (λ words hands k at bound.
       dite (ℕ_discrete (get_or words 0 0) 0)
       (λ z. let w : HandState = after me.0 (live Ended) load_counter end_word (Some 0) in (
         w,
@@ -246,3 +261,16 @@ pub join_plays : (id other : ℕ) (v w : HandState) → IsFree v.place → IsFre
     → Joins (Holds v.of) id v other w (after v v.place join end_word None) given_up
 join_plays id other v w f g s r at ne there = goes_on r
     (joins id other v w ne at (sym (set_else s.views id other (after v v.place join end_word None) ne) ∙ there) f g)
+
+pub split_is : (v w new : HandState) → v.place ≡ live Idle → w ≡ after v v.place split end_word None → new ≡ newcomer v.of
+    → IsSplitOf v w new
+split_is v w new idle e f words hands h at =
+    let one : HandState = after v v.place split end_word None in
+    subst (λ y. Makes v.of words hands words (set hands h y ++ new ∷ [])) (sym e)
+    (subst (λ y. Makes v.of words hands words (set hands h one ++ y ∷ [])) (sym f) (splits h v at idle))
+
+pub join_is : (v w gone : HandState) → IsFree v.place → IsFree gone.place → w ≡ after v v.place join end_word None
+    → IsJoinOf v w gone
+join_is v w gone f b e words hands h other apart at there = subst
+    (λ y. Makes v.of words hands words (set (set hands h y) other given_up)) (sym e)
+    (joins h other v gone apart at there f b)

@@ -1,17 +1,18 @@
 -- What holds however many steps follow.
-use Rattle.std.proofs.Common.{◌≡◌, ◌≢◌, ℕ, ◌<◌, subst, refl, sym, ap, ◌∙◌, arith, List, [], ◌∷◌, ◌++◌, length, get_or, set}
-use Rattle.std.proofs.lemmas.List.{get_or-set_same, get_or-set_other, length-set}
-use Rattle.std.specs.Prelude.{None}
+use Rattle.std.proofs.Common.{◌≡◌, ◌≢◌, ℕ, ◌+◌, ◌<◌, subst, refl, sym, ap, ◌∙◌, arith, List, [], ◌∷◌, ◌++◌, length, get_or, set, length-append}
+use Rattle.std.proofs.lemmas.List.{get_or-set_same, get_or-set_other, length-set, get_or_append_left}
+use Rattle.std.specs.Prelude.{None, true}
 use mathlib.Core.Logic.{dite}
 use mathlib.Core.Option.{some}
 use native.Mathlib.Decide.{ℕ_discrete}
 use lib.ListN.{get_elem?}
 use Rattle.ftl_cells.specs.Work.{Meaning, item_total, IsLawful}
-use Rattle.ftl_cells.specs.State.{Place, live, spent, HandState, newcomer, given_up, after, split, join, IsFree, Steps, finds_ready, finds_waiting, claims, misses, reads, fills, marks, sends, finishes, ends, finds_left, Makes, steps, splits, joins, end_word, state_word}
+use Rattle.ftl_cells.specs.State.{Place, live, spent, HandState, newcomer, given_up, after, released_after, split, join, IsFree, Steps, finds_ready, finds_waiting, claims, misses, reads, fills, marks, sends, finishes, ends, finds_left, Makes, steps, splits, joins, goes_on, end_word, state_word}
 use Rattle.ftl_cells.specs.Kept.{hand_at, Looks, Works, IsInRange, IsKeptBy}
-use Rattle.ftl_cells.specs.Interleavings.{LeadsTo, stays, goes_further, WinsClaim}
+use Rattle.ftl_cells.specs.Calls.{SendsOn}
+use Rattle.ftl_cells.specs.Interleavings.{LeadsTo, stays, goes_further, IsStepOf, AreReleasedOnce, WinsClaim}
 use Rattle.ftl_cells.specs.declared.place.HandPlace.TheVariants.{Idle, Looked, Working, Filled, Sending, Ended}
-use Rattle.ftl_cells.proofs.KeptSteps.{elem_is, elem_below, snoc_here, snoc_other, range_of, kept_after}
+use Rattle.ftl_cells.proofs.KeptSteps.{elem_is, elem_below, snoc_here, snoc_other, range_of, released_of, kept, kept_after}
 use Rattle.ftl_cells.proofs.Consequences.{claim_stays}
 
 -- any number of steps keeps the rule
@@ -134,3 +135,32 @@ won_once m law first next later last all more many most h g i k one run other =
     let b : Won m later last i = won m law later many k'' i g other.looked last most other.made
     (works (hand_at most g).place other.mine) in
     claimed_later m law next more later many k' run i a.known a.claimed b.free
+
+-- what a step leaves in the list of released items
+pub released_once : (v w : HandState) → IsLawful v.of → IsStepOf v w → AreReleasedOnce v.of w.released
+released_once v w law step =
+    let k = kept v.of law step.next step.more (goes_on step.reached step.made) in
+    let r = released_of v.of law step.next step.more k step.hand w step.after in
+    record { known = r.known; preceded = r.preceded; once = r.once }
+
+released_new : (v w : HandState) (item k : ℕ) → IsLawful v.of → IsStepOf v w → w.released ≡ v.released ++ item ∷ []
+    → k < length v.released → get_or v.released k 0 ≢ item
+released_new v w item k law step e b z =
+    let r = released_once v w law step in
+    let n : length w.released ≡ length v.released + 1 = ap length e ∙ length-append v.released (item ∷ []) in
+    let here : get_or w.released (length v.released) 0 ≡ item = ap (λ xs. get_or xs (length v.released) 0) e ∙ snoc_here
+    v.released item 0 in
+    let there : get_or w.released k 0 ≡ get_or v.released k 0 = ap (λ xs. get_or xs k 0) e ∙ get_or_append_left v.released
+    (item ∷ []) 0 k b in
+    let same : k ≡ length v.released = r.once k (length v.released) (omega arith) (omega arith)
+    (there ∙ z ∙ sym here) in
+    omega arith
+
+pub released_last : (v w : HandState) (item sent next k : ℕ) → IsLawful v.of → IsStepOf v w
+    → SendsOn v item sent next true w → k < length v.released
+    → get_or v.released k 0 ≢ next
+released_last v w item sent next k law step done b =
+    let none : done.left ≡ 0 = done.is_last.0 refl in
+    let e : w.released ≡ v.released ++ next ∷ [] = ap (λ y. y.released) done.step ∙ ap (released_after v.released next)
+    none in
+    released_new v w next k law step e b

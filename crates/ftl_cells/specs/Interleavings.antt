@@ -1,7 +1,9 @@
--- What the words of a table tell at any moment, whatever steps led there.
-use Rattle.std.specs.Prelude.{◌≡◌, ◌≢◌, ℕ, ◌<◌, List, slice_index}
-use Rattle.ftl_cells.specs.Work.{Meaning, cell_total, kind_at, item_total, step_total, target_of, read_total, read_of, solved_word}
-use Rattle.ftl_cells.specs.State.{live, HandState, Makes, cell_word, state_word, last_word_of}
+-- Steps of any hands in any order: what one step of a hand is, what the words tell at any moment, and what stays.
+use Rattle.std.specs.Prelude.{◌≡◌, ◌≢◌, ℕ, ◌<◌, List, [], ◌∷◌, ◌++◌, length, slice_index, slice_set}
+use Rattle.ftl_cells.specs.Work.{Meaning, cell_total, kind_at, item_total, step_total, target_of, read_total, read_of, solved_word, IsNext}
+use mathlib.Core.Option.{some}
+use lib.ListN.{get_elem?}
+use Rattle.ftl_cells.specs.State.{live, HandState, given_up, Makes, Reached, cell_word, state_word, last_word_of}
 use Rattle.ftl_cells.specs.Kept.{hand_at}
 use Rattle.ftl_cells.specs.declared.place.HandPlace.TheVariants.{Looked, Working}
 
@@ -10,6 +12,37 @@ pub data LeadsTo (m : Meaning) (words : List ℕ) (hands : List HandState) : Lis
   stays : LeadsTo m words hands words hands
   goes_further : {next last : List ℕ} {more most : List HandState} → LeadsTo m words hands next more
       → Makes m next more last most → LeadsTo m words hands last most
+
+-- one step takes a hand from one state to another: in a state of the words and all hands that steps led to, a hand was
+-- at the first, the step was made, and then this hand is at the second
+pub record IsStepOf (v w : HandState) : Type 0 where
+  pub words : List ℕ
+  pub hands : List HandState
+  pub next : List ℕ
+  pub more : List HandState
+  pub hand : ℕ
+  pub reached : Reached v.of words hands
+  pub before : get_elem? hands hand ≡ some v
+  pub made : Makes v.of words hands next more
+  pub after : get_elem? more hand ≡ some w
+
+-- a split takes a hand from one state to another and makes a third: wherever a hand is at the first
+abbrev pub IsSplitOf : HandState → HandState → HandState → Type 0
+IsSplitOf v w new = (words : List ℕ) (hands : List HandState) (hand : ℕ) → get_elem? hands hand ≡ some v
+    → Makes v.of words hands words (slice_set hands hand w ++ new ∷ [])
+
+-- a join takes a hand from one state to another and gives up one in a third: wherever two hands are at the first and at
+-- the third
+abbrev pub IsJoinOf : HandState → HandState → HandState → Type 0
+IsJoinOf v w gone = (words : List ℕ) (hands : List HandState) (hand other : ℕ) → other ≢ hand
+    → get_elem? hands hand ≡ some v → get_elem? hands other ≡ some gone
+    → Makes v.of words hands words (slice_set (slice_set hands hand w) other given_up)
+
+-- each of the items waits for others, and stands once in the list
+pub record AreReleasedOnce (m : Meaning) (items : List ℕ) : Type 0 where
+  pub known : (k : ℕ) → k < length items → slice_index items k < item_total m
+  pub preceded : (k : ℕ) → k < length items → (p : ℕ) × IsNext m p (slice_index items k)
+  pub once : (k l : ℕ) → k < length items → l < length items → slice_index items k ≡ slice_index items l → k ≡ l
 
 -- one step, by which a hand that looked at an item comes to work on it
 pub record WinsClaim (m : Meaning) (words : List ℕ) (hands : List HandState) (h i : ℕ) (next : List ℕ)

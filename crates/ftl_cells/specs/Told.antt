@@ -4,6 +4,7 @@ use Rattle.ftl_model.specs.Values.{IsValue}
 use Rattle.atomic_table.specs.Table.{Step, Me}
 use Rattle.ftl_cells.specs.Work.{next_at, target_of, read_of, solution_at, solved_word}
 use Rattle.ftl_cells.specs.State.{Place, live, HandState, after, after_delivery, load_counter, claim, load_cell, store_cell, mark, delivery, Sends, end_word, cell_word, state_word, count_word}
+use Rattle.ftl_cells.specs.Interleavings.{IsStepOf}
 use Rattle.ftl_cells.specs.declared.place.HandPlace.TheVariants.{Idle, Looked, Working, Filled, Ended}
 
 abbrev pub Known : Type 0
@@ -52,43 +53,49 @@ pub record LeftTold (me : Known) (n : ℕ) (new : Known) : Type 0 where
   pub done : n ≡ 0 → IsNow me (after me.0 (live Ended) load_counter end_word (Some 0)) new
   pub more : n ≢ 0 → IsNow me (after me.0 (live Idle) load_counter end_word (Some n)) new
 
--- the same by the place of the hand, or by the word of the step
+-- the same by the place of the hand, or by the word of the step, and that this was one step of the hand
+abbrev pub LookTells : Step ℕ → Known → ℕ → Known → Type 0
+LookTells st me n new = (item : ℕ) → st.word ≡ count_word me.0.of item → LookTold me item n new
+
 abbrev pub look_told : Step ℕ → Known → ℕ → Known → Type 0
-look_told st me n new = (item : ℕ) → st.word ≡ count_word me.0.of item → LookTold me item n new
+look_told st me n new = IsStepOf me.0 new.0 × LookTells st me n new
 
 abbrev pub ClaimTells : Known → Place → ℕ → Known → Type 0
 ClaimTells me (live (Looked item)) n new = ClaimTold me item n new
 ClaimTells me p n new = Unit {0}
 
 abbrev pub claim_told : Step ℕ → Known → ℕ → Known → Type 0
-claim_told st me n new = ClaimTells me me.0.place n new
+claim_told st me n new = IsStepOf me.0 new.0 × ClaimTells me me.0.place n new
 
 abbrev pub ReadTells : Known → Place → ℕ → Known → Type 0
 ReadTells me (live (Working item step reads)) n new = ReadTold me item step reads n new
 ReadTells me p n new = Unit {0}
 
 abbrev pub read_told : Step ℕ → Known → ℕ → Known → Type 0
-read_told st me n new = ReadTells me me.0.place n new
+read_told st me n new = IsStepOf me.0 new.0 × ReadTells me me.0.place n new
 
 abbrev pub FillTells : Known → Place → Known → Type 0
 FillTells me (live (Working item step reads)) new = FillTold me item step new
 FillTells me p new = Unit {0}
 
 abbrev pub fill_told : Step ℕ → Known → ℕ → Known → Type 0
-fill_told st me n new = FillTells me me.0.place new
+fill_told st me n new = IsStepOf me.0 new.0 × FillTells me me.0.place new
 
 abbrev pub MarkTells : Known → Place → Known → Type 0
 MarkTells me (live (Working item step reads)) new = MarkTold me item new
 MarkTells me p new = Unit {0}
 
 abbrev pub mark_told : Step ℕ → Known → ℕ → Known → Type 0
-mark_told st me n new = MarkTells me me.0.place new
+mark_told st me n new = IsStepOf me.0 new.0 × MarkTells me me.0.place new
+
+abbrev pub SendTells : Known → ℕ → Known → Type 0
+SendTells me n new = (item sent : ℕ) → Sends me.0.place item sent → SendTold me item sent n new
 
 abbrev pub send_told : Step ℕ → Known → ℕ → Known → Type 0
-send_told st me n new = (item sent : ℕ) → Sends me.0.place item sent → SendTold me item sent n new
+send_told st me n new = IsStepOf me.0 new.0 × SendTells me n new
 
 abbrev pub finish_told : Step ℕ → Known → ℕ → Known → Type 0
-finish_told st me n new = FinishTold me n new
+finish_told st me n new = IsStepOf me.0 new.0 × FinishTold me n new
 
 abbrev pub left_told : Step ℕ → Known → ℕ → Known → Type 0
-left_told st me n new = LeftTold me n new
+left_told st me n new = IsStepOf me.0 new.0 × LeftTold me n new

@@ -8,6 +8,7 @@ ghost use Rattle.ftl_cells.specs.State.{end_word};
 ghost use Rattle.ftl_cells.specs.Table.{IsSeatOf};
 ghost use Rattle.ftl_cells.specs.Told.{LookTold, ClaimTold, ReadTold, FillTold, MarkTold, SendTold};
 ghost use Rattle.ftl_cells.specs.Told.{FinishTold, LeftTold};
+ghost use Rattle.ftl_cells.specs.Interleavings.{IsStepOf, IsSplitOf, IsJoinOf};
 ghost use Rattle.ftl_cells.specs.declared.place.HandPlace.TheVariants.{Idle, Looked, Working};
 ghost use Rattle.std.specs.Prelude.{None};
 
@@ -26,6 +27,7 @@ impl<W: Work> Cells<W> {
         requires idle { seat.old.me.0.place ≡ live Idle }
         requires item { item < item_total (W.meaning self.now.1) }
         ensures table { seat.new.table_id ≡ seat.old.table_id }
+        ensures reached { IsStepOf seat.old.me.0 seat.new.me.0 }
         ensures told { LookTold seat.old.me item result seat.new.me }
     {
         self.table
@@ -38,6 +40,7 @@ impl<W: Work> Cells<W> {
         requires looked { seat.old.me.0.place ≡ live (Looked item) }
         requires item { item < item_total (W.meaning self.now.1) }
         ensures table { seat.new.table_id ≡ seat.old.table_id }
+        ensures reached { IsStepOf seat.old.me.0 seat.new.me.0 }
         ensures told { ClaimTold seat.old.me item result seat.new.me }
     {
         let shared = &self.table.shared;
@@ -52,6 +55,7 @@ impl<W: Work> Cells<W> {
         requires step { IsStep (W.meaning self.now.1) item step }
         requires place { k < read_total (W.meaning self.now.1) item step }
         ensures table { seat.new.table_id ≡ seat.old.table_id }
+        ensures reached { IsStepOf seat.old.me.0 seat.new.me.0 }
         ensures told { ReadTold seat.old.me item step k result seat.new.me }
         ensures counted { read_total (W.meaning self.now.1) item step < 2 ^ 32 }
     {
@@ -67,6 +71,7 @@ impl<W: Work> Cells<W> {
         requires word { word
             ≡ solved_word (W.meaning self.now.1) (target_of (W.meaning self.now.1) item step) }
         ensures table { seat.new.table_id ≡ seat.old.table_id }
+        ensures reached { IsStepOf seat.old.me.0 seat.new.me.0 }
         ensures told { FillTold seat.old.me item step seat.new.me }
         ensures counted { step_total (W.meaning self.now.1) item < 2 ^ 32 }
     {
@@ -82,6 +87,7 @@ impl<W: Work> Cells<W> {
             ≡ live (Working item (step_total (W.meaning self.now.1) item) 0) }
         requires item { item < item_total (W.meaning self.now.1) }
         ensures table { seat.new.table_id ≡ seat.old.table_id }
+        ensures reached { IsStepOf seat.old.me.0 seat.new.me.0 }
         ensures told { MarkTold seat.old.me item seat.new.me }
     {
         self.table
@@ -97,6 +103,7 @@ impl<W: Work> Cells<W> {
         requires place { sent < next_total (W.meaning self.now.1) item }
         requires next { next ≡ next_at (W.meaning self.now.1) item sent }
         ensures table { seat.new.table_id ≡ seat.old.table_id }
+        ensures reached { IsStepOf seat.old.me.0 seat.new.me.0 }
         ensures told { SendTold seat.old.me item sent result seat.new.me }
     {
         self.table
@@ -109,6 +116,7 @@ impl<W: Work> Cells<W> {
         requires sending { Sends seat.old.me.0.place item sent }
         requires done { sent ≡ next_total (W.meaning self.now.1) item }
         ensures table { seat.new.table_id ≡ seat.old.table_id }
+        ensures reached { IsStepOf seat.old.me.0 seat.new.me.0 }
         ensures told { (n : ℕ) × FinishTold seat.old.me n seat.new.me }
     {
         self.table.shared.fetch_sub::<FinishPlay>(seat, 0, 1);
@@ -118,6 +126,7 @@ impl<W: Work> Cells<W> {
         requires seat { IsSeatOf (W.meaning self.now.1) self.now.0 seat.old }
         requires idle { seat.old.me.0.place ≡ live Idle }
         ensures table { seat.new.table_id ≡ seat.old.table_id }
+        ensures reached { IsStepOf seat.old.me.0 seat.new.me.0 }
         ensures told { LeftTold seat.old.me result seat.new.me }
     {
         self.table.shared.load::<LeftPlay>(seat, 0)
@@ -129,6 +138,7 @@ impl<W: Work> Cells<W> {
         ensures table { seat.new.table_id ≡ seat.old.table_id }
         ensures kept { seat.new.me
             ≡ (after seat.old.me.0 seat.old.me.0.place split end_word None, seat.old.me.1) }
+        ensures reached { IsSplitOf seat.old.me.0 seat.new.me.0 result.me.0 }
         ensures made { result.table_id ≡ seat.old.table_id }
         ensures newcomer { result.me ≡ (newcomer seat.old.me.0.of, []) }
     {
@@ -142,6 +152,7 @@ impl<W: Work> Cells<W> {
         requires free { IsFree seat.old.me.0.place }
         requires other_free { IsFree other.me.0.place }
         ensures table { seat.new.table_id ≡ seat.old.table_id }
+        ensures reached { IsJoinOf seat.old.me.0 seat.new.me.0 other.me.0 }
         ensures kept { seat.new.me
             ≡ (after seat.old.me.0 seat.old.me.0.place join end_word None, seat.old.me.1) }
     {

@@ -1,9 +1,11 @@
 //! What holds over all interleavings of the steps of any number of hands.
-ghost use Rattle.std.specs.Prelude.{◌≡◌, ℕ, List, slice_index};
+ghost use Rattle.std.specs.Prelude.{◌≡◌, ◌≢◌, ℕ, ◌<◌, true, List, length, slice_index};
 ghost use Rattle.ftl_cells.specs.Work.{Meaning, IsLawful};
 ghost use Rattle.ftl_cells.specs.State.{HandState, Makes, Reached, end_word};
 ghost use Rattle.ftl_cells.specs.Kept.{IsKeptBy, HasEnded, hand_at};
-ghost use Rattle.ftl_cells.specs.Interleavings.{LeadsTo, WinsClaim, ReadsFindValues};
+ghost use Rattle.ftl_cells.specs.Calls.{SendsOn};
+ghost use Rattle.ftl_cells.specs.Interleavings.{LeadsTo, WinsClaim, ReadsFindValues, IsStepOf};
+ghost use Rattle.ftl_cells.specs.Interleavings.{AreReleasedOnce};
 ghost use Rattle.ftl_cells.specs.Interleavings.{FillsFindEmpty, ClaimsStay, AllFilled, HoldSolution};
 
 /// Between any two steps the rule is kept: the words of the cells and the states of all hands are
@@ -61,4 +63,14 @@ pub fn ended_means_the_end()
     ensures { (m : Meaning) (words : List ℕ) (hands : List HandState) (h : ℕ)
         → IsKeptBy m words hands → HasEnded (hand_at hands h).place
         → slice_index words end_word ≡ 0 }
+{}
+
+/// After a step, the list of items that the hand released names none twice. So where a delivery is
+/// the last that an item waits for, the hand had not released it before.
+pub fn items_are_released_once()
+    ensures once { (v w : HandState) → IsLawful v.of → IsStepOf v w
+        → AreReleasedOnce v.of w.released }
+    ensures last { (v w : HandState) (item sent next k : ℕ) → IsLawful v.of → IsStepOf v w
+        → SendsOn v item sent next true w → k < length v.released
+        → slice_index v.released k ≢ next }
 {}

@@ -6,6 +6,7 @@ ghost use Rattle.ftl_cells.specs.State.{live, IsFree, newcomer, after, split, jo
 ghost use Rattle.ftl_cells.specs.Calls.{IsMadeBy, CanClaim, CanRead, CanFill, CanMark, CanDeliver};
 ghost use Rattle.ftl_cells.specs.Calls.{LookSteps, ClaimSteps, ReadAnswers, ReadSteps, FillSteps};
 ghost use Rattle.ftl_cells.specs.Calls.{MarkSteps, DeliverSteps, LeftSteps};
+ghost use Rattle.ftl_cells.specs.Interleavings.{IsStepOf, IsSplitOf, IsJoinOf};
 ghost use Rattle.ftl_cells.specs.declared.place.HandPlace.TheVariants.{Idle, Looked, Working};
 
 use crate::answer::{Claim, Deliver, Look};
@@ -22,6 +23,7 @@ impl<W: Work> Cells<W> {
         requires idle { hand.old.state.place ≡ live Idle }
         requires item { item < item_total (W.meaning self.now.1) }
         ensures table { hand.new.table ≡ hand.old.table }
+        ensures reached { IsStepOf hand.old.state hand.new.state }
         ensures step { LookSteps hand.old.state item result hand.new.state }
     {
         match self.load_counter(&mut hand.seat, item) {
@@ -38,6 +40,7 @@ impl<W: Work> Cells<W> {
         requires made { IsMadeBy (W.meaning self.now.1) self.now.0 hand.old }
         requires looked { CanClaim hand.old.state.place }
         ensures table { hand.new.table ≡ hand.old.table }
+        ensures reached { IsStepOf hand.old.state hand.new.state }
         ensures step { ClaimSteps hand.old.state hand.old.state.place result hand.new.state }
     {
         let HandPlace::Looked { item } = hand.place else {
@@ -64,6 +67,7 @@ impl<W: Work> Cells<W> {
         requires made { IsMadeBy (W.meaning self.now.1) self.now.0 hand.old }
         requires working { CanRead (W.meaning self.now.1) hand.old.state.place }
         ensures table { hand.new.table ≡ hand.old.table }
+        ensures reached { IsStepOf hand.old.state hand.new.state }
         ensures value { ReadAnswers (W.meaning self.now.1) hand.old.state.place result }
         ensures step { ReadSteps hand.old.state hand.old.state.place (word_of_value result)
             hand.new.state }
@@ -85,6 +89,7 @@ impl<W: Work> Cells<W> {
         requires made { IsMadeBy (W.meaning self.now.1) self.now.0 hand.old }
         requires working { CanFill (W.meaning self.now.1) hand.old.state.place val }
         ensures table { hand.new.table ≡ hand.old.table }
+        ensures reached { IsStepOf hand.old.state hand.new.state }
         ensures step { FillSteps hand.old.state hand.old.state.place hand.new.state }
     {
         let HandPlace::Working { item, step, .. } = hand.place else {
@@ -103,6 +108,7 @@ impl<W: Work> Cells<W> {
         requires made { IsMadeBy (W.meaning self.now.1) self.now.0 hand.old }
         requires working { CanMark (W.meaning self.now.1) hand.old.state.place }
         ensures table { hand.new.table ≡ hand.old.table }
+        ensures reached { IsStepOf hand.old.state hand.new.state }
         ensures step { MarkSteps hand.old.state hand.old.state.place hand.new.state }
     {
         let HandPlace::Working { item, .. } = hand.place else {
@@ -118,6 +124,7 @@ impl<W: Work> Cells<W> {
         requires made { IsMadeBy (W.meaning self.now.1) self.now.0 hand.old }
         requires filled { CanDeliver hand.old.state.place }
         ensures table { hand.new.table ≡ hand.old.table }
+        ensures reached { IsStepOf hand.old.state hand.new.state }
         ensures step { DeliverSteps hand.old.state hand.old.state.place result hand.new.state }
     {
         let (item, sent) = match hand.place {
@@ -147,6 +154,7 @@ impl<W: Work> Cells<W> {
         requires made { IsMadeBy (W.meaning self.now.1) self.now.0 hand.old }
         requires idle { hand.old.state.place ≡ live Idle }
         ensures table { hand.new.table ≡ hand.old.table }
+        ensures reached { IsStepOf hand.old.state hand.new.state }
         ensures step { LeftSteps hand.old.state result hand.new.state }
     {
         let left = self.load_end(&mut hand.seat);
@@ -161,6 +169,7 @@ impl<W: Work> Cells<W> {
         requires made { IsMadeBy (W.meaning self.now.1) self.now.0 hand.old }
         requires idle { hand.old.state.place ≡ live Idle }
         ensures table { hand.new.table ≡ hand.old.table }
+        ensures reached { IsSplitOf hand.old.state hand.new.state result.state }
         ensures step { hand.new.state ≡ after hand.old.state (live Idle) split end_word None }
         ensures made { IsMadeBy (W.meaning self.now.1) self.now.0 result }
         ensures new { result.state ≡ newcomer (W.meaning self.now.1) }
@@ -178,6 +187,7 @@ impl<W: Work> Cells<W> {
         requires free { IsFree hand.old.state.place }
         requires other_free { IsFree other.state.place }
         ensures table { hand.new.table ≡ hand.old.table }
+        ensures reached { IsJoinOf hand.old.state hand.new.state other.state }
         ensures step { hand.new.state
             ≡ after hand.old.state hand.old.state.place join end_word None }
     {
