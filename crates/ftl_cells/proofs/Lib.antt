@@ -19,3 +19,4 @@ pub mod DiamondLaws
 pub mod Shapes
 pub mod ChainLaws
 pub mod LoneLaws
+pub mod LentLaws

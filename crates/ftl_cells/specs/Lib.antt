@@ -9,4 +9,5 @@ pub mod Diamond
 pub mod Shape
 pub mod Chain
 pub mod Lone
+pub mod Lent
 pub mod Interleavings

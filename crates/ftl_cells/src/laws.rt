@@ -1,12 +1,19 @@
-//! What holds over all interleavings of the steps of any number of hands.
+//! What holds over all interleavings of the steps of any number of hands, and of works that are
+//! given by functions.
 ghost use Rattle.std.specs.Prelude.{◌≡◌, ◌≢◌, ℕ, ◌<◌, true, List, length, slice_index};
 ghost use Rattle.ftl_cells.specs.Work.{Meaning, IsLawful};
+ghost use Rattle.ftl_cells.specs.Shape.{Shape, IsLawfulShape, listed};
 ghost use Rattle.ftl_cells.specs.State.{HandState, Makes, Reached, end_word};
 ghost use Rattle.ftl_cells.specs.Kept.{IsKeptBy, HasEnded, hand_at};
 ghost use Rattle.ftl_cells.specs.Calls.{SendsOn};
 ghost use Rattle.ftl_cells.specs.Interleavings.{LeadsTo, WinsClaim, ReadsFindValues, IsStepOf};
 ghost use Rattle.ftl_cells.specs.Interleavings.{AreReleasedOnce};
 ghost use Rattle.ftl_cells.specs.Interleavings.{FillsFindEmpty, ClaimsStay, AllFilled, HoldSolution};
+
+/// A work that is given by functions is lawful where they are.
+pub fn shapes_are_lawful()
+    ensures { (s : Shape) → IsLawfulShape s → IsLawful (listed s) }
+{}
 
 /// Between any two steps the rule is kept: the words of the cells and the states of all hands are
 /// always ones that steps lead to, since that is the rule of their table.

@@ -1,5 +1,6 @@
 mod chain;
 mod examples;
+mod lent;
 mod row;
 mod runs;
 mod walk;

@@ -5,6 +5,7 @@ ghost use Rattle.ftl_cells.specs.Calls.{IsMadeBy};
 ghost use Rattle.ftl_cells.specs.declared.place.HandPlace.TheVariants.{Idle, Ended};
 
 use crate::tests::chain::{Chain, Lone, first_of_chain, first_of_lone};
+use crate::tests::lent::{Lent, first_of_lent};
 use crate::tests::walk::take;
 use crate::tests::words::{are_words_of, first_words};
 use crate::{Cells, Diamond, Hand, HandPlace, Work};
@@ -172,5 +173,23 @@ fn an_item_without_reads_is_filled(rt: HostRuntime) -> Result<(), Fail> {
     };
     let words = cells.close(rt.alloc(), a)?;
     assert!(rt; are_words_of(words.as_slice(), &[5]));
+    Ok(())
+}
+
+#[test]
+fn a_work_that_borrows_is_filled(rt: HostRuntime) -> Result<(), Fail> {
+    let numbers = vec![in rt.alloc(); 3u8, 1, 4, 1, 5]?;
+    let work = Lent {
+        numbers: numbers.as_slice(),
+    };
+    let first = first_of_lent(rt.alloc(), numbers.as_slice())?;
+    let (cells, mut a) = Cells::open(rt.alloc(), work, first)?;
+    assert_eq!(rt; round(rt.alloc(), &cells, &mut a)?, 5);
+    assert_eq!(rt; cells.left(&mut a), 0);
+    let HandPlace::Ended = a.place() else {
+        panic!(rt; "the hand is not at the end")
+    };
+    let words = cells.close(rt.alloc(), a)?;
+    assert!(rt; are_words_of(words.as_slice(), &[3, 1, 4, 1, 5]));
     Ok(())
 }
