@@ -181,13 +181,49 @@ static CALLS: [(Who, Call, Answer); 35] = [
     (Who::A, Call::Left, Answer::Left(0)),
 ];
 
-fn make_all(rt: &impl Abort, cells: &Cells<Diamond>, a: &mut Hand, b: &mut Hand)
+/// The second hand claims what the first has filled.
+static LATE_CLAIM: [(Who, Call, Answer); 12] = [
+    (Who::A, Call::Look(0), Answer::Looked(Look::Ready)),
+    (Who::B, Call::Look(0), Answer::Looked(Look::Ready)),
+    (Who::A, Call::Claim, Answer::Claimed(Claim::Mine)),
+    (Who::A, Call::Read, Answer::Value(7)),
+    (Who::A, Call::Fill(8), Answer::Done),
+    (Who::A, Call::Mark, Answer::Done),
+    (Who::B, Call::Claim, Answer::Claimed(Claim::Taken(2))),
+    (Who::B, Call::Left, Answer::Left(4)),
+    (
+        Who::A,
+        Call::Deliver,
+        Answer::Delivered(Deliver::Sent {
+            next: 1,
+            last: true,
+        }),
+    ),
+    (
+        Who::A,
+        Call::Deliver,
+        Answer::Delivered(Deliver::Sent {
+            next: 2,
+            last: true,
+        }),
+    ),
+    (Who::A, Call::Deliver, Answer::Delivered(Deliver::Finished)),
+    (Who::B, Call::Left, Answer::Left(3)),
+];
+
+fn make_all(
+    rt: &impl Abort,
+    cells: &Cells<Diamond>,
+    a: &mut Hand,
+    b: &mut Hand,
+    calls: &[(Who, Call, Answer)],
+)
     requires one { IsMadeBy diamond cells.now.0 a.old }
     requires other { IsMadeBy diamond cells.now.0 b.old }
     ensures one { IsMadeBy diamond cells.now.0 a.new }
     ensures other { IsMadeBy diamond cells.now.0 b.new }
 {
-    for (who, call, answer) in &CALLS {
+    for (who, call, answer) in calls {
         let made = match who {
             Who::A => make(cells, a, *call),
             Who::B => make(cells, b, *call),
@@ -200,12 +236,23 @@ fn make_all(rt: &impl Abort, cells: &Cells<Diamond>, a: &mut Hand, b: &mut Hand)
 fn two_hands_fill_the_diamond(rt: HostRuntime) -> Result<(), Fail> {
     let (cells, mut a) = Cells::open(rt.alloc(), Diamond, first_words(rt.alloc())?)?;
     let mut b = cells.another(&mut a);
-    make_all(&rt, &cells, &mut a, &mut b);
+    make_all(&rt, &cells, &mut a, &mut b, &CALLS);
     let (HandPlace::Ended, HandPlace::Idle) = (a.place(), b.place()) else {
         panic!(rt; "the hands are at other places")
     };
     cells.give_up(&mut a, b);
     let words = cells.close(rt.alloc(), a)?;
     assert!(rt; are_words_of(words.as_slice(), &[7, 8, 16, -2, 14]));
+    Ok(())
+}
+
+#[test]
+fn a_claim_finds_its_item_filled(rt: HostRuntime) -> Result<(), Fail> {
+    let (cells, mut a) = Cells::open(rt.alloc(), Diamond, first_words(rt.alloc())?)?;
+    let mut b = cells.another(&mut a);
+    make_all(&rt, &cells, &mut a, &mut b, &LATE_CLAIM);
+    let (HandPlace::Idle, HandPlace::Idle) = (a.place(), b.place()) else {
+        panic!(rt; "the hands are at other places")
+    };
     Ok(())
 }

@@ -134,9 +134,16 @@ fn three_hands_walk_a_chain_in_turns(rt: HostRuntime) -> Result<(), Fail> {
     let mut b = cells.another(&mut a);
     let mut c = cells.another(&mut a);
     assert!(rt; take_turns(rt.alloc(), &cells, &mut a, &mut b, &mut c)?);
-    let HandPlace::Idle = a.place() else {
-        panic!(rt; "the first hand has an item")
+    let (HandPlace::Idle, HandPlace::Idle, HandPlace::Idle) = (a.place(), b.place(), c.place())
+    else {
+        panic!(rt; "a hand has an item")
     };
+    assert_eq!(rt; cells.left(&mut b), 0);
+    let HandPlace::Ended = b.place() else {
+        panic!(rt; "the second hand is not at the end")
+    };
+    cells.give_up(&mut a, b);
+    cells.give_up(&mut a, c);
     assert_eq!(rt; cells.left(&mut a), 0);
     let HandPlace::Ended = a.place() else {
         panic!(rt; "the first hand is not at the end")
