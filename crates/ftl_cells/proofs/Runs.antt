@@ -1,19 +1,20 @@
 -- What holds however many steps follow.
 use Rattle.std.proofs.Common.{◌≡◌, ◌≢◌, ℕ, ◌+◌, ◌<◌, subst, refl, sym, ap, ◌∙◌, arith, List, [], ◌∷◌, ◌++◌, length, get_or, set, length-append}
 use Rattle.std.proofs.lemmas.List.{get_or-set_same, get_or-set_other, length-set, get_or_append_left}
-use Rattle.std.specs.Prelude.{None, true}
+use Rattle.std.specs.Prelude.{Some, None, true}
 use mathlib.Core.Logic.{dite}
 use mathlib.Core.Option.{some}
 use native.Mathlib.Decide.{ℕ_discrete}
 use lib.ListN.{get_elem?}
-use Rattle.ftl_cells.specs.Work.{Meaning, item_total, IsLawful}
-use Rattle.ftl_cells.specs.State.{Place, live, spent, HandState, newcomer, given_up, after, released_after, split, join, IsFree, Steps, finds_ready, finds_waiting, claims, misses, reads, fills, marks, sends, finishes, ends, finds_left, Makes, steps, splits, joins, goes_on, end_word, state_word}
-use Rattle.ftl_cells.specs.Kept.{hand_at, Looks, Works, IsInRange, IsKeptBy}
-use Rattle.ftl_cells.specs.Calls.{SendsOn}
+use Rattle.ftl_cells.specs.Work.{Meaning, cell_total, kind_at, item_total, solved_word, IsLawful}
+use Rattle.ftl_cells.specs.State.{Place, live, spent, HandState, newcomer, given_up, after, released_after, split, join, IsFree, Steps, finds_ready, finds_waiting, claims, misses, reads, fills, marks, sends, finishes, ends, finds_left, Makes, steps, splits, joins, goes_on, end_word, cell_word, state_word, claim, last_word_of}
+use Rattle.ftl_cells.specs.Kept.{hand_at, Looks, Works, HasEnded, IsInRange, IsKeptBy}
+use Rattle.ftl_cells.specs.Calls.{ClaimSteps, SendsOn}
 use Rattle.ftl_cells.specs.Interleavings.{LeadsTo, stays, goes_further, IsStepOf, AreReleasedOnce, WinsClaim}
+use Rattle.ftl_cells.specs.declared.answer.Claim.TheVariants.{Mine}
 use Rattle.ftl_cells.specs.declared.place.HandPlace.TheVariants.{Idle, Looked, Working, Filled, Sending, Ended}
 use Rattle.ftl_cells.proofs.KeptSteps.{elem_is, elem_below, snoc_here, snoc_other, range_of, released_of, kept, kept_after}
-use Rattle.ftl_cells.proofs.Consequences.{claim_stays}
+use Rattle.ftl_cells.proofs.Consequences.{claim_stays, end_tells, end_holds, ended_tells}
 
 -- any number of steps keeps the rule
 pub kept_later : (m : Meaning) → IsLawful m → (words : List ℕ) (hands : List HandState) (next : List ℕ)
@@ -164,3 +165,32 @@ released_last v w item sent next k law step done b =
     let e : w.released ≡ v.released ++ next ∷ [] = ap (λ y. y.released) done.step ∙ ap (released_after v.released next)
     none in
     released_new v w next k law step e b
+
+-- a claim that answers Mine wins
+pub mine_wins : (v w : HandState) (item : ℕ) (step : IsStepOf v w) → v.place ≡ live (Looked item)
+    → ClaimSteps v v.place Mine w
+    → WinsClaim v.of step.words step.hands step.hand item step.next step.more
+mine_wins v w item step looked mine =
+    let is : w ≡ after v (live (Working item 0 0)) claim (state_word v.of item) (Some 0) = subst
+    (λ p. ClaimSteps v p Mine w) looked mine in
+    record {
+      made = step.made;
+      looked = ap (λ y. y.place) (elem_is step.hands step.hand v given_up step.before) ∙ looked;
+      mine = ap (λ y. y.place) (elem_is step.more step.hand w given_up step.after) ∙ ap (λ y. y.place) is;
+    }
+
+-- what a hand that is Ended saw
+module _ (v w : HandState) (step : IsStepOf v w) (law : IsLawful v.of) (ended : HasEnded w.place) where
+  after_it : IsKeptBy v.of step.next step.more
+  after_it = kept v.of law step.next step.more (goes_on step.reached step.made)
+
+  none_left : get_or step.next end_word 0 ≡ 0
+  none_left = ended_tells v.of step.next step.more step.hand after_it
+      (subst (λ y. HasEnded y.place) (sym (elem_is step.more step.hand w given_up step.after)) ended)
+
+  pub saw_all : (i : ℕ) → i < item_total v.of → get_or step.next (state_word v.of i) 0 ≡ 2
+  saw_all = end_tells v.of step.next step.more law after_it none_left
+
+  pub saw_solution : (c : ℕ) → c < cell_total v.of
+      → get_or step.next (cell_word c) 0 ≡ last_word_of (kind_at v.of c) (solved_word v.of c)
+  saw_solution = end_holds v.of step.next step.more law after_it none_left

@@ -3,9 +3,11 @@
 ghost use Rattle.std.specs.Prelude.{◌≡◌, ◌≢◌, ℕ, ◌<◌, true, List, length, slice_index};
 ghost use Rattle.ftl_cells.specs.Work.{Meaning, IsLawful};
 ghost use Rattle.ftl_cells.specs.Shape.{Shape, IsLawfulShape, listed};
-ghost use Rattle.ftl_cells.specs.State.{HandState, Makes, Reached, end_word};
+ghost use Rattle.ftl_cells.specs.State.{live, HandState, Makes, Reached, end_word};
 ghost use Rattle.ftl_cells.specs.Kept.{IsKeptBy, HasEnded, hand_at};
-ghost use Rattle.ftl_cells.specs.Calls.{SendsOn};
+ghost use Rattle.ftl_cells.specs.Calls.{ClaimSteps, SendsOn};
+ghost use Rattle.ftl_cells.specs.declared.place.HandPlace.TheVariants.{Looked};
+ghost use Rattle.ftl_cells.specs.declared.answer.Claim.TheVariants.{Mine};
 ghost use Rattle.ftl_cells.specs.Interleavings.{LeadsTo, WinsClaim, ReadsFindValues, IsStepOf};
 ghost use Rattle.ftl_cells.specs.Interleavings.{AreReleasedOnce};
 ghost use Rattle.ftl_cells.specs.Interleavings.{FillsFindEmpty, ClaimsStay, AllFilled, HoldSolution};
@@ -56,6 +58,13 @@ pub fn claims_win_once()
         → LeadsTo m next more later many → WinsClaim m later many g i last most → ⊥ }
 {}
 
+/// The step of a claim that answers `Mine` wins the claim of its item.
+pub fn mine_wins_the_claim()
+    ensures { (v w : HandState) (item : ℕ) (step : IsStepOf v w) → v.place ≡ live (Looked item)
+        → ClaimSteps v v.place Mine w
+        → WinsClaim v.of step.words step.hands step.hand item step.next step.more }
+{}
+
 /// Where the common end's counter is 0, each item was claimed and filled, and the cells hold the
 /// solution.
 pub fn end_means_all()
@@ -70,6 +79,14 @@ pub fn ended_means_the_end()
     ensures { (m : Meaning) (words : List ℕ) (hands : List HandState) (h : ℕ)
         → IsKeptBy m words hands → HasEnded (hand_at hands h).place
         → slice_index words end_word ≡ 0 }
+{}
+
+/// Where a step leaves its hand Ended, each item is filled then, and the cells hold the solution.
+pub fn ended_hands_saw_all()
+    ensures items { (v w : HandState) (step : IsStepOf v w) → IsLawful v.of → HasEnded w.place
+        → AllFilled v.of step.next }
+    ensures cells { (v w : HandState) (step : IsStepOf v w) → IsLawful v.of → HasEnded w.place
+        → HoldSolution v.of step.next }
 {}
 
 /// After a step, the list of items that the hand released names none twice. So where a delivery is

@@ -1,0 +1,5 @@
+use Rattle.ftl_cells.proofs.Runs.{mine_wins}
+use Rattle.ftl_cells.proofs.laws.mine_wins_the_claim.Goals as goal
+
+pub returns : goal.returns
+returns c = mine_wins
