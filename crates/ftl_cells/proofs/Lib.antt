@@ -18,5 +18,4 @@ pub mod Runs
 pub mod DiamondLaws
 pub mod Shapes
 pub mod ChainLaws
-pub mod LoneLaws
 pub mod LentLaws

@@ -8,6 +8,5 @@ pub mod Table
 pub mod Diamond
 pub mod Shape
 pub mod Chain
-pub mod Lone
 pub mod Lent
 pub mod Interleavings

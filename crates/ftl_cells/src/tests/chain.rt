@@ -1,8 +1,7 @@
-// A chain of items, and one item alone.
+// A chain of items.
 ghost use Rattle.std.specs.Prelude.{IfOk};
 ghost use Rattle.ftl_cells.specs.Shape.{listed};
 ghost use Rattle.ftl_cells.specs.Chain.{chain};
-ghost use Rattle.ftl_cells.specs.Lone.{lone};
 ghost use Rattle.ftl_cells.specs.State.{AreFirst};
 
 use crate::{CellKind, Work};
@@ -90,75 +89,4 @@ pub(crate) fn first_of_chain(alloc: Global, items: u8) -> Result<Vec<u64>, Alloc
     let mut words = vec![in alloc; word_of(Val::num(0))]?;
     words.resize(items as usize + 1, 0)?;
     Ok(words)
-}
-
-/// One item, which fills its cell with 5 and reads nothing.
-#[derive(Drop)]
-pub(crate) struct Lone;
-
-#[tactic(auto, using(crate::proofs::LoneLaws::lone_facts))]
-impl Work for Lone {
-    ghost use Rattle.ftl_cells.specs.Shape.{listed};
-    ghost use Rattle.ftl_cells.specs.Lone.{lone};
-
-    ghost meaning = { λ _. listed lone };
-
-    fn items(&self) -> u32 {
-        1
-    }
-
-    fn cells(&self) -> u32 {
-        1
-    }
-
-    fn cell_kind(&self, _cell: u32) -> CellKind {
-        CellKind::Target
-    }
-
-    fn pred_count(&self, _item: u32) -> u32 {
-        0
-    }
-
-    fn next_count(&self, _item: u32) -> u32 {
-        0
-    }
-
-    fn next(&self, _item: u32, _k: u32) -> u32 {
-        unreachable!()
-    }
-
-    fn step_count(&self, _item: u32) -> u32 {
-        1
-    }
-
-    fn target(&self, _item: u32, _step: u32) -> u32 {
-        0
-    }
-
-    fn read_count(&self, _item: u32, _step: u32) -> u32 {
-        0
-    }
-
-    fn read(&self, _item: u32, _step: u32, _k: u32) -> u32 {
-        unreachable!()
-    }
-
-    fn max_reads(&self) -> u32 {
-        0
-    }
-
-    fn max_stack(&self) -> u32 {
-        0
-    }
-
-    fn result(&self, _item: u32, _step: u32, _reads: &[Val], _stack: &mut CodeStack) -> Val {
-        Val::num(5)
-    }
-}
-
-#[tactic(auto, using(crate::proofs::LoneLaws::lone_first))]
-pub(crate) fn first_of_lone(alloc: Global) -> Result<Vec<u64>, AllocError>
-    ensures { IfOk result (λ v. AreFirst (listed lone) v.items) }
-{
-    Ok(vec![in alloc; 0]?)
 }

@@ -4,7 +4,7 @@ ghost use Rattle.ftl_cells.specs.State.{live, AreFirst, AreLast};
 ghost use Rattle.ftl_cells.specs.Calls.{IsMadeBy};
 ghost use Rattle.ftl_cells.specs.declared.place.HandPlace.TheVariants.{Idle, Ended};
 
-use crate::tests::chain::{Chain, Lone, first_of_chain, first_of_lone};
+use crate::tests::chain::{Chain, first_of_chain};
 use crate::tests::lent::{Lent, first_of_lent};
 use crate::tests::walk::take;
 use crate::tests::words::{are_words_of, first_words};
@@ -171,7 +171,12 @@ fn a_work_with_no_items_is_done(rt: HostRuntime) -> Result<(), Fail> {
 
 #[test]
 fn an_item_without_reads_is_filled(rt: HostRuntime) -> Result<(), Fail> {
-    let (cells, mut a) = Cells::open(rt.alloc(), Lone, first_of_lone(rt.alloc())?)?;
+    let numbers = vec![in rt.alloc(); 5u8]?;
+    let first = first_of_lent(rt.alloc(), numbers.as_slice())?;
+    let work = Lent {
+        numbers: numbers.as_slice(),
+    };
+    let (cells, mut a) = Cells::open(rt.alloc(), work, first)?;
     assert_eq!(rt; round(rt.alloc(), &cells, &mut a)?, 1);
     assert_eq!(rt; round(rt.alloc(), &cells, &mut a)?, 0);
     assert_eq!(rt; cells.left(&mut a), 0);
