@@ -13,8 +13,8 @@ pub data LeadsTo (m : Meaning) (words : List ℕ) (hands : List HandState) : Lis
   goes_further : {next last : List ℕ} {more most : List HandState} → LeadsTo m words hands next more
       → Makes m next more last most → LeadsTo m words hands last most
 
--- one step takes a hand from one state to another: in a state of the words and all hands that steps led to, a hand was
--- at the first, the step was made, and then this hand is at the second
+-- one step takes a hand from one state to another: there is a state of the words and all hands that steps lead to, in
+-- which a hand is at the first, and a step from there after which this hand is at the second
 pub record IsStepOf (v w : HandState) : Type 0 where
   pub words : List ℕ
   pub hands : List HandState
