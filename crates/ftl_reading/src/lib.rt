@@ -1,0 +1,18 @@
+//! What readers of token lists share. A reader takes tokens from the front of a list and gives a
+//! value, or refuses at a token: `specs/Reader.antt` has the readers that all others are made of, and
+//! `Input` is the cursor that code reads with. `specs/Depth.antt` says how many brackets are open at a
+//! token, and `specs/Place.antt` where tokens go wrong, for any relation that says what they spell.
+#![tactic(auto)]
+
+mod brackets;
+mod chain_item;
+mod fault;
+mod input;
+
+pub use brackets::first_too_deep;
+pub use chain_item::ChainItem;
+pub use fault::ReadFault;
+pub use input::{Input, place};
+
+#[cfg(test)]
+mod tests;
