@@ -1,0 +1,246 @@
+-- How expressions are read, one token ahead. What stands between brackets is read by the parameters `expr` and `cond`.
+use Rattle.std.specs.Prelude.{ℕ, zero, suc, true, false, Bool, [], ◌∷◌, Option, Some, None}
+use Rattle.ftl_base.specs.declared.comparison.Cmp.{Cmp}
+use Rattle.ftl_base.specs.declared.comparison.Cmp.TheVariants as cmp
+use Rattle.ftl_tokens.specs.declared.kind.Kind.{Kind}
+use Rattle.ftl_tokens.specs.declared.kind.Kind.TheVariants as kind
+use Rattle.ftl_reading.specs.Reader.{Reader, ◌>>=◌, ◌>>◌, ◌<$>◌, pure, refuse, next_kind, skip, expect, take_name, take_number, take_positive, push, chain_of}
+use Rattle.ftl_syntax.specs.declared.expression.Read.{Read}
+use Rattle.ftl_syntax.specs.declared.expression.Read.TheVariants as reads
+use Rattle.ftl_syntax.specs.declared.expression.Atom.{Atom}
+use Rattle.ftl_syntax.specs.declared.expression.Atom.TheVariants as atoms
+use Rattle.ftl_syntax.specs.declared.expression.Unary.{Unary}
+use Rattle.ftl_syntax.specs.declared.expression.Factor.{Factor}
+use Rattle.ftl_syntax.specs.declared.expression.Factor.TheVariants as factors
+use Rattle.ftl_syntax.specs.declared.expression.Term.{Term}
+use Rattle.ftl_syntax.specs.declared.expression.SignedTerm.{SignedTerm}
+use Rattle.ftl_syntax.specs.declared.expression.Sum.{Sum}
+use Rattle.ftl_syntax.specs.declared.expression.Test.{Test}
+use Rattle.ftl_syntax.specs.declared.expression.Test.TheVariants as tests
+use Rattle.ftl_syntax.specs.declared.expression.Conj.{Conj}
+use Rattle.ftl_syntax.specs.declared.expression.Cond.{Cond}
+use Rattle.ftl_syntax.specs.declared.expression.Expr.{Expr}
+use Rattle.ftl_syntax.specs.declared.expression.Expr.TheVariants as exprs
+use Rattle.ftl_syntax.specs.Trees as trees
+use Rattle.ftl_syntax.specs.Trees.{NameText}
+
+-- ---- reads
+
+-- a dot and a name
+unfoldable pub dot_name : Reader NameText
+dot_name = expect kind.Dot >> take_name
+
+-- a read, by the kind of its first token
+abbrev pub read_by : Option Kind → Reader Read
+read_by (Some kind.SelfWord) = skip >> reads.Own <$> dot_name
+read_by (Some kind.This) = skip >> reads.This <$> dot_name
+read_by (Some kind.Prev) = skip >> reads.Prev <$> dot_name
+read_by (Some kind.Name) = take_name >>= (λ c. reads.Of c <$> dot_name)
+read_by _ = refuse
+
+-- the attribute that an expression reads
+unfoldable pub read : Reader Read
+read = λ ts. read_by (next_kind ts) ts
+
+-- ---- the mark between two sums that are compared
+
+-- a mark that compares two sums, by its kind
+abbrev pub comparator_by : Option Kind → Reader Cmp
+comparator_by (Some kind.Less) = skip >> pure cmp.Less
+comparator_by (Some kind.LessEq) = skip >> pure cmp.LessEq
+comparator_by (Some kind.More) = skip >> pure cmp.More
+comparator_by (Some kind.MoreEq) = skip >> pure cmp.MoreEq
+comparator_by (Some kind.EqualEqual) = skip >> pure cmp.Equal
+comparator_by (Some kind.Unequal) = skip >> pure cmp.Unequal
+comparator_by _ = refuse
+
+-- a mark that compares two sums
+unfoldable pub comparator : Reader Cmp
+comparator = λ ts. comparator_by (next_kind ts) ts
+
+-- ---- sums
+
+module _ (expr : Reader Expr) where
+  -- after `(`
+  unfoldable pub group : Reader Expr
+  group = do
+    x ← expr
+    expect kind.RightParen
+    pure x
+
+  -- an atom that may stand after `or`, by the kind of its first token
+  abbrev pub plain_by : Option Kind → Reader Atom
+  plain_by (Some kind.Number) = atoms.Number <$> take_number
+  plain_by (Some kind.Acc) = skip >> pure atoms.Acc
+  plain_by (Some kind.LeftParen) = skip >> atoms.Group <$> group
+  plain_by _ = atoms.Read <$> read
+
+  -- an atom that may stand after `or`
+  unfoldable pub plain : Reader Atom
+  plain = λ ts. plain_by (next_kind ts) ts
+
+  -- two expressions in brackets, after `min` or `max`
+  unfoldable pub pair : Reader (Expr × Expr)
+  pair = do
+    expect kind.LeftParen
+    x ← expr
+    expect kind.Comma
+    y ← expr
+    expect kind.RightParen
+    pure (x, y)
+
+  -- after `last`
+  unfoldable pub last_or : Reader Atom
+  last_or = do
+    c ← take_name
+    n ← dot_name
+    expect kind.Or
+    x ← plain
+    pure (atoms.LastOr c n x)
+
+  -- an atom, by the kind of its first token
+  abbrev pub atom_by : Option Kind → Reader Atom
+  atom_by (Some kind.Min) = skip >> (λ xy. atoms.Least xy.0 xy.1) <$> pair
+  atom_by (Some kind.Max) = skip >> (λ xy. atoms.Greatest xy.0 xy.1) <$> pair
+  atom_by (Some kind.Last) = skip >> last_or
+  atom_by _ = plain
+
+  -- any atom
+  unfoldable pub atom : Reader Atom
+  atom = λ ts. atom_by (next_kind ts) ts
+
+  -- an atom with its sign, by the kind of the first token
+  abbrev pub unary_by : Option Kind → Reader Unary
+  unary_by (Some kind.Minus) = skip >> trees.unary true <$> atom
+  unary_by _ = trees.unary false <$> atom
+
+  -- an atom with its sign
+  unfoldable pub unary : Reader Unary
+  unary = λ ts. unary_by (next_kind ts) ts
+
+  -- one more factor, by the kind of its first token
+  abbrev pub factor_by : Option Kind → Reader (Option Factor)
+  factor_by (Some kind.Star) = skip >> (λ x. Some (factors.Times x)) <$> unary
+  factor_by (Some kind.Slash) = skip >> (λ n. Some (factors.Over n)) <$> take_positive
+  factor_by _ = pure None
+
+  -- one more factor, if there is one
+  unfoldable pub factor : Reader (Option Factor)
+  factor = λ ts. factor_by (next_kind ts) ts
+
+  -- factors that are multiplied and divided
+  unfoldable pub term : Reader Term
+  term = do
+    x ← unary
+    xs ← chain_of push factor []
+    pure (trees.term x xs)
+
+  -- one more term with its sign, by the kind of the first token
+  abbrev pub signed_by : Option Kind → Reader (Option SignedTerm)
+  signed_by (Some kind.Plus) = skip >> (λ x. Some (trees.signed false x)) <$> term
+  signed_by (Some kind.Minus) = skip >> (λ x. Some (trees.signed true x)) <$> term
+  signed_by _ = pure None
+
+  -- one more term with its sign, if there is one
+  unfoldable pub signed : Reader (Option SignedTerm)
+  signed = λ ts. signed_by (next_kind ts) ts
+
+  -- terms that are added and subtracted
+  unfoldable pub sum : Reader Sum
+  sum = do
+    x ← term
+    xs ← chain_of push signed []
+    pure (trees.sum x xs)
+
+  -- two sums that are compared
+  unfoldable pub comparison : Reader Test
+  comparison = do
+    x ← sum
+    c ← comparator
+    y ← sum
+    pure (tests.Compare c x y)
+
+-- ---- conditions and expressions
+
+module _ (expr : Reader Expr) (cond : Reader Cond) where
+  -- after `!`, or without it
+  unfoldable pub bracketed : Bool → Reader Test
+  bracketed negated = do
+    expect kind.LeftBracket
+    x ← cond
+    expect kind.RightBracket
+    pure (tests.Group negated x)
+
+  -- a test, by the kind of its first token
+  abbrev pub test_by : Option Kind → Reader Test
+  test_by (Some kind.Bang) = skip >> bracketed true
+  test_by (Some kind.LeftBracket) = bracketed false
+  test_by _ = comparison expr
+
+  -- a condition in square brackets, or two sums that are compared
+  unfoldable pub test : Reader Test
+  test = λ ts. test_by (next_kind ts) ts
+
+  -- `&&` and one more test, by the kind of the next token
+  abbrev pub and_test_by : Option Kind → Reader (Option Test)
+  and_test_by (Some kind.AndAnd) = skip >> Some <$> test
+  and_test_by _ = pure None
+
+  -- `&&` and one more test, if they are there
+  unfoldable pub and_test : Reader (Option Test)
+  and_test = λ ts. and_test_by (next_kind ts) ts
+
+  -- tests with `&&` between them
+  unfoldable pub conj : Reader Conj
+  conj = do
+    x ← test
+    xs ← chain_of push and_test (x ∷ [])
+    pure (trees.conj xs)
+
+  -- `||` and one more conj, by the kind of the next token
+  abbrev pub or_conj_by : Option Kind → Reader (Option Conj)
+  or_conj_by (Some kind.OrOr) = skip >> Some <$> conj
+  or_conj_by _ = pure None
+
+  -- `||` and one more conj, if they are there
+  unfoldable pub or_conj : Reader (Option Conj)
+  or_conj = λ ts. or_conj_by (next_kind ts) ts
+
+  -- conjs with `||` between them
+  unfoldable pub cond_level : Reader Cond
+  cond_level = do
+    x ← conj
+    xs ← chain_of push or_conj (x ∷ [])
+    pure (trees.cond xs)
+
+  -- after `if`
+  unfoldable pub choice : Reader Expr
+  choice = do
+    x ← cond_level
+    expect kind.Then
+    y ← sum expr
+    expect kind.Else
+    z ← sum expr
+    pure (exprs.If x y z)
+
+  -- an expression, by the kind of its first token
+  abbrev pub expr_by : Option Kind → Reader Expr
+  expr_by (Some kind.If) = skip >> choice
+  expr_by _ = exprs.Sum <$> sum expr
+
+  -- a choice between two sums, or a sum
+  unfoldable pub expr_level : Reader Expr
+  expr_level = λ ts. expr_by (next_kind ts) ts
+
+-- ---- what stands between brackets, to a depth that each bracket makes less
+
+unfoldable mutual
+  -- an expression with fewer brackets in one another than the depth
+  pub expr : ℕ → Reader Expr
+  expr zero = refuse
+  expr (suc depth) = expr_level (expr depth) (cond depth)
+
+  -- a condition with fewer brackets in one another than the depth
+  pub cond : ℕ → Reader Cond
+  cond zero = refuse
+  cond (suc depth) = cond_level (expr depth) (cond depth)

@@ -1,0 +1,19 @@
+//! The syntax of grammar texts: the syntax trees, form by form, and which tokens spell which tree.
+//! The relations stand in `specs/Spelling.antt` and `specs/GrammarSpelling.antt`, a line of the syntax
+//! each. What a reader does, token by token, stands in `specs/Reading.antt` and
+//! `specs/GrammarReading.antt`; laws in `src/laws.rt` lead from the one to the other.
+#![tactic(auto)]
+
+mod expression;
+mod laws;
+mod rules;
+
+pub use expression::{
+    Atom, Cond, Conj, ConjList, Expr, Factor, Factors, Read, SignedTerm, SignedTerms, Sum, Term,
+    Test, TestList, Unary,
+};
+pub use laws::{one_grammar, one_place, reads_grammars};
+pub use rules::{
+    AttrDecl, AttrDecls, AttrKind, Body, Child, ChildList, Class, ClassList, Declaration, Grammar,
+    Interface, InterfaceList, NameList, Rule, RuleList, Target,
+};
