@@ -1,0 +1,10 @@
+use Rattle.std.proofs.Common.{◌≡◌, ◌-◌, []}
+use Rattle.ftl_reading.specs.Reader.{push, until, until_of}
+use Rattle.ftl_syntax.specs.Reading as spec
+use Rattle.ftl_syntax.specs.GrammarReading as rules
+use Rattle.ftl_grammar.proofs.declarations.children.Given as goal
+
+abbrev pub invariant-loop-turn : goal.invariant-loop-turn
+invariant-loop-turn l =
+    let item = rules.member (spec.expr rules.bracket_depth) in
+    until_of push item [] l.fn.input ≡ until push item (l._turn-end - l._turn) l.found l.input

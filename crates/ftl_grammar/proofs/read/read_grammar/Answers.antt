@@ -1,0 +1,16 @@
+use Rattle.std.proofs.Common.{sym, ap, ◌∙◌}
+use Rattle.ftl_syntax.specs.GrammarReading.{grammar}
+use Rattle.ftl_grammar.proofs.ReadLemmas.{is_grammar, is_no_grammar}
+use Rattle.ftl_grammar.proofs.read.read_grammar.Goals as goal
+
+pub returns-in-Ok : goal.returns-in-Ok
+returns-in-Ok c =
+    let e = c.in-Ok.ensures in
+    is_grammar c.args.scanned.now c.in-Ok.grammar _ c.in_default.ensures (sym (ap grammar c.new-input.ensures) ∙ e)
+
+-- the fault isn't that of memory
+pub returns-in-Err-Refused : goal.returns-in-Err-Refused
+returns-in-Err-Refused c =
+    let e = c.in-Err-Refused.ensures (λ memory. cc (c.in-Err-Refused.field-0-is)) in
+    is_no_grammar c.args.scanned.now c.grammar.new.input c.left.result c.place.result c.in_default.ensures
+    (sym (ap grammar c.new-input.ensures) ∙ e) c.left.ensures c.place.ensures

@@ -1,0 +1,27 @@
+//! The tokens of a text go in and the grammar that they spell comes out, or the place at which they
+//! go wrong. `specs/Read.antt` says what is answered; which tokens spell which grammar stands in
+//! `ftl_syntax`, in `specs/GrammarSpelling.antt` and `specs/Spelling.antt`, a line of the syntax each.
+#![tactic(auto)]
+
+mod attrs;
+mod conds;
+mod declarations;
+mod fault;
+mod laws;
+mod nested;
+mod read;
+mod reads;
+mod rules;
+mod sums;
+
+pub use fault::SyntaxFault;
+pub use ftl_syntax::{
+    Atom, AttrDecl, AttrDecls, AttrKind, Body, Child, ChildList, Class, ClassList, Cond, Conj,
+    ConjList, Expr, Factor, Factors, Grammar, Interface, InterfaceList, NameList, Read, Rule,
+    RuleList, SignedTerm, SignedTerms, Sum, Target, Term, Test, TestList, Unary,
+};
+pub use laws::one_answer;
+pub use read::read_grammar;
+
+#[cfg(test)]
+mod tests;

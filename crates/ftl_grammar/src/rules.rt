@@ -1,0 +1,149 @@
+//! Rules.
+
+ghost use Rattle.std.specs.Prelude.{◌≡◌, [], IfOk};
+ghost use Rattle.ftl_reading.specs.Reader.{Reads, push, chain_of};
+ghost use Rattle.ftl_syntax.specs.Reading as spec;
+ghost use Rattle.ftl_syntax.specs.GrammarReading as rules;
+
+use crate::nested::expr;
+use crate::reads::dot_name;
+use ftl_reading::{Input, ReadFault};
+use ftl_syntax::{Body, Expr, Rule, RuleList, Target};
+use ftl_tokens::{Kind, Name};
+use sqlite_items::Items;
+use std::alloc::{AllocError, Global};
+
+// At most 64 brackets stand in one another, so one more are never reached.
+const DEPTH: usize = 65;
+
+fn any(alloc: Global, input: &mut Input<'_>) -> Result<Expr, ReadFault>
+    ensures { Reads (spec.expr rules.bracket_depth input.old) result input.new }
+{
+    expr(alloc, input, DEPTH)
+}
+
+// After `fold`.
+#[tactic(auto, unfolding(ftl_syntax::specs::GrammarReading::fold))]
+fn fold(alloc: Global, input: &mut Input<'_>) -> Result<Body, ReadFault>
+    ensures { Reads (rules.fold (spec.expr rules.bracket_depth) input.old) result input.new }
+{
+    let child = input.name(alloc)?;
+    input.expect(Kind::From)?;
+    let first = any(alloc, input)?;
+    input.expect(Kind::With)?;
+    let next = any(alloc, input)?;
+    Ok(Body::Fold(child, first, next))
+}
+
+#[tactic(auto, unfolding(ftl_syntax::specs::GrammarReading::own_body))]
+fn own_body(alloc: Global, input: &mut Input<'_>) -> Result<Body, ReadFault>
+    ensures { Reads (rules.own_body (spec.expr rules.bracket_depth) input.old) result input.new }
+{
+    match input.peek() {
+        Some(Kind::Fold) => {
+            input.skip();
+            fold(alloc, input)
+        }
+        _ => Ok(Body::Plain(any(alloc, input)?)),
+    }
+}
+
+// After `first`.
+#[tactic(auto, unfolding(ftl_syntax::specs::GrammarReading::first_then))]
+fn first_then(alloc: Global, input: &mut Input<'_>) -> Result<Body, ReadFault>
+    ensures { Reads (rules.first_then (spec.expr rules.bracket_depth) input.old) result input.new }
+{
+    let first = any(alloc, input)?;
+    input.expect(Kind::Then)?;
+    let later = any(alloc, input)?;
+    Ok(Body::FirstThen(first, later))
+}
+
+#[tactic(auto, unfolding(ftl_syntax::specs::GrammarReading::child_body))]
+fn child_body(alloc: Global, input: &mut Input<'_>) -> Result<Body, ReadFault>
+    ensures { Reads (rules.child_body (spec.expr rules.bracket_depth) input.old) result input.new }
+{
+    match input.peek() {
+        Some(Kind::First) => {
+            input.skip();
+            first_then(alloc, input)
+        }
+        _ => Ok(Body::Plain(any(alloc, input)?)),
+    }
+}
+
+// After `self`.
+#[tactic(auto, unfolding(ftl_syntax::specs::GrammarReading::own_rule))]
+fn own_rule(alloc: Global, input: &mut Input<'_>) -> Result<Rule, ReadFault>
+    ensures { Reads (rules.own_rule (spec.expr rules.bracket_depth) input.old) result input.new }
+{
+    let attr = dot_name(alloc, input)?;
+    input.expect(Kind::Assign)?;
+    let body = own_body(alloc, input)?;
+    input.expect(Kind::Semicolon)?;
+    Ok(Rule {
+        target: Target::Own(attr),
+        body,
+    })
+}
+
+/// After a child's name.
+#[tactic(auto, unfolding(ftl_syntax::specs::GrammarReading::child_rule))]
+pub fn child_rule(alloc: Global, input: &mut Input<'_>, child: Name) -> Result<Rule, ReadFault>
+    ensures { Reads (rules.child_rule (spec.expr rules.bracket_depth) child input.old) result input.new }
+{
+    let attr = dot_name(alloc, input)?;
+    input.expect(Kind::Assign)?;
+    let body = child_body(alloc, input)?;
+    input.expect(Kind::Semicolon)?;
+    Ok(Rule {
+        target: Target::Of(child, attr),
+        body,
+    })
+}
+
+// One more rule, if there is one.
+#[tactic(auto, unfolding(ftl_syntax::specs::GrammarReading::rule))]
+fn rule(alloc: Global, input: &mut Input<'_>) -> Result<Option<Rule>, ReadFault>
+    ensures { Reads (rules.rule (spec.expr rules.bracket_depth) input.old) result input.new }
+{
+    match input.peek() {
+        Some(Kind::SelfWord) => {
+            input.skip();
+            Ok(Some(own_rule(alloc, input)?))
+        }
+        Some(Kind::Name) => {
+            let child = input.name(alloc)?;
+            Ok(Some(child_rule(alloc, input, child)?))
+        }
+        _ => Ok(None),
+    }
+}
+
+/// The rules of a class, of which the first may have been read.
+pub fn rules(
+    alloc: Global,
+    input: &mut Input<'_>,
+    first: Option<Rule>,
+) -> Result<RuleList, ReadFault>
+    ensures { Reads (chain_of push (rules.rule (spec.expr rules.bracket_depth)) (rules.list_of first) input.old) result input.new }
+{
+    let mut found = list_of(alloc, first)?;
+    for _turn in 0..input.left() {
+        let Some(item) = rule(alloc, input)? else {
+            return Ok(found);
+        };
+        found.push(item)?;
+    }
+    Ok(found)
+}
+
+fn list_of(alloc: Global, first: Option<Rule>) -> Result<RuleList, AllocError>
+    ensures { IfOk result (λ found. found ≡ rules.list_of first) }
+{
+    let mut found = Items::new(alloc);
+    if let Some(rule) = first {
+        found.push(rule)?;
+    }
+    Ok(found)
+}
