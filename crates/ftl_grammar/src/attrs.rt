@@ -3,8 +3,8 @@
 ghost use Rattle.std.specs.Prelude.{◌≡◌, [], ◌∷◌, map, IfOk};
 ghost use Rattle.ftl_reading.specs.Reader.{Reads, push, chain_of};
 ghost use Rattle.ftl_syntax.specs.Trees.{attr_decl};
-ghost use Rattle.ftl_syntax.specs.GrammarReading as spec;
-ghost use Rattle.ftl_syntax.specs.GrammarReading.{append};
+ghost use Rattle.ftl_syntax.specs.InterfaceReading as spec;
+ghost use Rattle.ftl_syntax.specs.InterfaceReading.{append};
 ghost use Rattle.ftl_grammar.specs.Nests.{ReadsAs};
 
 use ftl_reading::{Input, ReadFault};
@@ -14,7 +14,7 @@ use sqlite_items::Items;
 use std::alloc::{AllocError, Global};
 
 // `,` and one more name, if they are there.
-#[tactic(auto, unfolding(ftl_syntax::specs::GrammarReading::comma_name))]
+#[tactic(auto, unfolding(ftl_syntax::specs::InterfaceReading::comma_name))]
 fn comma_name(alloc: Global, input: &mut Input<'_>) -> Result<Option<Name>, ReadFault>
     ensures { Reads (spec.comma_name input.old) result input.new }
 {
@@ -42,7 +42,7 @@ fn more_names(alloc: Global, input: &mut Input<'_>, first: Name) -> Result<Vec<N
     Ok(found)
 }
 
-#[tactic(auto, unfolding(ftl_syntax::specs::GrammarReading::names))]
+#[tactic(auto, unfolding(ftl_syntax::specs::InterfaceReading::names))]
 fn names(alloc: Global, input: &mut Input<'_>) -> Result<Vec<Name>, ReadFault>
     ensures { ReadsAs (λ v. v.items) (spec.names input.old) result input.new }
 {
@@ -51,7 +51,7 @@ fn names(alloc: Global, input: &mut Input<'_>) -> Result<Vec<Name>, ReadFault>
 }
 
 // Names and `;`.
-#[tactic(auto, unfolding(ftl_syntax::specs::GrammarReading::name_line))]
+#[tactic(auto, unfolding(ftl_syntax::specs::InterfaceReading::name_line))]
 fn name_line(alloc: Global, input: &mut Input<'_>) -> Result<Vec<Name>, ReadFault>
     ensures { ReadsAs (λ v. v.items) (spec.name_line input.old) result input.new }
 {
@@ -71,8 +71,8 @@ fn decls_of(alloc: Global, kind: AttrKind, names: Vec<Name>) -> Result<AttrDecls
     Ok(found)
 }
 
-// After the word of this kind.
-#[tactic(auto, unfolding(ftl_syntax::specs::GrammarReading::attr_group))]
+// Names and `;`, after the word of this kind.
+#[tactic(auto, unfolding(ftl_syntax::specs::InterfaceReading::attr_group))]
 fn attr_group(
     alloc: Global,
     input: &mut Input<'_>,
@@ -85,7 +85,7 @@ fn attr_group(
 }
 
 // One more group of attributes of an interface, if there is one.
-#[tactic(auto, unfolding(ftl_syntax::specs::GrammarReading::attrs))]
+#[tactic(auto, unfolding(ftl_syntax::specs::InterfaceReading::attrs))]
 fn group_of_interface(alloc: Global, input: &mut Input<'_>) -> Result<Option<AttrDecls>, ReadFault>
     ensures { Reads (spec.attrs input.old) result input.new }
 {
@@ -100,7 +100,7 @@ fn group_of_interface(alloc: Global, input: &mut Input<'_>) -> Result<Option<Att
 }
 
 // One more group of a class's own attributes, if there is one.
-#[tactic(auto, unfolding(ftl_syntax::specs::GrammarReading::own_attrs))]
+#[tactic(auto, unfolding(ftl_syntax::specs::InterfaceReading::own_attrs))]
 fn group_of_class(alloc: Global, input: &mut Input<'_>) -> Result<Option<AttrDecls>, ReadFault>
     ensures { Reads (spec.own_attrs input.old) result input.new }
 {
@@ -142,7 +142,7 @@ pub fn own_attrs(alloc: Global, input: &mut Input<'_>) -> Result<AttrDecls, Read
 }
 
 /// The names after `show`, if it is there.
-#[tactic(auto, unfolding(ftl_syntax::specs::GrammarReading::shown))]
+#[tactic(auto, unfolding(ftl_syntax::specs::InterfaceReading::shown))]
 pub fn shown(alloc: Global, input: &mut Input<'_>) -> Result<NameList, ReadFault>
     ensures { Reads (spec.shown input.old) result input.new }
 {

@@ -3,7 +3,7 @@
 
 ghost use Rattle.std.specs.Prelude.{[], ◌∷◌};
 ghost use Rattle.ftl_reading.specs.Reader.{Reads, push, chain_of};
-ghost use Rattle.ftl_syntax.specs.Reading as spec;
+ghost use Rattle.ftl_syntax.specs.ExpressionReading as spec;
 ghost use Rattle.ftl_grammar.specs.Nests.{Nests};
 
 use crate::sums::Sums;
@@ -31,8 +31,8 @@ impl<
         (self.cond)(self.sums.alloc, input, self.sums.depth)
     }
 
-    // After `!`, or without it.
-    #[tactic(auto, unfolding(ftl_syntax::specs::Reading::bracketed))]
+    // A condition in square brackets, after `!` or without it.
+    #[tactic(auto, unfolding(ftl_syntax::specs::ExpressionReading::bracketed))]
     fn bracketed(&self, input: &mut Input<'_>, negated: bool) -> Result<Test, ReadFault>
         requires exprs { Nests spec.expr self.now.sums.depth (E.pre self.now.sums.expr) (E.post self.now.sums.expr) }
         requires conds { Nests spec.cond self.now.sums.depth (C.pre self.now.cond) (C.post self.now.cond) }
@@ -44,7 +44,7 @@ impl<
         Ok(Test::Group(negated, Boxed::new(self.sums.alloc, inner)?))
     }
 
-    #[tactic(auto, unfolding(ftl_syntax::specs::Reading::test))]
+    #[tactic(auto, unfolding(ftl_syntax::specs::ExpressionReading::test))]
     fn test(&self, input: &mut Input<'_>) -> Result<Test, ReadFault>
         requires exprs { Nests spec.expr self.now.sums.depth (E.pre self.now.sums.expr) (E.post self.now.sums.expr) }
         requires conds { Nests spec.cond self.now.sums.depth (C.pre self.now.cond) (C.post self.now.cond) }
@@ -61,7 +61,7 @@ impl<
     }
 
     // `&&` and one more test, if they are there.
-    #[tactic(auto, unfolding(ftl_syntax::specs::Reading::and_test))]
+    #[tactic(auto, unfolding(ftl_syntax::specs::ExpressionReading::and_test))]
     fn and_test(&self, input: &mut Input<'_>) -> Result<Option<Test>, ReadFault>
         requires exprs { Nests spec.expr self.now.sums.depth (E.pre self.now.sums.expr) (E.post self.now.sums.expr) }
         requires conds { Nests spec.cond self.now.sums.depth (C.pre self.now.cond) (C.post self.now.cond) }
@@ -93,7 +93,7 @@ impl<
         Ok(found)
     }
 
-    #[tactic(auto, unfolding(ftl_syntax::specs::Reading::conj))]
+    #[tactic(auto, unfolding(ftl_syntax::specs::ExpressionReading::conj))]
     fn conj(&self, input: &mut Input<'_>) -> Result<Conj, ReadFault>
         requires exprs { Nests spec.expr self.now.sums.depth (E.pre self.now.sums.expr) (E.post self.now.sums.expr) }
         requires conds { Nests spec.cond self.now.sums.depth (C.pre self.now.cond) (C.post self.now.cond) }
@@ -105,7 +105,7 @@ impl<
     }
 
     // `||` and one more conj, if they are there.
-    #[tactic(auto, unfolding(ftl_syntax::specs::Reading::or_conj))]
+    #[tactic(auto, unfolding(ftl_syntax::specs::ExpressionReading::or_conj))]
     fn or_conj(&self, input: &mut Input<'_>) -> Result<Option<Conj>, ReadFault>
         requires exprs { Nests spec.expr self.now.sums.depth (E.pre self.now.sums.expr) (E.post self.now.sums.expr) }
         requires conds { Nests spec.cond self.now.sums.depth (C.pre self.now.cond) (C.post self.now.cond) }
@@ -137,7 +137,7 @@ impl<
         Ok(found)
     }
 
-    #[tactic(auto, unfolding(ftl_syntax::specs::Reading::cond_level))]
+    #[tactic(auto, unfolding(ftl_syntax::specs::ExpressionReading::cond_level))]
     pub fn level(&self, input: &mut Input<'_>) -> Result<Cond, ReadFault>
         requires exprs { Nests spec.expr self.now.sums.depth (E.pre self.now.sums.expr) (E.post self.now.sums.expr) }
         requires conds { Nests spec.cond self.now.sums.depth (C.pre self.now.cond) (C.post self.now.cond) }
@@ -148,8 +148,8 @@ impl<
         Ok(Cond { any })
     }
 
-    // After `if`.
-    #[tactic(auto, unfolding(ftl_syntax::specs::Reading::choice))]
+    // A condition and two sums, after `if`.
+    #[tactic(auto, unfolding(ftl_syntax::specs::ExpressionReading::choice))]
     fn choice(&self, input: &mut Input<'_>) -> Result<Expr, ReadFault>
         requires exprs { Nests spec.expr self.now.sums.depth (E.pre self.now.sums.expr) (E.post self.now.sums.expr) }
         requires conds { Nests spec.cond self.now.sums.depth (C.pre self.now.cond) (C.post self.now.cond) }
@@ -163,7 +163,7 @@ impl<
         Ok(Expr::If(Boxed::new(self.sums.alloc, cond)?, held, other))
     }
 
-    #[tactic(auto, unfolding(ftl_syntax::specs::Reading::expr_level))]
+    #[tactic(auto, unfolding(ftl_syntax::specs::ExpressionReading::expr_level))]
     pub fn expr_level(&self, input: &mut Input<'_>) -> Result<Expr, ReadFault>
         requires exprs { Nests spec.expr self.now.sums.depth (E.pre self.now.sums.expr) (E.post self.now.sums.expr) }
         requires conds { Nests spec.cond self.now.sums.depth (C.pre self.now.cond) (C.post self.now.cond) }

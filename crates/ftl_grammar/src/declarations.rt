@@ -2,8 +2,9 @@
 
 ghost use Rattle.std.specs.Prelude.{[]};
 ghost use Rattle.ftl_reading.specs.Reader.{Reads, push, chain_of, until_of};
-ghost use Rattle.ftl_syntax.specs.Reading as reading;
+ghost use Rattle.ftl_syntax.specs.ExpressionReading as reading;
 ghost use Rattle.ftl_syntax.specs.GrammarReading as spec;
+ghost use Rattle.ftl_syntax.specs.InterfaceReading as interfaces;
 
 use crate::attrs::{attrs, own_attrs, shown};
 use crate::rules::{child_rule, rules};
@@ -15,10 +16,10 @@ use ftl_tokens::{Kind, Name};
 use sqlite_items::Items;
 use std::alloc::Global;
 
-// After `interface`.
-#[tactic(auto, unfolding(ftl_syntax::specs::GrammarReading::interface))]
+// The rest of an interface, after `interface`.
+#[tactic(auto, unfolding(ftl_syntax::specs::InterfaceReading::interface))]
 fn interface(alloc: Global, input: &mut Input<'_>) -> Result<Interface, ReadFault>
-    ensures { Reads (spec.interface input.old) result input.new }
+    ensures { Reads (interfaces.interface input.old) result input.new }
 {
     let name = input.name(alloc)?;
     input.expect(Kind::LeftBrace)?;
@@ -28,10 +29,10 @@ fn interface(alloc: Global, input: &mut Input<'_>) -> Result<Interface, ReadFaul
     Ok(Interface { name, attrs, shown })
 }
 
-// After `:` and `[`.
-#[tactic(auto, unfolding(ftl_syntax::specs::GrammarReading::list_child))]
+// The interface of a list child, after `:` and `[`.
+#[tactic(auto, unfolding(ftl_syntax::specs::InterfaceReading::list_child))]
 fn list_child(alloc: Global, input: &mut Input<'_>, name: Name) -> Result<Child, ReadFault>
-    ensures { Reads (spec.list_child name input.old) result input.new }
+    ensures { Reads (interfaces.list_child name input.old) result input.new }
 {
     let interface = input.name(alloc)?;
     input.expect(Kind::RightBracket)?;
@@ -43,10 +44,10 @@ fn list_child(alloc: Global, input: &mut Input<'_>, name: Name) -> Result<Child,
     })
 }
 
-// After `:`.
-#[tactic(auto, unfolding(ftl_syntax::specs::GrammarReading::single_child))]
+// The interface of a single child, after `:`.
+#[tactic(auto, unfolding(ftl_syntax::specs::InterfaceReading::single_child))]
 fn single_child(alloc: Global, input: &mut Input<'_>, name: Name) -> Result<Child, ReadFault>
-    ensures { Reads (spec.single_child name input.old) result input.new }
+    ensures { Reads (interfaces.single_child name input.old) result input.new }
 {
     let interface = input.name(alloc)?;
     input.expect(Kind::Semicolon)?;
@@ -57,9 +58,9 @@ fn single_child(alloc: Global, input: &mut Input<'_>, name: Name) -> Result<Chil
     })
 }
 
-#[tactic(auto, unfolding(ftl_syntax::specs::GrammarReading::child))]
+#[tactic(auto, unfolding(ftl_syntax::specs::InterfaceReading::child))]
 fn child(alloc: Global, input: &mut Input<'_>, name: Name) -> Result<Child, ReadFault>
-    ensures { Reads (spec.child name input.old) result input.new }
+    ensures { Reads (interfaces.child name input.old) result input.new }
 {
     match input.peek() {
         Some(Kind::LeftBracket) => {
@@ -70,7 +71,7 @@ fn child(alloc: Global, input: &mut Input<'_>, name: Name) -> Result<Child, Read
     }
 }
 
-// By what stands after a child's name.
+// A child or a rule for one, by what stands after the child's name.
 #[tactic(auto, unfolding(ftl_syntax::specs::GrammarReading::named))]
 fn named(
     alloc: Global,
@@ -117,7 +118,7 @@ fn children(alloc: Global, input: &mut Input<'_>) -> Result<(ChildList, Option<R
     Ok((found, None))
 }
 
-// After `class`.
+// The rest of a class, after `class`.
 #[tactic(auto, unfolding(ftl_syntax::specs::GrammarReading::class))]
 fn class(alloc: Global, input: &mut Input<'_>) -> Result<Class, ReadFault>
     ensures { Reads (spec.class (reading.expr spec.bracket_depth) input.old) result input.new }

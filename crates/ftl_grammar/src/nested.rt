@@ -1,7 +1,7 @@
 //! Expressions and conditions with brackets in brackets.
 
 ghost use Rattle.ftl_reading.specs.Reader.{Reads};
-ghost use Rattle.ftl_syntax.specs.Reading as spec;
+ghost use Rattle.ftl_syntax.specs.ExpressionReading as spec;
 
 use crate::conds::Conds;
 use crate::sums::Sums;

@@ -1,7 +1,7 @@
 //! Reads of attributes, and the marks between two sums that are compared.
 
 ghost use Rattle.ftl_reading.specs.Reader.{Reads};
-ghost use Rattle.ftl_syntax.specs.Reading as spec;
+ghost use Rattle.ftl_syntax.specs.SumReading as spec;
 
 use ftl_base::Cmp;
 use ftl_reading::{Input, ReadFault};
@@ -10,7 +10,7 @@ use ftl_tokens::{Kind, Name};
 use std::alloc::Global;
 
 /// A dot and a name.
-#[tactic(auto, unfolding(ftl_syntax::specs::Reading::dot_name))]
+#[tactic(auto, unfolding(ftl_syntax::specs::SumReading::dot_name))]
 pub fn dot_name(alloc: Global, input: &mut Input<'_>) -> Result<Name, ReadFault>
     ensures { Reads (spec.dot_name input.old) result input.new }
 {
@@ -18,7 +18,7 @@ pub fn dot_name(alloc: Global, input: &mut Input<'_>) -> Result<Name, ReadFault>
     input.name(alloc)
 }
 
-#[tactic(auto, unfolding(ftl_syntax::specs::Reading::read))]
+#[tactic(auto, unfolding(ftl_syntax::specs::SumReading::read))]
 pub fn read(alloc: Global, input: &mut Input<'_>) -> Result<Read, ReadFault>
     ensures { Reads (spec.read input.old) result input.new }
 {
@@ -43,7 +43,7 @@ pub fn read(alloc: Global, input: &mut Input<'_>) -> Result<Read, ReadFault>
     }
 }
 
-#[tactic(auto, unfolding(ftl_syntax::specs::Reading::comparator))]
+#[tactic(auto, unfolding(ftl_syntax::specs::SumReading::comparator))]
 pub fn comparator(input: &mut Input<'_>) -> Result<Cmp, ReadFault>
     ensures { Reads (spec.comparator input.old) result input.new }
 {

@@ -2,7 +2,7 @@
 
 ghost use Rattle.std.specs.Prelude.{◌≡◌, [], IfOk};
 ghost use Rattle.ftl_reading.specs.Reader.{Reads, push, chain_of};
-ghost use Rattle.ftl_syntax.specs.Reading as spec;
+ghost use Rattle.ftl_syntax.specs.ExpressionReading as spec;
 ghost use Rattle.ftl_syntax.specs.GrammarReading as rules;
 
 use crate::nested::expr;
@@ -13,7 +13,7 @@ use ftl_tokens::{Kind, Name};
 use sqlite_items::Items;
 use std::alloc::{AllocError, Global};
 
-// At most 64 brackets stand in one another, so one more are never reached.
+// One level of brackets more than may be open: where no more are, the last level is never read.
 const DEPTH: usize = 65;
 
 fn any(alloc: Global, input: &mut Input<'_>) -> Result<Expr, ReadFault>
@@ -22,7 +22,7 @@ fn any(alloc: Global, input: &mut Input<'_>) -> Result<Expr, ReadFault>
     expr(alloc, input, DEPTH)
 }
 
-// After `fold`.
+// The rest of a fold, after `fold`.
 #[tactic(auto, unfolding(ftl_syntax::specs::GrammarReading::fold))]
 fn fold(alloc: Global, input: &mut Input<'_>) -> Result<Body, ReadFault>
     ensures { Reads (rules.fold (spec.expr rules.bracket_depth) input.old) result input.new }
@@ -48,7 +48,7 @@ fn own_body(alloc: Global, input: &mut Input<'_>) -> Result<Body, ReadFault>
     }
 }
 
-// After `first`.
+// Two expressions with `then` between them, after `first`.
 #[tactic(auto, unfolding(ftl_syntax::specs::GrammarReading::first_then))]
 fn first_then(alloc: Global, input: &mut Input<'_>) -> Result<Body, ReadFault>
     ensures { Reads (rules.first_then (spec.expr rules.bracket_depth) input.old) result input.new }
@@ -72,7 +72,7 @@ fn child_body(alloc: Global, input: &mut Input<'_>) -> Result<Body, ReadFault>
     }
 }
 
-// After `self`.
+// The rest of a rule for the node itself, after `self`.
 #[tactic(auto, unfolding(ftl_syntax::specs::GrammarReading::own_rule))]
 fn own_rule(alloc: Global, input: &mut Input<'_>) -> Result<Rule, ReadFault>
     ensures { Reads (rules.own_rule (spec.expr rules.bracket_depth) input.old) result input.new }
@@ -87,7 +87,7 @@ fn own_rule(alloc: Global, input: &mut Input<'_>) -> Result<Rule, ReadFault>
     })
 }
 
-/// After a child's name.
+/// The rest of a rule for a child, after the child's name.
 #[tactic(auto, unfolding(ftl_syntax::specs::GrammarReading::child_rule))]
 pub fn child_rule(alloc: Global, input: &mut Input<'_>, child: Name) -> Result<Rule, ReadFault>
     ensures { Reads (rules.child_rule (spec.expr rules.bracket_depth) child input.old) result input.new }

@@ -3,7 +3,8 @@
 
 ghost use Rattle.std.specs.Prelude.{[]};
 ghost use Rattle.ftl_reading.specs.Reader.{Reads, push, chain_of};
-ghost use Rattle.ftl_syntax.specs.Reading as spec;
+ghost use Rattle.ftl_syntax.specs.SumReading as spec;
+ghost use Rattle.ftl_syntax.specs.ExpressionReading as nested;
 ghost use Rattle.ftl_grammar.specs.Nests.{Nests};
 
 use crate::reads::{comparator, dot_name, read};
@@ -23,27 +24,27 @@ pub struct Sums<E> {
 
 impl<E: Fn(Global, &mut Input<'_>, usize) -> Result<Expr, ReadFault>> Sums<E> {
     fn expr(&self, input: &mut Input<'_>) -> Result<Expr, ReadFault>
-        requires { Nests spec.expr self.now.depth (E.pre self.now.expr) (E.post self.now.expr) }
-        ensures { Reads (spec.expr self.now.depth input.old) result input.new }
+        requires { Nests nested.expr self.now.depth (E.pre self.now.expr) (E.post self.now.expr) }
+        ensures { Reads (nested.expr self.now.depth input.old) result input.new }
     {
         (self.expr)(self.alloc, input, self.depth)
     }
 
-    // After `(`.
-    #[tactic(auto, unfolding(ftl_syntax::specs::Reading::group))]
+    // An expression and `)`, after `(`.
+    #[tactic(auto, unfolding(ftl_syntax::specs::SumReading::group))]
     fn group(&self, input: &mut Input<'_>) -> Result<Boxed<Expr>, ReadFault>
-        requires { Nests spec.expr self.now.depth (E.pre self.now.expr) (E.post self.now.expr) }
-        ensures { Reads (spec.group (spec.expr self.now.depth) input.old) result input.new }
+        requires { Nests nested.expr self.now.depth (E.pre self.now.expr) (E.post self.now.expr) }
+        ensures { Reads (spec.group (nested.expr self.now.depth) input.old) result input.new }
     {
         let inner = self.expr(input)?;
         input.expect(Kind::RightParen)?;
         Ok(Boxed::new(self.alloc, inner)?)
     }
 
-    #[tactic(auto, unfolding(ftl_syntax::specs::Reading::plain))]
+    #[tactic(auto, unfolding(ftl_syntax::specs::SumReading::plain))]
     fn plain(&self, input: &mut Input<'_>) -> Result<Atom, ReadFault>
-        requires { Nests spec.expr self.now.depth (E.pre self.now.expr) (E.post self.now.expr) }
-        ensures { Reads (spec.plain (spec.expr self.now.depth) input.old) result input.new }
+        requires { Nests nested.expr self.now.depth (E.pre self.now.expr) (E.post self.now.expr) }
+        ensures { Reads (spec.plain (nested.expr self.now.depth) input.old) result input.new }
     {
         match input.peek() {
             Some(Kind::Number) => Ok(Atom::Number(input.number()?)),
@@ -60,10 +61,10 @@ impl<E: Fn(Global, &mut Input<'_>, usize) -> Result<Expr, ReadFault>> Sums<E> {
     }
 
     // Two expressions in brackets, after `min` or `max`.
-    #[tactic(auto, unfolding(ftl_syntax::specs::Reading::pair))]
+    #[tactic(auto, unfolding(ftl_syntax::specs::SumReading::pair))]
     fn pair(&self, input: &mut Input<'_>) -> Result<(Boxed<Expr>, Boxed<Expr>), ReadFault>
-        requires { Nests spec.expr self.now.depth (E.pre self.now.expr) (E.post self.now.expr) }
-        ensures { Reads (spec.pair (spec.expr self.now.depth) input.old) result input.new }
+        requires { Nests nested.expr self.now.depth (E.pre self.now.expr) (E.post self.now.expr) }
+        ensures { Reads (spec.pair (nested.expr self.now.depth) input.old) result input.new }
     {
         input.expect(Kind::LeftParen)?;
         let first = self.expr(input)?;
@@ -76,11 +77,11 @@ impl<E: Fn(Global, &mut Input<'_>, usize) -> Result<Expr, ReadFault>> Sums<E> {
         ))
     }
 
-    // After `last`.
-    #[tactic(auto, unfolding(ftl_syntax::specs::Reading::last_or))]
+    // A child, its attribute, and what stands after `or`, after `last`.
+    #[tactic(auto, unfolding(ftl_syntax::specs::SumReading::last_or))]
     fn last_or(&self, input: &mut Input<'_>) -> Result<Atom, ReadFault>
-        requires { Nests spec.expr self.now.depth (E.pre self.now.expr) (E.post self.now.expr) }
-        ensures { Reads (spec.last_or (spec.expr self.now.depth) input.old) result input.new }
+        requires { Nests nested.expr self.now.depth (E.pre self.now.expr) (E.post self.now.expr) }
+        ensures { Reads (spec.last_or (nested.expr self.now.depth) input.old) result input.new }
     {
         let child = input.name(self.alloc)?;
         let attr = dot_name(self.alloc, input)?;
@@ -89,10 +90,10 @@ impl<E: Fn(Global, &mut Input<'_>, usize) -> Result<Expr, ReadFault>> Sums<E> {
         Ok(Atom::LastOr(child, attr, Boxed::new(self.alloc, other)?))
     }
 
-    #[tactic(auto, unfolding(ftl_syntax::specs::Reading::atom))]
+    #[tactic(auto, unfolding(ftl_syntax::specs::SumReading::atom))]
     fn atom(&self, input: &mut Input<'_>) -> Result<Atom, ReadFault>
-        requires { Nests spec.expr self.now.depth (E.pre self.now.expr) (E.post self.now.expr) }
-        ensures { Reads (spec.atom (spec.expr self.now.depth) input.old) result input.new }
+        requires { Nests nested.expr self.now.depth (E.pre self.now.expr) (E.post self.now.expr) }
+        ensures { Reads (spec.atom (nested.expr self.now.depth) input.old) result input.new }
     {
         match input.peek() {
             Some(Kind::Min) => {
@@ -113,10 +114,10 @@ impl<E: Fn(Global, &mut Input<'_>, usize) -> Result<Expr, ReadFault>> Sums<E> {
         }
     }
 
-    #[tactic(auto, unfolding(ftl_syntax::specs::Reading::unary))]
+    #[tactic(auto, unfolding(ftl_syntax::specs::SumReading::unary))]
     fn unary(&self, input: &mut Input<'_>) -> Result<Unary, ReadFault>
-        requires { Nests spec.expr self.now.depth (E.pre self.now.expr) (E.post self.now.expr) }
-        ensures { Reads (spec.unary (spec.expr self.now.depth) input.old) result input.new }
+        requires { Nests nested.expr self.now.depth (E.pre self.now.expr) (E.post self.now.expr) }
+        ensures { Reads (spec.unary (nested.expr self.now.depth) input.old) result input.new }
     {
         match input.peek() {
             Some(Kind::Minus) => {
@@ -132,10 +133,10 @@ impl<E: Fn(Global, &mut Input<'_>, usize) -> Result<Expr, ReadFault>> Sums<E> {
     }
 
     // One more factor, if there is one.
-    #[tactic(auto, unfolding(ftl_syntax::specs::Reading::factor))]
+    #[tactic(auto, unfolding(ftl_syntax::specs::SumReading::factor))]
     fn factor(&self, input: &mut Input<'_>) -> Result<Option<Factor>, ReadFault>
-        requires { Nests spec.expr self.now.depth (E.pre self.now.expr) (E.post self.now.expr) }
-        ensures { Reads (spec.factor (spec.expr self.now.depth) input.old) result input.new }
+        requires { Nests nested.expr self.now.depth (E.pre self.now.expr) (E.post self.now.expr) }
+        ensures { Reads (spec.factor (nested.expr self.now.depth) input.old) result input.new }
     {
         match input.peek() {
             Some(Kind::Star) => {
@@ -151,8 +152,8 @@ impl<E: Fn(Global, &mut Input<'_>, usize) -> Result<Expr, ReadFault>> Sums<E> {
     }
 
     fn factors(&self, input: &mut Input<'_>) -> Result<Factors, ReadFault>
-        requires { Nests spec.expr self.now.depth (E.pre self.now.expr) (E.post self.now.expr) }
-        ensures { Reads (chain_of push (spec.factor (spec.expr self.now.depth)) [] input.old) result input.new }
+        requires { Nests nested.expr self.now.depth (E.pre self.now.expr) (E.post self.now.expr) }
+        ensures { Reads (chain_of push (spec.factor (nested.expr self.now.depth)) [] input.old) result input.new }
     {
         let mut found = Items::new(self.alloc);
         for _turn in 0..input.left() {
@@ -164,10 +165,10 @@ impl<E: Fn(Global, &mut Input<'_>, usize) -> Result<Expr, ReadFault>> Sums<E> {
         Ok(found)
     }
 
-    #[tactic(auto, unfolding(ftl_syntax::specs::Reading::term))]
+    #[tactic(auto, unfolding(ftl_syntax::specs::SumReading::term))]
     fn term(&self, input: &mut Input<'_>) -> Result<Term, ReadFault>
-        requires { Nests spec.expr self.now.depth (E.pre self.now.expr) (E.post self.now.expr) }
-        ensures { Reads (spec.term (spec.expr self.now.depth) input.old) result input.new }
+        requires { Nests nested.expr self.now.depth (E.pre self.now.expr) (E.post self.now.expr) }
+        ensures { Reads (spec.term (nested.expr self.now.depth) input.old) result input.new }
     {
         let head = self.unary(input)?;
         let tail = self.factors(input)?;
@@ -175,10 +176,10 @@ impl<E: Fn(Global, &mut Input<'_>, usize) -> Result<Expr, ReadFault>> Sums<E> {
     }
 
     // One more term with its sign, if there is one.
-    #[tactic(auto, unfolding(ftl_syntax::specs::Reading::signed))]
+    #[tactic(auto, unfolding(ftl_syntax::specs::SumReading::signed))]
     fn signed(&self, input: &mut Input<'_>) -> Result<Option<SignedTerm>, ReadFault>
-        requires { Nests spec.expr self.now.depth (E.pre self.now.expr) (E.post self.now.expr) }
-        ensures { Reads (spec.signed (spec.expr self.now.depth) input.old) result input.new }
+        requires { Nests nested.expr self.now.depth (E.pre self.now.expr) (E.post self.now.expr) }
+        ensures { Reads (spec.signed (nested.expr self.now.depth) input.old) result input.new }
     {
         let minus = match input.peek() {
             Some(Kind::Plus) => false,
@@ -191,8 +192,8 @@ impl<E: Fn(Global, &mut Input<'_>, usize) -> Result<Expr, ReadFault>> Sums<E> {
     }
 
     fn signed_terms(&self, input: &mut Input<'_>) -> Result<SignedTerms, ReadFault>
-        requires { Nests spec.expr self.now.depth (E.pre self.now.expr) (E.post self.now.expr) }
-        ensures { Reads (chain_of push (spec.signed (spec.expr self.now.depth)) [] input.old) result input.new }
+        requires { Nests nested.expr self.now.depth (E.pre self.now.expr) (E.post self.now.expr) }
+        ensures { Reads (chain_of push (spec.signed (nested.expr self.now.depth)) [] input.old) result input.new }
     {
         let mut found = Items::new(self.alloc);
         for _turn in 0..input.left() {
@@ -204,10 +205,10 @@ impl<E: Fn(Global, &mut Input<'_>, usize) -> Result<Expr, ReadFault>> Sums<E> {
         Ok(found)
     }
 
-    #[tactic(auto, unfolding(ftl_syntax::specs::Reading::sum))]
+    #[tactic(auto, unfolding(ftl_syntax::specs::SumReading::sum))]
     pub fn sum(&self, input: &mut Input<'_>) -> Result<Sum, ReadFault>
-        requires { Nests spec.expr self.now.depth (E.pre self.now.expr) (E.post self.now.expr) }
-        ensures { Reads (spec.sum (spec.expr self.now.depth) input.old) result input.new }
+        requires { Nests nested.expr self.now.depth (E.pre self.now.expr) (E.post self.now.expr) }
+        ensures { Reads (spec.sum (nested.expr self.now.depth) input.old) result input.new }
     {
         let head = self.term(input)?;
         let tail = self.signed_terms(input)?;
@@ -215,17 +216,17 @@ impl<E: Fn(Global, &mut Input<'_>, usize) -> Result<Expr, ReadFault>> Sums<E> {
     }
 
     pub fn boxed_sum(&self, input: &mut Input<'_>) -> Result<Boxed<Sum>, ReadFault>
-        requires { Nests spec.expr self.now.depth (E.pre self.now.expr) (E.post self.now.expr) }
-        ensures { Reads (spec.sum (spec.expr self.now.depth) input.old) result input.new }
+        requires { Nests nested.expr self.now.depth (E.pre self.now.expr) (E.post self.now.expr) }
+        ensures { Reads (spec.sum (nested.expr self.now.depth) input.old) result input.new }
     {
         let sum = self.sum(input)?;
         Ok(Boxed::new(self.alloc, sum)?)
     }
 
-    #[tactic(auto, unfolding(ftl_syntax::specs::Reading::comparison))]
+    #[tactic(auto, unfolding(ftl_syntax::specs::SumReading::comparison))]
     pub fn comparison(&self, input: &mut Input<'_>) -> Result<Test, ReadFault>
-        requires { Nests spec.expr self.now.depth (E.pre self.now.expr) (E.post self.now.expr) }
-        ensures { Reads (spec.comparison (spec.expr self.now.depth) input.old) result input.new }
+        requires { Nests nested.expr self.now.depth (E.pre self.now.expr) (E.post self.now.expr) }
+        ensures { Reads (spec.comparison (nested.expr self.now.depth) input.old) result input.new }
     {
         let left = self.boxed_sum(input)?;
         let cmp = comparator(input)?;

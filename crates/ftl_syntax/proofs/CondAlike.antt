@@ -12,8 +12,8 @@ use Rattle.ftl_syntax.specs.declared.expression.Expr.{Expr}
 use Rattle.ftl_syntax.specs.declared.expression.Expr.TheVariants as exprs
 use Rattle.ftl_syntax.specs.Trees as trees
 use Rattle.ftl_syntax.specs.Spelling.{SpellsCond, SpellsExpr}
-use Rattle.ftl_syntax.specs.Reading as reading
-use Rattle.ftl_syntax.specs.Reading.{bracketed, test_by, test, and_test_by, and_test, conj, or_conj_by, or_conj, cond_level, choice, expr_by, expr_level}
+use Rattle.ftl_syntax.specs.ExpressionReading as reading
+use Rattle.ftl_syntax.specs.ExpressionReading.{bracketed, test_by, test, and_test_by, and_test, conj, or_conj_by, or_conj, cond_level, choice, expr_by, expr_level}
 use Rattle.ftl_syntax.proofs.Heads.{height, past_plain, past_bracket, past_end_bracket}
 use Rattle.ftl_syntax.proofs.Lengths.{some_and_test, some_or_conj}
 use Rattle.ftl_syntax.proofs.CondTold.{and_test_told, or_conj_told, expr_told, cond_told}

@@ -15,8 +15,8 @@ use Rattle.ftl_syntax.specs.declared.expression.Expr.{Expr}
 use Rattle.ftl_syntax.specs.declared.expression.Expr.TheVariants as exprs
 use Rattle.ftl_syntax.specs.Trees as trees
 use Rattle.ftl_syntax.specs.Spelling.{SpellsTest, SpellsAndTests, SpellsConj, SpellsOrConjs, SpellsCond, SpellsExpr, grouped, negated, no_tests, more_tests, conj_of, no_conjs, more_conjs, cond_of, plain_sum, if_then_else}
-use Rattle.ftl_syntax.specs.Reading as reading
-use Rattle.ftl_syntax.specs.Reading.{sum, bracketed, test_by, test, and_test_by, and_test, conj, or_conj_by, or_conj, cond_level, choice, expr_by, expr_level}
+use Rattle.ftl_syntax.specs.ExpressionReading as reading
+use Rattle.ftl_syntax.specs.ExpressionReading.{bracketed, test_by, test, and_test_by, and_test, conj, or_conj_by, or_conj, cond_level, choice, expr_by, expr_level}
 use Rattle.ftl_syntax.proofs.Parts.{Bracketed, bracketed_of, AndTest, and_test_of, OrConj, or_conj_of, Choice, choice_of}
 use Rattle.ftl_syntax.proofs.Examples.{zero_sum, zero_expr, zero_cond}
 use Rattle.ftl_syntax.proofs.SumTold.{sum_told, comparison_told}

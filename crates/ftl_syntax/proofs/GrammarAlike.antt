@@ -18,7 +18,8 @@ use Rattle.ftl_syntax.specs.Trees as trees
 use Rattle.ftl_syntax.specs.Trees.{NameText}
 use Rattle.ftl_syntax.specs.Spelling.{SpellsExpr}
 use Rattle.ftl_syntax.specs.GrammarReading as reading
-use Rattle.ftl_syntax.specs.GrammarReading.{comma_name_by, comma_name, names, name_line, attr_group, attrs_by, attrs, own_attrs_by, own_attrs, append, shown_by, shown, interface, list_child, single_child, child_by, child, own_body_by, own_body, child_body_by, child_body, rule_by, named_by, named, member_by, member, list_of, class, declaration_by, declaration, add_declaration, grammar_level}
+use Rattle.ftl_syntax.specs.GrammarReading.{own_body_by, own_body, child_body_by, child_body, rule_by, named_by, named, member_by, member, list_of, class, declaration_by, declaration, add_declaration, grammar_level}
+use Rattle.ftl_syntax.specs.InterfaceReading.{comma_name_by, comma_name, names, name_line, attr_group, attrs_by, attrs, own_attrs_by, own_attrs, append, shown_by, shown, interface, list_child, single_child, child_by, child}
 use Rattle.ftl_syntax.proofs.Heads.{height, past_plain, past_bracket, past_end_bracket, past_name}
 use Rattle.ftl_syntax.proofs.Lengths.{some_comma_name, some_attrs, some_own_attrs, some_rule, some_child, some_declaration}
 use Rattle.ftl_syntax.proofs.InterfaceTold.{comma_name_told, attrs_told, own_attrs_told}

@@ -19,7 +19,8 @@ use Rattle.ftl_syntax.specs.Trees.{NameText}
 use Rattle.ftl_syntax.specs.Spelling.{SpellsExpr}
 use Rattle.ftl_syntax.specs.GrammarSpelling.{SpellsChild, SpellsChildren, SpellsRule, SpellsRules, SpellsDeclarations, SpellsGrammar, no_children, more_children, no_rules, more_rules, class_of, interface_of, SpellsOwnAttrs, no_own_attrs, no_declarations, interface_declared, class_declared, grammar_of}
 use Rattle.ftl_syntax.specs.GrammarReading as reading
-use Rattle.ftl_syntax.specs.GrammarReading.{append, own_attrs, member, list_of, class, declaration_by, declaration, add_declaration, grammar_level, grammar, bracket_depth}
+use Rattle.ftl_syntax.specs.GrammarReading.{member, list_of, class, declaration_by, declaration, add_declaration, grammar_level, grammar, bracket_depth}
+use Rattle.ftl_syntax.specs.InterfaceReading.{append, own_attrs}
 use Rattle.ftl_syntax.proofs.RuleParts.{InterfaceRest, interface_rest, ChildRule, ClassRest, class_rest, DeclarationOf, interface_of_declaration, class_of_declaration}
 use Rattle.ftl_syntax.proofs.InterfaceTold.{own_attrs_told, own_attrs_spell, interface_told}
 use Rattle.ftl_syntax.proofs.RuleTold.{from_child_rule, rule_told, member_told}

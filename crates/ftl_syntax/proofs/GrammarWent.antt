@@ -21,7 +21,8 @@ use Rattle.ftl_syntax.specs.Trees.{NameText}
 use Rattle.ftl_syntax.specs.Spelling.{SpellsExpr}
 use Rattle.ftl_syntax.specs.GrammarSpelling.{SpellsChild, SpellsChildren, SpellsRule, SpellsRules, SpellsDeclarations, SpellsGrammar, single, list, no_children, more_children, own_rule, child_rule, no_rules, more_rules, class_of, interface_of, no_declarations, interface_declared, class_declared, grammar_of}
 use Rattle.ftl_syntax.specs.GrammarReading as reading
-use Rattle.ftl_syntax.specs.GrammarReading.{append, own_attrs, member, list_of, class, declaration_by, declaration, add_declaration, grammar_level}
+use Rattle.ftl_syntax.specs.GrammarReading.{member, list_of, class, declaration_by, declaration, add_declaration, grammar_level}
+use Rattle.ftl_syntax.specs.InterfaceReading.{append, own_attrs}
 use Rattle.ftl_syntax.proofs.RuleParts.{interface_rest, ChildRule, child_rule_of, child_rule_rest, ClassRest, class_rest, DeclarationOf, interface_of_declaration, class_of_declaration}
 use Rattle.ftl_syntax.proofs.GrammarTold.{LastRule}
 use Rattle.ftl_syntax.proofs.Heads as heads

@@ -17,7 +17,7 @@ use Rattle.ftl_syntax.specs.declared.rules.Grammar.{Grammar}
 use Rattle.ftl_syntax.specs.Trees as trees
 use Rattle.ftl_syntax.specs.Brackets.{brackets, limit}
 use Rattle.ftl_syntax.specs.GrammarSpelling.{SpellsGrammar}
-use Rattle.ftl_syntax.specs.Reading as expressions
+use Rattle.ftl_syntax.specs.ExpressionReading as expressions
 use Rattle.ftl_syntax.specs.GrammarReading.{declaration, add_declaration, grammar_level, grammar, bracket_depth}
 use Rattle.ftl_syntax.proofs.Heads.{height}
 use Rattle.ftl_syntax.proofs.PlacesGrammar.{NoGrammar, grammar_told, grammar_went, no_grammar}

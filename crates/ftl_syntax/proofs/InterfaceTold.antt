@@ -13,7 +13,7 @@ use Rattle.ftl_syntax.specs.declared.rules.AttrDecl.{AttrDecl}
 use Rattle.ftl_syntax.specs.Trees as trees
 use Rattle.ftl_syntax.specs.Trees.{NameText}
 use Rattle.ftl_syntax.specs.GrammarSpelling.{SpellsNames, SpellsAttrGroup, SpellsAttrs, SpellsShown, SpellsOwnAttrGroup, SpellsOwnAttrs, one_name, more_names, inh_group, syn_group, input_group, no_attrs, more_attrs, none_shown, some_shown, own_input_group, own_local_group, no_own_attrs, more_own_attrs}
-use Rattle.ftl_syntax.specs.GrammarReading.{comma_name_by, comma_name, names, name_line, attr_group, attrs_by, attrs, own_attrs_by, own_attrs, append, shown_by, shown, interface, list_child, single_child, child_by, child}
+use Rattle.ftl_syntax.specs.InterfaceReading.{comma_name_by, comma_name, names, name_line, attr_group, attrs_by, attrs, own_attrs_by, own_attrs, append, shown_by, shown, interface, list_child, single_child, child_by, child}
 use Rattle.ftl_syntax.proofs.RuleParts.{CommaName, comma_name_of, NameLine, name_line_of, InterfaceRest, interface_rest, ChildRest, single_rest, list_rest}
 
 -- ---- names

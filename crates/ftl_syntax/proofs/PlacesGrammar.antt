@@ -8,7 +8,7 @@ use Rattle.ftl_reading.proofs.Went.{got}
 use Rattle.ftl_reading.proofs.Places.{Placed, none_spelled, longest_front}
 use Rattle.ftl_syntax.specs.declared.rules.Grammar.{Grammar}
 use Rattle.ftl_syntax.specs.GrammarSpelling.{SpellsGrammar}
-use Rattle.ftl_syntax.specs.Reading.{expr}
+use Rattle.ftl_syntax.specs.ExpressionReading.{expr}
 use Rattle.ftl_syntax.specs.GrammarReading.{bracket_depth, grammar, grammar_level}
 use Rattle.ftl_syntax.proofs.CondTold.{expr_told}
 use Rattle.ftl_syntax.proofs.GrammarTold.{grammar_level_told}

@@ -14,8 +14,8 @@ use Rattle.ftl_syntax.specs.declared.expression.Test.TheVariants as tests
 use Rattle.ftl_syntax.specs.declared.expression.Expr.{Expr}
 use Rattle.ftl_syntax.specs.Trees as trees
 use Rattle.ftl_syntax.specs.Spelling.{SpellsExpr}
-use Rattle.ftl_syntax.specs.Reading as reading
-use Rattle.ftl_syntax.specs.Reading.{dot_name, read_by, read, comparator_by, comparator, group, plain_by, plain, pair, atom_by, atom, unary_by, unary, factor_by, factor, term, signed_by, signed, sum, comparison}
+use Rattle.ftl_syntax.specs.SumReading as reading
+use Rattle.ftl_syntax.specs.SumReading.{dot_name, read_by, read, comparator_by, comparator, group, plain_by, plain, pair, atom_by, atom, unary_by, unary, factor_by, factor, term, signed_by, signed, sum, comparison}
 use Rattle.ftl_syntax.proofs.Heads.{height, past_plain, past_paren, past_end_paren, past_name, past_number}
 use Rattle.ftl_syntax.proofs.Lengths.{some_factor, some_signed}
 use Rattle.ftl_syntax.proofs.SumTold.{factor_told, signed_told}

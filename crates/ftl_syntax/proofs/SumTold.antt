@@ -19,8 +19,8 @@ use Rattle.ftl_syntax.specs.declared.expression.Factor.TheVariants as factors
 use Rattle.ftl_syntax.specs.declared.expression.Sum.{Sum}
 use Rattle.ftl_syntax.specs.declared.expression.Test.TheVariants as tests
 use Rattle.ftl_syntax.specs.Spelling.{SpellsRead, SpellsPlain, SpellsAtom, SpellsUnary, SpellsFactor, SpellsFactors, SpellsTerm, SpellsSignedTerm, SpellsSignedTerms, SpellsSum, SpellsTest, SpellsExpr, own, this, prev, of_child, less, less_eq, more, more_eq, equal, unequal, plain_number, plain_acc, plain_read, plain_group, plain_atom, least, greatest, last_or, unsigned, negative, times, over, no_factors, more_factors, term_of, plus, minus, no_terms, more_terms, sum_of, compared}
-use Rattle.ftl_syntax.specs.Reading as reading
-use Rattle.ftl_syntax.specs.Reading.{dot_name, read_by, read, comparator_by, comparator, group, plain_by, plain, pair, atom_by, atom, unary_by, unary, factor_by, factor, term, signed_by, signed, sum, comparison}
+use Rattle.ftl_syntax.specs.SumReading as reading
+use Rattle.ftl_syntax.specs.SumReading.{dot_name, read_by, read, comparator_by, comparator, group, plain_by, plain, pair, atom_by, atom, unary_by, unary, factor_by, factor, term, signed_by, signed, sum, comparison}
 use Rattle.ftl_syntax.proofs.Parts.{DotName, dot_name_of, Comparator, comparator_of, Grouped, grouped_of, Paired, paired_of, LastOr, last_or_of}
 use Rattle.ftl_syntax.proofs.Examples.{zero_plain, zero_sum, zero_expr}
 

@@ -21,8 +21,8 @@ use Rattle.ftl_syntax.specs.declared.expression.Expr.{Expr}
 use Rattle.ftl_syntax.specs.Trees as trees
 use Rattle.ftl_syntax.specs.Trees.{NameText}
 use Rattle.ftl_syntax.specs.Spelling.{SpellsCmp, SpellsPlain, SpellsAtom, SpellsUnary, SpellsFactor, SpellsFactors, SpellsTerm, SpellsSignedTerm, SpellsSignedTerms, SpellsSum, SpellsExpr, plain_number, plain_acc, plain_read, plain_group, plain_atom, least, greatest, last_or, unsigned, negative, times, over, no_factors, more_factors, term_of, plus, minus, no_terms, more_terms, sum_of}
-use Rattle.ftl_syntax.specs.Reading as reading
-use Rattle.ftl_syntax.specs.Reading.{dot_name, read_by, read, comparator_by, comparator, group, plain_by, plain, pair, atom_by, atom, unary_by, unary, factor_by, factor, term, signed_by, signed, sum, comparison}
+use Rattle.ftl_syntax.specs.SumReading as reading
+use Rattle.ftl_syntax.specs.SumReading.{dot_name, read_by, read, comparator_by, comparator, group, plain_by, plain, pair, atom_by, atom, unary_by, unary, factor_by, factor, term, signed_by, signed, sum, comparison}
 use Rattle.ftl_syntax.proofs.Parts.{dot_name_of, Grouped, grouped_of, Paired, paired_of, LastOr, last_or_of}
 use Rattle.ftl_syntax.proofs.Heads.{level, Looser, form, height, past_plain, past_paren, past_end_paren, past_name, past_number}
 use Rattle.ftl_syntax.proofs.ReadWent.{dot_name_went, read_went, comparator_went, comparator_looser}

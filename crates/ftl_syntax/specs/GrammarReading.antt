@@ -1,14 +1,11 @@
--- How grammars are read, one token ahead. The right sides of rules are read by the parameter `expr`.
-use Rattle.std.specs.Prelude.{ℕ, suc, true, false, List, [], ◌∷◌, ◌++◌, map, Option, Some, None}
+-- How rules, classes and grammars are read, one token ahead. The right sides of rules are read by the parameter `expr`.
+use Rattle.std.specs.Prelude.{ℕ, suc, List, [], ◌∷◌, Option, Some, None}
 use Rattle.ftl_tokens.specs.declared.kind.Kind.{Kind}
 use Rattle.ftl_tokens.specs.declared.kind.Kind.TheVariants as kind
 use Rattle.ftl_reading.specs.declared.chain_item.ChainItem.{ChainItem}
 use Rattle.ftl_reading.specs.declared.chain_item.ChainItem.TheVariants.{Stop, Next, Last}
 use Rattle.ftl_reading.specs.Reader.{Reader, ◌>>=◌, ◌>>◌, ◌<$>◌, pure, next_kind, skip, expect, take_name, at_end, push, chain_of, until_of}
 use Rattle.ftl_syntax.specs.declared.expression.Expr.{Expr}
-use Rattle.ftl_syntax.specs.declared.rules.AttrKind.{AttrKind}
-use Rattle.ftl_syntax.specs.declared.rules.AttrKind.TheVariants as attr
-use Rattle.ftl_syntax.specs.declared.rules.AttrDecl.{AttrDecl}
 use Rattle.ftl_syntax.specs.declared.rules.Interface.{Interface}
 use Rattle.ftl_syntax.specs.declared.rules.Child.{Child}
 use Rattle.ftl_syntax.specs.declared.rules.Target.TheVariants as targets
@@ -22,108 +19,9 @@ use Rattle.ftl_syntax.specs.declared.rules.Grammar.{Grammar}
 use Rattle.ftl_syntax.specs.Brackets.{limit}
 use Rattle.ftl_syntax.specs.Trees as trees
 use Rattle.ftl_syntax.specs.Trees.{NameText}
-use Rattle.ftl_syntax.specs.Reading as reading
-use Rattle.ftl_syntax.specs.Reading.{dot_name}
-
--- ---- names and attributes
-
--- `,` and one more name, by the kind of the next token
-abbrev pub comma_name_by : Option Kind → Reader (Option NameText)
-comma_name_by (Some kind.Comma) = skip >> Some <$> take_name
-comma_name_by _ = pure None
-
--- `,` and one more name, if they are there
-unfoldable pub comma_name : Reader (Option NameText)
-comma_name = λ ts. comma_name_by (next_kind ts) ts
-
--- names with `,` between them
-unfoldable pub names : Reader (List NameText)
-names = do
-  n ← take_name
-  chain_of push comma_name (n ∷ [])
-
--- names and `;`
-unfoldable pub name_line : Reader (List NameText)
-name_line = do
-  ns ← names
-  expect kind.Semicolon
-  pure ns
-
--- after the word of this kind
-unfoldable pub attr_group : AttrKind → Reader (Option (List AttrDecl))
-attr_group kind = (λ ns. Some (map (trees.attr_decl kind) ns)) <$> name_line
-
--- one more group of attributes of an interface, by the kind of its first token
-abbrev pub attrs_by : Option Kind → Reader (Option (List AttrDecl))
-attrs_by (Some kind.Inh) = skip >> attr_group attr.Inh
-attrs_by (Some kind.Syn) = skip >> attr_group attr.Syn
-attrs_by (Some kind.Input) = skip >> attr_group attr.Input
-attrs_by _ = pure None
-
--- one more group of attributes of an interface, if there is one
-unfoldable pub attrs : Reader (Option (List AttrDecl))
-attrs = λ ts. attrs_by (next_kind ts) ts
-
--- one more group of a class's own attributes, by the kind of its first token
-abbrev pub own_attrs_by : Option Kind → Reader (Option (List AttrDecl))
-own_attrs_by (Some kind.Input) = skip >> attr_group attr.Input
-own_attrs_by (Some kind.Local) = skip >> attr_group attr.Local
-own_attrs_by _ = pure None
-
--- one more group of a class's own attributes, if there is one
-unfoldable pub own_attrs : Reader (Option (List AttrDecl))
-own_attrs = λ ts. own_attrs_by (next_kind ts) ts
-
--- the groups of attributes in one list
-abbrev pub append : List AttrDecl → List AttrDecl → List AttrDecl
-append found more = found ++ more
-
--- ---- interfaces
-
--- the names after `show`, by the kind of the next token
-abbrev pub shown_by : Option Kind → Reader (List NameText)
-shown_by (Some kind.Show) = skip >> name_line
-shown_by _ = pure []
-
--- the names after `show`, if it is there
-unfoldable pub shown : Reader (List NameText)
-shown = λ ts. shown_by (next_kind ts) ts
-
--- after `interface`
-unfoldable pub interface : Reader Interface
-interface = do
-  n ← take_name
-  expect kind.LeftBrace
-  xs ← chain_of append attrs []
-  ns ← shown
-  expect kind.RightBrace
-  pure (trees.interface n xs ns)
-
--- ---- children
-
--- after `:` and `[`
-unfoldable pub list_child : NameText → Reader Child
-list_child c = do
-  n ← take_name
-  expect kind.RightBracket
-  expect kind.Semicolon
-  pure (trees.child c n true)
-
--- after `:`
-unfoldable pub single_child : NameText → Reader Child
-single_child c = do
-  n ← take_name
-  expect kind.Semicolon
-  pure (trees.child c n false)
-
--- the interface of a child of this name, by the kind of the next token
-abbrev pub child_by : NameText → Option Kind → Reader Child
-child_by c (Some kind.LeftBracket) = skip >> list_child c
-child_by c _ = single_child c
-
--- the interface of a child of this name
-unfoldable pub child : NameText → Reader Child
-child c = λ ts. child_by c (next_kind ts) ts
+use Rattle.ftl_syntax.specs.SumReading.{dot_name}
+use Rattle.ftl_syntax.specs.ExpressionReading as reading
+use Rattle.ftl_syntax.specs.InterfaceReading.{append, child, interface, own_attrs}
 
 -- ---- rules and classes
 
@@ -138,7 +36,7 @@ add_declaration found (declarations.Interface x) = (push found.0 x, found.1)
 add_declaration found (declarations.Class x) = (found.0, push found.1 x)
 
 module _ (expr : Reader Expr) where
-  -- after `fold`
+  -- the rest of a fold, after `fold`
   unfoldable pub fold : Reader Body
   fold = do
     c ← take_name
@@ -157,7 +55,7 @@ module _ (expr : Reader Expr) where
   unfoldable pub own_body : Reader Body
   own_body = λ ts. own_body_by (next_kind ts) ts
 
-  -- after `first`
+  -- two expressions with `then` between them, after `first`
   unfoldable pub first_then : Reader Body
   first_then = do
     x ← expr
@@ -174,7 +72,7 @@ module _ (expr : Reader Expr) where
   unfoldable pub child_body : Reader Body
   child_body = λ ts. child_body_by (next_kind ts) ts
 
-  -- after `self`
+  -- the rest of a rule for the node itself, after `self`
   unfoldable pub own_rule : Reader Rule
   own_rule = do
     n ← dot_name
@@ -183,7 +81,7 @@ module _ (expr : Reader Expr) where
     expect kind.Semicolon
     pure (trees.rule (targets.Own n) x)
 
-  -- after a child's name
+  -- the rest of a rule for a child, after the child's name
   unfoldable pub child_rule : NameText → Reader Rule
   child_rule c = do
     n ← dot_name
@@ -220,7 +118,7 @@ module _ (expr : Reader Expr) where
   unfoldable pub member : Reader (ChainItem Child Rule)
   member = λ ts. member_by (next_kind ts) ts
 
-  -- after `class`
+  -- the rest of a class, after `class`
   unfoldable pub class : Reader Class
   class = do
     n ← take_name

@@ -1,5 +1,7 @@
 pub mod Brackets
-pub mod Reading
+pub mod SumReading
+pub mod ExpressionReading
+pub mod InterfaceReading
 pub mod GrammarReading
 pub mod Spelling
 pub mod GrammarSpelling

@@ -1,6 +1,6 @@
 use Rattle.std.proofs.Common.{◌≡◌, ◌-◌, []}
 use Rattle.ftl_reading.specs.Reader.{chain, chain_of}
-use Rattle.ftl_syntax.specs.GrammarReading as rules
+use Rattle.ftl_syntax.specs.InterfaceReading as rules
 use Rattle.ftl_grammar.proofs.attrs.attrs.Given as goal
 
 abbrev pub invariant-loop-turn : goal.invariant-loop-turn

@@ -2,7 +2,7 @@ use Rattle.std.proofs.Common.{rules, arith}
 use Rattle.std.proofs.lemmas.Grind.{common_steps}
 use Rattle.ftl_reading.specs.Reader.{push}
 use Rattle.ftl_reading.proofs.TurnLemmas.{turn, no_turn}
-use Rattle.ftl_syntax.specs.GrammarReading as rules
+use Rattle.ftl_syntax.specs.InterfaceReading as rules
 use Rattle.ftl_grammar.proofs.attrs.more_names.Goals as goal
 
 pub returns-in_err-item : goal.returns-in_err-item

@@ -1,6 +1,6 @@
 use Rattle.std.proofs.Common.{◌≡◌, ◌-◌, []}
 use Rattle.ftl_reading.specs.Reader.{push, until, until_of}
-use Rattle.ftl_syntax.specs.Reading as spec
+use Rattle.ftl_syntax.specs.ExpressionReading as spec
 use Rattle.ftl_syntax.specs.GrammarReading as rules
 use Rattle.ftl_grammar.proofs.declarations.children.Given as goal
 

@@ -1,7 +1,7 @@
 use Rattle.std.proofs.Common.{rules, arith}
 use Rattle.std.proofs.lemmas.Grind.{common_steps}
 use Rattle.ftl_reading.proofs.TurnLemmas.{turn, no_turn}
-use Rattle.ftl_syntax.specs.Reading as spec
+use Rattle.ftl_syntax.specs.ExpressionReading as spec
 use Rattle.ftl_syntax.specs.GrammarReading as rules
 use Rattle.ftl_grammar.proofs.declarations.declarations.Goals as goal
 

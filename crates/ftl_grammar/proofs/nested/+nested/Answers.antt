@@ -1,6 +1,6 @@
 use Rattle.std.proofs.Common.{◌≡◌, ℕ, suc, ◌-◌, ◌<◌, ap, subst, arith}
 use Rattle.ftl_reading.specs.Reader.{Reads}
-use Rattle.ftl_syntax.specs.Reading.{expr, cond}
+use Rattle.ftl_syntax.specs.ExpressionReading.{expr, cond}
 use Rattle.ftl_grammar.proofs.nested.+nested.Goals as goal
 
 -- a depth that is not 0 is one more than the one below

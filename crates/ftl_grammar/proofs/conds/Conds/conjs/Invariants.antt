@@ -1,6 +1,6 @@
 use Rattle.std.proofs.Common.{◌≡◌, ◌-◌, ◌∷◌, []}
 use Rattle.ftl_reading.specs.Reader.{push, chain, chain_of}
-use Rattle.ftl_syntax.specs.Reading as spec
+use Rattle.ftl_syntax.specs.ExpressionReading as spec
 use Rattle.ftl_grammar.proofs.conds.Conds.conjs.Given as goal
 
 abbrev pub invariant-loop-turn : goal.invariant-loop-turn

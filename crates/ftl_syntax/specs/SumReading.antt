@@ -1,5 +1,5 @@
--- How expressions are read, one token ahead. What stands between brackets is read by the parameters `expr` and `cond`.
-use Rattle.std.specs.Prelude.{ℕ, zero, suc, true, false, Bool, [], ◌∷◌, Option, Some, None}
+-- How sums are read, one token ahead. What stands between round brackets is read by the parameter `expr`.
+use Rattle.std.specs.Prelude.{true, false, [], Option, Some, None}
 use Rattle.ftl_base.specs.declared.comparison.Cmp.{Cmp}
 use Rattle.ftl_base.specs.declared.comparison.Cmp.TheVariants as cmp
 use Rattle.ftl_tokens.specs.declared.kind.Kind.{Kind}
@@ -17,10 +17,7 @@ use Rattle.ftl_syntax.specs.declared.expression.SignedTerm.{SignedTerm}
 use Rattle.ftl_syntax.specs.declared.expression.Sum.{Sum}
 use Rattle.ftl_syntax.specs.declared.expression.Test.{Test}
 use Rattle.ftl_syntax.specs.declared.expression.Test.TheVariants as tests
-use Rattle.ftl_syntax.specs.declared.expression.Conj.{Conj}
-use Rattle.ftl_syntax.specs.declared.expression.Cond.{Cond}
 use Rattle.ftl_syntax.specs.declared.expression.Expr.{Expr}
-use Rattle.ftl_syntax.specs.declared.expression.Expr.TheVariants as exprs
 use Rattle.ftl_syntax.specs.Trees as trees
 use Rattle.ftl_syntax.specs.Trees.{NameText}
 
@@ -61,7 +58,7 @@ comparator = λ ts. comparator_by (next_kind ts) ts
 -- ---- sums
 
 module _ (expr : Reader Expr) where
-  -- after `(`
+  -- an expression and `)`, after `(`
   unfoldable pub group : Reader Expr
   group = do
     x ← expr
@@ -89,7 +86,7 @@ module _ (expr : Reader Expr) where
     expect kind.RightParen
     pure (x, y)
 
-  -- after `last`
+  -- a child, its attribute, and what stands after `or`, after `last`
   unfoldable pub last_or : Reader Atom
   last_or = do
     c ← take_name
@@ -159,88 +156,3 @@ module _ (expr : Reader Expr) where
     c ← comparator
     y ← sum
     pure (tests.Compare c x y)
-
--- ---- conditions and expressions
-
-module _ (expr : Reader Expr) (cond : Reader Cond) where
-  -- after `!`, or without it
-  unfoldable pub bracketed : Bool → Reader Test
-  bracketed negated = do
-    expect kind.LeftBracket
-    x ← cond
-    expect kind.RightBracket
-    pure (tests.Group negated x)
-
-  -- a test, by the kind of its first token
-  abbrev pub test_by : Option Kind → Reader Test
-  test_by (Some kind.Bang) = skip >> bracketed true
-  test_by (Some kind.LeftBracket) = bracketed false
-  test_by _ = comparison expr
-
-  -- a condition in square brackets, or two sums that are compared
-  unfoldable pub test : Reader Test
-  test = λ ts. test_by (next_kind ts) ts
-
-  -- `&&` and one more test, by the kind of the next token
-  abbrev pub and_test_by : Option Kind → Reader (Option Test)
-  and_test_by (Some kind.AndAnd) = skip >> Some <$> test
-  and_test_by _ = pure None
-
-  -- `&&` and one more test, if they are there
-  unfoldable pub and_test : Reader (Option Test)
-  and_test = λ ts. and_test_by (next_kind ts) ts
-
-  -- tests with `&&` between them
-  unfoldable pub conj : Reader Conj
-  conj = do
-    x ← test
-    xs ← chain_of push and_test (x ∷ [])
-    pure (trees.conj xs)
-
-  -- `||` and one more conj, by the kind of the next token
-  abbrev pub or_conj_by : Option Kind → Reader (Option Conj)
-  or_conj_by (Some kind.OrOr) = skip >> Some <$> conj
-  or_conj_by _ = pure None
-
-  -- `||` and one more conj, if they are there
-  unfoldable pub or_conj : Reader (Option Conj)
-  or_conj = λ ts. or_conj_by (next_kind ts) ts
-
-  -- conjs with `||` between them
-  unfoldable pub cond_level : Reader Cond
-  cond_level = do
-    x ← conj
-    xs ← chain_of push or_conj (x ∷ [])
-    pure (trees.cond xs)
-
-  -- after `if`
-  unfoldable pub choice : Reader Expr
-  choice = do
-    x ← cond_level
-    expect kind.Then
-    y ← sum expr
-    expect kind.Else
-    z ← sum expr
-    pure (exprs.If x y z)
-
-  -- an expression, by the kind of its first token
-  abbrev pub expr_by : Option Kind → Reader Expr
-  expr_by (Some kind.If) = skip >> choice
-  expr_by _ = exprs.Sum <$> sum expr
-
-  -- a choice between two sums, or a sum
-  unfoldable pub expr_level : Reader Expr
-  expr_level = λ ts. expr_by (next_kind ts) ts
-
--- ---- what stands between brackets, to a depth that each bracket makes less
-
-unfoldable mutual
-  -- an expression with fewer brackets in one another than the depth
-  pub expr : ℕ → Reader Expr
-  expr zero = refuse
-  expr (suc depth) = expr_level (expr depth) (cond depth)
-
-  -- a condition with fewer brackets in one another than the depth
-  pub cond : ℕ → Reader Cond
-  cond zero = refuse
-  cond (suc depth) = cond_level (expr depth) (cond depth)
