@@ -6,5 +6,6 @@ pub mod GrammarReading
 pub mod Spelling
 pub mod GrammarSpelling
 pub mod Trees
+pub mod Worked
 pub use Rattle.ftl_reading.specs.Depth
 pub use Rattle.ftl_reading.specs.Place

@@ -8,6 +8,7 @@
 mod expression;
 mod laws;
 mod rules;
+mod worked;
 
 pub use expression::{
     Atom, Cond, Conj, ConjList, Expr, Factor, Factors, Read, SignedTerm, SignedTerms, Sum, Term,
@@ -18,3 +19,4 @@ pub use rules::{
     AttrDecl, AttrDecls, AttrKind, Body, Child, ChildList, Class, ClassList, Declaration, Grammar,
     Interface, InterfaceList, NameList, Rule, RuleList, Target,
 };
+pub use worked::{worked_places, worked_rules};
