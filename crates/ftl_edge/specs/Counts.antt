@@ -14,8 +14,12 @@ abbrev pub RisesByOk : {E : Type 0} → ℕ → ℕ → Result ℕ E → Type 0
 RisesByOk before now (Ok n) = now ≡ raised before n
 RisesByOk before now (Err _) = now ≡ before
 
--- the counts of a source that tells nothing else
+-- the counts of a source: how often it was called, how many bytes were taken, and how often it failed
 pub record SourceCounts : Type 0 where
   pub calls : ℕ
   pub taken : ℕ
   pub fault_count : ℕ
+
+-- a source that was called so often, of which so many bytes were taken, and which failed so often
+abbrev pub source_counts : (calls taken fault_count : ℕ) → SourceCounts
+source_counts calls taken fault_count = record { calls = calls; taken = taken; fault_count = fault_count }

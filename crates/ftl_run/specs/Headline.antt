@@ -1,6 +1,7 @@
 -- What the top call promises, over the answer to its words and to the bytes that its source had left.
 use Rattle.std.specs.Prelude.{◌≡◌, ◌≢◌, ℕ, ◌+◌, ◌≤◌, ◌⊎◌, List, [], Option, None, Some, codes, map, String}
 use Rattle.std.specs.String.{string_bytes}
+use Rattle.ftl_edge.specs.Counts.{SourceCounts}
 use Rattle.ftl_edge.specs.Sink.{AppendsFront}
 use Rattle.ftl_model.specs.Values.{overflow}
 use Rattle.ftl_model.specs.Tree.{Forest}
@@ -33,24 +34,15 @@ pub record FaultsHaveCauses (status : ℕ) (words : List (List ℕ)) (told writt
   pub read : status ≡ 3 → read_rose
   pub nothing : (status ≡ 3) ⊎ (status ≡ 9) → after ≡ written
 
--- what a source was found with, or left with: its bytes, where it tells them, how many were taken and how often it was called
-pub record SourceState : Type 0 where
-  pub left : Option (List ℕ)
-  pub taken : ℕ
-  pub calls : ℕ
-
-abbrev pub source_state : Option (List ℕ) → (taken calls : ℕ) → SourceState
-source_state left taken calls = record { left = left; taken = taken; calls = calls }
-
 -- Where the words are no command, the source was not called, and there is no read fault. Else it was read to its end,
 -- unless the page is too long, a read failed or memory ran out. At most one byte past the limit was taken, in at most
 -- one call for each byte and one for the end.
-pub record ReadsInput (status : ℕ) (words : List (List ℕ)) (old new : SourceState) : Type 0 where
-  pub untouched : words ≢ run_words → (new ≡ old) × (status ≢ 3)
+pub record ReadsInput (status : ℕ) (words : List (List ℕ)) (told left : Option (List ℕ)) (old new : SourceCounts) : Type 0 where
+  pub untouched : words ≢ run_words → (left ≡ told) × (new ≡ old) × (status ≢ 3)
   pub at_most : new.taken ≤ old.taken + 67108865
   pub turns : new.calls ≤ old.calls + 67108866
   pub to_its_end : status ≢ 3 → status ≢ 9 → words ≡ run_words
-      → OfAnswer words old.left (λ a. a ≢ refused 4 (codes "refused page: too long") → new.left ≡ Some [])
+      → OfAnswer words told (λ a. a ≢ refused 4 (codes "refused page: too long") → left ≡ Some [])
 
 -- exactly one list of values solves the page's document
 abbrev pub OneTable : List (List ℕ) → Option (List ℕ) → Type 0

@@ -1,7 +1,7 @@
 ghost use Rattle.std.specs.Prelude.{◌≡◌, ◌≢◌, ◌⊎◌, Option, List, ℕ, codes};
 ghost use Rattle.std.specs.Io.KnownBytes.{Appends};
-ghost use Rattle.ftl_edge.specs.Counts.{Rose};
-ghost use Rattle.ftl_run.specs.Headline.{texts, OfAnswer, IsTrouble, IsPageStatus, FaultsHaveCauses, ReadsInput, source_state, OneTable};
+ghost use Rattle.ftl_edge.specs.Counts.{Rose, source_counts};
+ghost use Rattle.ftl_run.specs.Headline.{texts, OfAnswer, IsTrouble, IsPageStatus, FaultsHaveCauses, ReadsInput, OneTable};
 ghost use Rattle.ftl_run.specs.Answer.{run_words};
 
 use crate::decide::{Undecided, decide};
@@ -50,8 +50,9 @@ pub fn layout_top<S: Source, K: Sink>(
 
     // How far the source was read.
     ensures input { ReadsInput result.0 (texts words.now)
-        (source_state (S.remaining source.old) (S.taken source.old) (S.calls source.old))
-        (source_state (S.remaining source.new) (S.taken source.new) (S.calls source.new)) }
+        (S.remaining source.old) (S.remaining source.new)
+        (source_counts (S.calls source.old) (S.taken source.old) (S.fault_count source.old))
+        (source_counts (S.calls source.new) (S.taken source.new) (S.fault_count source.new)) }
 {
     match decide(alloc, words, source) {
         Ok(decided) => match write_whole(sink, &decided.text) {
