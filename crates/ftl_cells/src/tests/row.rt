@@ -251,8 +251,7 @@ fn a_claim_finds_its_item_filled(rt: HostRuntime) -> Result<(), Fail> {
     let (cells, mut a) = Cells::open(rt.alloc(), Diamond, first_words(rt.alloc())?)?;
     let mut b = cells.another(&mut a);
     make_all(&rt, &cells, &mut a, &mut b, &LATE_CLAIM);
-    let (HandPlace::Idle, HandPlace::Idle) = (a.place(), b.place()) else {
-        panic!(rt; "the hands are at other places")
-    };
+    assert_eq!(rt; a.place(), HandPlace::Idle);
+    assert_eq!(rt; b.place(), HandPlace::Idle);
     Ok(())
 }
