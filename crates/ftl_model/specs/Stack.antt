@@ -1,6 +1,6 @@
 -- The stack grammar: a sheet with one box, which is a word of fixed size or a column of boxes on top of each other.
 use Rattle.std.specs.Prelude.{ℕ, zero, suc, ◌==◌, if◌then◌else◌, List, [], ◌∷◌, ℤ, pos, slice_index_or}
-use Rattle.ftl_model.specs.Values.{Value, number, sum_of, greatest_of}
+use Rattle.ftl_model.specs.Values.{Value, number, narrow, sum_of, greatest_of}
 use Rattle.ftl_model.specs.Folds.{fold_kids}
 use Rattle.ftl_model.specs.AttributeGrammar.{AttributeGrammar, Rule, Read, self_read, single_read, each_read, prev_read, Occurrence, own, kid, Sort, input, inherited, synthesized}
 
@@ -69,7 +69,7 @@ column_w =
 abbrev pub column_h : Rule Value
 column_h =
     same_for_all (each_read only_child box_h ∷ [])
-    (λ kids place s. fold_kids (kids only_child) (λ acc k. sum_of acc (s (kid only_child k box_h))) (number (pos 0)))
+    (λ kids place s. fold_kids (kids only_child) (λ acc k. sum_of narrow acc (s (kid only_child k box_h))) (number (pos 0)))
 
 -- Column: kids.x := self.x
 abbrev pub kids_x : Rule Value
@@ -78,7 +78,7 @@ kids_x = same_for_all (self_read box_x ∷ []) (λ kids place s. s (own box_x))
 -- Column: kids.y := first self.y then prev.y + prev.h
 abbrev pub kids_y_value : ℕ → (Occurrence → Value) → Value
 kids_y_value zero s = s (own box_y)
-kids_y_value (suc before) s = sum_of (s (kid only_child before box_y)) (s (kid only_child before box_h))
+kids_y_value (suc before) s = sum_of narrow (s (kid only_child before box_y)) (s (kid only_child before box_h))
 
 abbrev pub kids_y : Rule Value
 kids_y =

@@ -1,48 +1,80 @@
--- Values: a whole number, or Overflow where a number went out of range.
-use Rattle.std.specs.Prelude.{ℕ, ◌+◌, ◌-◌, Bool, ◌&&◌, if◌then◌else◌, ℤ, pos, negsuc, ◌+ℤ◌, ◌≤ℤ◌, int_le}
-use Rattle.std.specs.Int.{int_max}
+-- Values: a whole number, or Overflow where a number went out of range. Operators are exact, for a width: its numbers
+-- go from the one below minus its greatest number to its greatest number.
+use Rattle.std.specs.Prelude.{ℕ, ◌+◌, ◌-◌, Bool, true, false, ◌&&◌, if◌then◌else◌, ℤ, pos, negsuc, ◌+ℤ◌, ◌-ℤ◌, ◌*ℤ◌, neg_ℤ, ◌≤ℤ◌, int_le}
+use Rattle.std.specs.Ordering.{int_eq}
+use Rattle.std.specs.Int.{int_min, int_max, int_div_euclid}
 
 pub data Value : Type 0 where
   number : ℤ → Value
   overflow : Value
 
--- the least and the greatest number: -2147483648 and 2147483647
-abbrev pub least_number : ℤ
-least_number = negsuc 2147483647
+-- the greatest numbers of the two widths
+abbrev pub narrow : ℕ
+narrow = 2147483647
 
-abbrev pub greatest_number : ℤ
-greatest_number = pos 2147483647
+abbrev pub wide : ℕ
+wide = 140737488355327
 
-abbrev pub in_range : ℤ → Bool
-in_range n = int_le least_number n && int_le n greatest_number
+-- from the one below minus the greatest number to the greatest number
+abbrev pub in_range : (greatest : ℕ) → ℤ → Bool
+in_range greatest n = int_le (negsuc greatest) n && int_le n (pos greatest)
 
--- a number in range, or Overflow
+-- a number in the range of a width, or Overflow
+abbrev pub IsValueIn : (greatest : ℕ) → Value → Type 0
+IsValueIn greatest (number n) = (negsuc greatest ≤ℤ n) × (n ≤ℤ pos greatest)
+IsValueIn greatest overflow = Unit {0}
+
+-- a value of some width: the wide range has the narrow one in it
 abbrev pub IsValue : Value → Type 0
-IsValue (number n) = (least_number ≤ℤ n) × (n ≤ℤ greatest_number)
-IsValue overflow = Unit {0}
+IsValue v = IsValueIn wide v
 
 -- the value of an exact result: itself in range, and Overflow out of range
-abbrev pub value_of : ℤ → Value
-value_of n = if in_range n then number n else overflow
+abbrev pub value_of : (greatest : ℕ) → ℤ → Value
+value_of greatest n = if in_range greatest n then number n else overflow
 
--- an operator on whole numbers, exact, with Overflow where an operand is Overflow
-abbrev pub lifted : (ℤ → ℤ → ℤ) → Value → Value → Value
-lifted operator (number a) (number b) = value_of (operator a b)
+-- an operator on whole numbers, with Overflow where an operand is Overflow
+abbrev pub lifted : (ℤ → ℤ → Value) → Value → Value → Value
+lifted operator (number a) (number b) = operator a b
 lifted operator (number a) overflow = overflow
 lifted operator overflow b = overflow
 
-abbrev pub sum_of : Value → Value → Value
-sum_of = lifted (λ a b. a +ℤ b)
+abbrev pub sum_of : (greatest : ℕ) → Value → Value → Value
+sum_of greatest = lifted (λ a b. value_of greatest (a +ℤ b))
+
+abbrev pub difference_of : (greatest : ℕ) → Value → Value → Value
+difference_of greatest = lifted (λ a b. value_of greatest (a -ℤ b))
+
+abbrev pub product_of : (greatest : ℕ) → Value → Value → Value
+product_of greatest = lifted (λ a b. value_of greatest (a *ℤ b))
+
+abbrev pub negated_of : (greatest : ℕ) → Value → Value
+negated_of greatest (number a) = value_of greatest (neg_ℤ a)
+negated_of greatest overflow = overflow
+
+-- rounded towards minus infinity; k is not 0
+abbrev pub quotient_of : (greatest : ℕ) → Value → (k : ℕ) → Value
+quotient_of greatest (number a) k = value_of greatest (int_div_euclid a (pos k))
+quotient_of greatest overflow k = overflow
+
+-- the least and the greatest of two stay in the range of both
+abbrev pub least_of : Value → Value → Value
+least_of = lifted (λ a b. number (int_min a b))
 
 abbrev pub greatest_of : Value → Value → Value
-greatest_of = lifted int_max
+greatest_of = lifted (λ a b. number (int_max a b))
 
--- the word of a value: 1 to 4294967296 for the numbers from the least to the greatest, 4294967297 for Overflow, and
--- 0 for none, since 0 says that a cell is empty
+-- whether two values are equal
+abbrev pub same_value : Value → Value → Bool
+same_value (number a) (number b) = int_eq a b
+same_value overflow overflow = true
+same_value _ _ = false
+
+-- the word of a value, the same for both widths: 1 to 281474976710656 for the numbers of the wide range, from the least
+-- to the greatest, 281474976710657 for Overflow, and 0 for none, since 0 says that a cell is empty
 abbrev pub word_of_number : ℤ → ℕ
-word_of_number (pos n) = n + 2147483649
-word_of_number (negsuc n) = 2147483648 - n
+word_of_number (pos n) = n + 140737488355329
+word_of_number (negsuc n) = 140737488355328 - n
 
 abbrev pub word_of_value : Value → ℕ
 word_of_value (number n) = word_of_number n
-word_of_value overflow = 4294967297
+word_of_value overflow = 281474976710657
