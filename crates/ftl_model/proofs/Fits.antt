@@ -7,7 +7,7 @@ use Rattle.ftl_model.specs.AttributeGrammar.{AttributeGrammar}
 use Rattle.ftl_model.proofs.Kids.{child-from_kid}
 use Rattle.ftl_model.proofs.Standing.{has_parent}
 
-module _ {V : Type 0} (g : AttributeGrammar V) where
+module _ (g : AttributeGrammar) where
   -- the trees from a kid on fit where the trees do
   pub fit_from : (above : ℕ) (f : Forest) (c k : ℕ) → FitBelow g above f → FitBelow g above (from_kid c k f)
   fit_from above none c k h = tt

@@ -1,5 +1,5 @@
-pub mod Each
 pub mod Fits
+pub mod FoldLaws
 pub mod Kids
 pub mod Numbering
 pub mod Standing

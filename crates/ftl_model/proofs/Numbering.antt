@@ -6,7 +6,7 @@ use Rattle.std.proofs.lemmas.List.FromFn.{get_or-range_with_len}
 use Rattle.std.proofs.lemmas.Bool.{eq-eqb}
 use Rattle.ftl_model.specs.Tree.{Forest, none, tree, IsTree, below_of, size, from_kid, nodes_before}
 use Rattle.ftl_model.specs.Path.{Path, top, down, at, Has, number_of, one_more, nodes_below, preorder, node_at}
-use Rattle.ftl_model.proofs.Each.{each-append, each_at}
+use Rattle.ftl_lists.proofs.Each.{each-append, each_at}
 use Rattle.ftl_model.proofs.Kids.{from_kid-other, from_kid-next, from_kid-here, nodes_before-other, nodes_before-next, nodes_before-here}
 
 -- what is left of the trees below a node, so many kids of each child and so many nodes having come

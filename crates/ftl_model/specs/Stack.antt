@@ -1,8 +1,8 @@
 -- The stack grammar: a sheet with one box, which is a word of fixed size or a column of boxes on top of each other.
-use Rattle.std.specs.Prelude.{ℕ, zero, suc, ◌==◌, if◌then◌else◌, List, [], ◌∷◌, ℤ, pos, slice_index_or}
+use Rattle.std.specs.Prelude.{ℕ, zero, suc, ◌==◌, if◌then◌else◌, List, [], ◌∷◌, pos}
 use Rattle.ftl_model.specs.Values.{Value, number, narrow, sum_of, greatest_of}
 use Rattle.ftl_model.specs.Folds.{fold_kids}
-use Rattle.ftl_model.specs.AttributeGrammar.{AttributeGrammar, Rule, Read, self_read, single_read, each_read, prev_read, Occurrence, own, kid, Sort, input, inherited, synthesized}
+use Rattle.ftl_model.specs.AttributeGrammar.{AttributeGrammar, Rule, Read, self_read, single_read, each_read, prev_read, Parts, plain, first_then, fold_over, Occurrence, own, kid, RuleName, for_self, for_child, Sort, input, inherited, synthesized}
 
 -- the interfaces
 abbrev pub page : ℕ
@@ -47,83 +47,96 @@ word_iw = 5
 abbrev pub word_ih : ℕ
 word_ih = 6
 
--- a rule with one list of reads, for the first kid and for each later one
-abbrev pub same_for_all : List Read → ((ℕ → ℕ) → ℕ → (Occurrence → Value) → Value) → Rule Value
-same_for_all reads value = record { first = reads; later = reads; value = value }
+-- a rule of one expression
+abbrev pub plain_rule : List Read → ((ℕ → ℕ) → ℕ → (Occurrence → Value) → Value) → Rule
+plain_rule reads value = record { parts = plain reads; value = value }
 
 -- Sheet: self.h := body.h
-abbrev pub sheet_h : Rule Value
-sheet_h = same_for_all (single_read only_child box_h ∷ []) (λ kids place s. s (kid only_child 0 box_h))
+abbrev pub sheet_h : Rule
+sheet_h = plain_rule (single_read only_child box_h ∷ []) (λ kids k s. s (kid only_child 0 box_h))
 
 -- Sheet: body.x := 0 and body.y := 0
-abbrev pub body_origin : Rule Value
-body_origin = same_for_all [] (λ kids place s. number (pos 0))
+abbrev pub body_origin : Rule
+body_origin = plain_rule [] (λ kids k s. number (pos 0))
 
 -- Column: self.w := fold kids from 0 with max(acc, this.w)
-abbrev pub column_w : Rule Value
+abbrev pub column_w : Rule
 column_w =
-    same_for_all (each_read only_child box_w ∷ [])
-    (λ kids place s. fold_kids (kids only_child) (λ acc k. greatest_of acc (s (kid only_child k box_w))) (number (pos 0)))
+    record {
+      parts = fold_over only_child [] (each_read only_child box_w ∷ []);
+      value = λ kids k s.
+          fold_kids (kids only_child) (λ acc n. greatest_of acc (s (kid only_child n box_w))) (number (pos 0));
+    }
 
 -- Column: self.h := fold kids from 0 with acc + this.h
-abbrev pub column_h : Rule Value
-column_h =
-    same_for_all (each_read only_child box_h ∷ [])
-    (λ kids place s. fold_kids (kids only_child) (λ acc k. sum_of narrow acc (s (kid only_child k box_h))) (number (pos 0)))
+abbrev pub column_h : (greatest : ℕ) → Rule
+column_h greatest =
+    record {
+      parts = fold_over only_child [] (each_read only_child box_h ∷ []);
+      value = λ kids k s.
+          fold_kids (kids only_child) (λ acc n. sum_of greatest acc (s (kid only_child n box_h))) (number (pos 0));
+    }
 
 -- Column: kids.x := self.x
-abbrev pub kids_x : Rule Value
-kids_x = same_for_all (self_read box_x ∷ []) (λ kids place s. s (own box_x))
+abbrev pub kids_x : Rule
+kids_x = plain_rule (self_read box_x ∷ []) (λ kids k s. s (own box_x))
 
 -- Column: kids.y := first self.y then prev.y + prev.h
-abbrev pub kids_y_value : ℕ → (Occurrence → Value) → Value
-kids_y_value zero s = s (own box_y)
-kids_y_value (suc before) s = sum_of narrow (s (kid only_child before box_y)) (s (kid only_child before box_h))
+abbrev pub kids_y_value : (greatest : ℕ) → ℕ → (Occurrence → Value) → Value
+kids_y_value greatest zero s = s (own box_y)
+kids_y_value greatest (suc before) s =
+    sum_of greatest (s (kid only_child before box_y)) (s (kid only_child before box_h))
 
-abbrev pub kids_y : Rule Value
-kids_y =
+abbrev pub kids_y : (greatest : ℕ) → Rule
+kids_y greatest =
     record {
-      first = self_read box_y ∷ [];
-      later = prev_read only_child box_y ∷ (prev_read only_child box_h ∷ []);
-      value = λ kids place s. kids_y_value place s;
+      parts =
+          first_then (self_read box_y ∷ []) (prev_read only_child box_y ∷ (prev_read only_child box_h ∷ []));
+      value = λ kids k s. kids_y_value greatest k s;
     }
 
 -- Word: self.w := self.iw
-abbrev pub word_w : Rule Value
-word_w = same_for_all (self_read word_iw ∷ []) (λ kids place s. s (own word_iw))
+abbrev pub word_w : Rule
+word_w = plain_rule (self_read word_iw ∷ []) (λ kids k s. s (own word_iw))
 
 -- Word: self.h := self.ih
-abbrev pub word_h : Rule Value
-word_h = same_for_all (self_read word_ih ∷ []) (λ kids place s. s (own word_ih))
+abbrev pub word_h : Rule
+word_h = plain_rule (self_read word_ih ∷ []) (λ kids k s. s (own word_ih))
 
 -- the rules for the node itself, class by class
-abbrev pub stack_self_rule : ℕ → ℕ → Rule Value
-stack_self_rule class a =
+abbrev pub stack_self_rule : (greatest class attribute : ℕ) → Rule
+stack_self_rule greatest class a =
     if class == sheet then sheet_h
-    else (if class == column then (if a == box_w then column_w else column_h) else (if a == box_w then word_w else word_h))
+    else (if class == column then (if a == box_w then column_w else column_h greatest)
+    else (if a == box_w then word_w else word_h))
 
 -- the rules for its kids, class by class
-abbrev pub stack_child_rule : ℕ → ℕ → ℕ → Rule Value
-stack_child_rule class child a =
-    if class == sheet then body_origin else (if a == box_x then kids_x else kids_y)
+abbrev pub stack_child_rule : (greatest class child attribute : ℕ) → Rule
+stack_child_rule greatest class child a =
+    if class == sheet then body_origin else (if a == box_x then kids_x else kids_y greatest)
 
 abbrev pub stack_sort : ℕ → Sort
 stack_sort a =
     if a == box_x then inherited
     else (if a == box_y then inherited else (if a == word_iw then input else (if a == word_ih then input else synthesized)))
 
--- the inputs of a word are iw and ih
-abbrev pub stack_given : ℕ → ℕ → List ℤ → Value
-stack_given class a inputs =
-    if a == word_iw then number (slice_index_or inputs 0 (pos 0)) else number (slice_index_or inputs 1 (pos 0))
+-- in the order of the text
+abbrev pub stack_rules : List RuleName
+stack_rules =
+    for_self sheet page_h ∷ for_child sheet only_child box_x ∷ for_child sheet only_child box_y
+    ∷ for_self column box_w ∷ for_self column box_h ∷ for_child column only_child box_x
+    ∷ for_child column only_child box_y ∷ for_self word box_w ∷ for_self word box_h ∷ []
 
-abbrev pub stack : AttributeGrammar Value
-stack =
+-- the stack grammar in a width
+abbrev pub stack_in : (greatest : ℕ) → AttributeGrammar
+stack_in greatest =
     record {
+      greatest = greatest;
       root = page;
+      interface_count = 2;
       class_count = 3;
+      attribute_count = 7;
       interface = λ class. if class == sheet then page else box;
-      input_count = λ class. if class == word then 2 else 0;
       child_count = λ class. if class == word then 0 else 1;
       child_interface = λ class child. box;
       is_list = λ class child. class == column;
@@ -132,7 +145,11 @@ stack =
           if interface == page then page_h ∷ [] else box_x ∷ (box_y ∷ (box_w ∷ (box_h ∷ [])));
       private = λ class. if class == word then word_iw ∷ (word_ih ∷ []) else [];
       sort = stack_sort;
-      given = stack_given;
-      self_rule = stack_self_rule;
-      child_rule = stack_child_rule;
+      rules = stack_rules;
+      self_rule = stack_self_rule greatest;
+      child_rule = stack_child_rule greatest;
     }
+
+-- of narrow pages
+abbrev pub stack : AttributeGrammar
+stack = stack_in narrow

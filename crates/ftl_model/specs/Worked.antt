@@ -10,7 +10,7 @@ use Rattle.ftl_model.specs.Stack.{stack, sheet, column, word, only_child}
 -- the equation of each instance holds
 abbrev pub EachHolds : Forest → List Value → Type 0
 EachHolds t values =
-    let s = value_in stack t overflow values in
+    let s = value_in stack t values in
     AllByRecursion (λ i. s i ≡ equation_value stack t s (stack.sort i.attribute) i.node i.attribute) (instances stack t)
 
 -- a word of this size, before the trees beside it

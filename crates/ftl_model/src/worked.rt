@@ -11,44 +11,44 @@ ghost use Rattle.ftl_model.specs.Worked.{EachHolds, two_words, two_words_values,
 pub fn a_column_of_two_words()
     ensures tree { IsTreeOf stack two_words }
     ensures equations { EachHolds two_words two_words_values }
-    ensures text { boxes stack_names two_words (value_in stack two_words overflow two_words_values)
+    ensures text { boxes stack_names two_words (value_in stack two_words two_words_values)
         ≡ codes "0 Sheet h=25\n1 Column x=0 y=0 w=30 h=25\n2 Word x=0 y=0 w=20 h=10\n3 Word x=0 y=10 w=30 h=15\n" }
-    ensures in_range { shows_overflow stack_names two_words (value_in stack two_words overflow two_words_values) ≡ false }
+    ensures in_range { shows_overflow stack_names two_words (value_in stack two_words two_words_values) ≡ false }
 {}
 
 /// A law: an empty column has no size.
 pub fn an_empty_column()
     ensures tree { IsTreeOf stack empty_column }
     ensures equations { EachHolds empty_column (numbers (0 ∷ (0 ∷ (0 ∷ (0 ∷ (0 ∷ [])))))) }
-    ensures text { boxes stack_names empty_column (value_in stack empty_column overflow (numbers (0 ∷ (0 ∷ (0 ∷ (0 ∷ (0 ∷ [])))))))
+    ensures text { boxes stack_names empty_column (value_in stack empty_column (numbers (0 ∷ (0 ∷ (0 ∷ (0 ∷ (0 ∷ [])))))))
         ≡ codes "0 Sheet h=0\n1 Column x=0 y=0 w=0 h=0\n" }
     ensures in_range { shows_overflow stack_names empty_column
-        (value_in stack empty_column overflow (numbers (0 ∷ (0 ∷ (0 ∷ (0 ∷ (0 ∷ []))))))) ≡ false }
+        (value_in stack empty_column (numbers (0 ∷ (0 ∷ (0 ∷ (0 ∷ (0 ∷ []))))))) ≡ false }
 {}
 
 /// A law: heights that add up to more than the greatest number overflow, and are printed so.
 pub fn overflowing_heights()
     ensures tree { IsTreeOf stack tall_words }
     ensures equations { EachHolds tall_words tall_words_values }
-    ensures text { boxes stack_names tall_words (value_in stack tall_words overflow tall_words_values)
+    ensures text { boxes stack_names tall_words (value_in stack tall_words tall_words_values)
         ≡ codes "0 Sheet h=overflow\n1 Column x=0 y=0 w=1 h=overflow\n2 Word x=0 y=0 w=1 h=1\n3 Word x=0 y=1 w=1 h=2147483647\n" }
-    ensures out_of_range { shows_overflow stack_names tall_words (value_in stack tall_words overflow tall_words_values) ≡ true }
+    ensures out_of_range { shows_overflow stack_names tall_words (value_in stack tall_words tall_words_values) ≡ true }
 {}
 
 /// A law: columns and words stand below each other in a column, each column as high as its kids.
 pub fn columns_in_a_column()
     ensures tree { IsTreeOf stack nested_columns }
     ensures equations { EachHolds nested_columns nested_columns_values }
-    ensures text { boxes stack_names nested_columns (value_in stack nested_columns overflow nested_columns_values)
+    ensures text { boxes stack_names nested_columns (value_in stack nested_columns nested_columns_values)
         ≡ codes "0 Sheet h=15\n1 Column x=0 y=0 w=9 h=15\n2 Column x=0 y=0 w=9 h=3\n3 Word x=0 y=0 w=5 h=1\n4 Word x=0 y=1 w=9 h=2\n5 Word x=0 y=3 w=3 h=4\n6 Column x=0 y=7 w=2 h=8\n7 Word x=0 y=7 w=2 h=8\n" }
-    ensures in_range { shows_overflow stack_names nested_columns (value_in stack nested_columns overflow nested_columns_values) ≡ false }
+    ensures in_range { shows_overflow stack_names nested_columns (value_in stack nested_columns nested_columns_values) ≡ false }
 {}
 
 /// A law: a box that stands below too many pixels has no place.
 pub fn an_overflowing_place()
     ensures tree { IsTreeOf stack greatest_words }
     ensures equations { EachHolds greatest_words greatest_words_values }
-    ensures text { boxes stack_names greatest_words (value_in stack greatest_words overflow greatest_words_values)
+    ensures text { boxes stack_names greatest_words (value_in stack greatest_words greatest_words_values)
         ≡ codes "0 Sheet h=overflow\n1 Column x=0 y=0 w=1 h=overflow\n2 Word x=0 y=0 w=1 h=2147483647\n3 Word x=0 y=2147483647 w=1 h=2147483647\n4 Word x=0 y=overflow w=1 h=5\n" }
-    ensures out_of_range { shows_overflow stack_names greatest_words (value_in stack greatest_words overflow greatest_words_values) ≡ true }
+    ensures out_of_range { shows_overflow stack_names greatest_words (value_in stack greatest_words greatest_words_values) ≡ true }
 {}

@@ -52,15 +52,15 @@ pub below_size : (f : Forest) → IsTree f → size (below_of f) < size f
 below_size none h = absurd h
 below_size (tree class child inputs below beside) h = omega arith
 
-pub class_known : {V : Type 0} (g : AttributeGrammar V) (t : Forest) → IsTreeOf g t → (p : Path) → Has t p
+pub class_known : (g : AttributeGrammar) (t : Forest) → IsTreeOf g t → (p : Path) → Has t p
     → class_at t p < g.class_count
 class_known g t fits p h = (fits_at g t p fits h).class.known
 
-pub root_interface : {V : Type 0} (g : AttributeGrammar V) (t : Forest) → IsTreeOf g t
+pub root_interface : (g : AttributeGrammar) (t : Forest) → IsTreeOf g t
     → g.interface (class_of t) ≡ g.root
 root_interface g none h = absurd h
 root_interface g (tree class child inputs below beside) h = h.0
 
-pub root_there : {V : Type 0} (g : AttributeGrammar V) (t : Forest) → IsTreeOf g t → IsTree t
+pub root_there : (g : AttributeGrammar) (t : Forest) → IsTreeOf g t → IsTree t
 root_there g none h = h
 root_there g (tree class child inputs below beside) h = tt

@@ -14,7 +14,7 @@ use Rattle.ftl_order.specs.Ordered.{EachPairOrdered}
 use Rattle.ftl_order.specs.Sequence.{sorted_by}
 use Rattle.ftl_order.specs.LegalOrder.{IsStep, MustPrecede, IsLegalOrder, StandsBefore}
 use Rattle.ftl_order.proofs.Instances.{length-instances, instance_here, is_listed_instance}
-use Rattle.ftl_order.proofs.Lists.{distinct_by_number, in_filter, filter_has, distinct-filter, in_sorted, sorted_has, distinct-sorted, sorted_rises}
+use Rattle.ftl_lists.proofs.Elements.{distinct_by_number, in_filter, filter_has, distinct-filter, in_sorted, sorted_has, distinct-sorted, sorted_rises}
 use Rattle.ftl_order.proofs.TreeEquations.{inside_by}
 use Rattle.ftl_order.proofs.Near.{reads_near}
 use Rattle.ftl_order.proofs.Rows.{near_precedes}
@@ -48,7 +48,7 @@ not_input inherited h e = let z : ⊥ = grind arith in z
 not_input synthesized h e = let z : ⊥ = grind arith in z
 not_input local h e = let z : ⊥ = grind arith in z
 
-module _ {V : Type 0} (g : AttributeGrammar V) (at : Placing) (t : Forest) (one_kind : HasOneKind at) (law : IsLawful g)
+module _ (g : AttributeGrammar) (at : Placing) (t : Forest) (one_kind : HasOneKind at) (law : IsLawful g)
     (pairs : EachPairOrdered g at) (fits : IsTreeOf g t) where
   -- what a step reads, unless an input, is a step that must precede it
   pub writer_precedes : (i j : Instance) → IsInstance g t i → Reads g t i j → g.sort j.attribute ≢ input

@@ -17,7 +17,7 @@ use Rattle.ftl_order.proofs.Kids.{class_known}
 use Rattle.ftl_order.proofs.TreeEquations.{inherited_of_child, root_inherits_nothing, self_sees_instances, child_sees_instances}
 use Rattle.ftl_order.proofs.Rows.{turn, same_visit_near, parent_near, child_near, lift_row, own_block}
 
-module _ {V : Type 0} (g : AttributeGrammar V) (law : IsLawful g) (at : Placing) (t : Forest)
+module _ (g : AttributeGrammar) (law : IsLawful g) (at : Placing) (t : Forest)
     (fits : IsTreeOf g t) where
   abbrev NearOrInput : Instance → Turn → Type 0
   NearOrInput j y = (g.sort j.attribute ≡ input) ⊎ TurnNear at (turn_of g j) y

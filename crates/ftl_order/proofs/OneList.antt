@@ -12,16 +12,16 @@ use Rattle.ftl_order.specs.OneTable.{ExactlyOneTable, ExactlyOneList}
 use Rattle.ftl_order.proofs.TreeEquations.{alone_by, inside_by}
 use Rattle.ftl_order.proofs.Instances.{length-instances, instance_at_number, number_within, numbered}
 
-module _ {V : Type 0} (g : AttributeGrammar V) (law : IsLawful g) (t : Forest) (fits : IsTreeOf g t) (missing : V) where
+module _ (g : AttributeGrammar) (law : IsLawful g) (t : Forest) (fits : IsTreeOf g t) where
   -- the values of a table, instance by instance
-  abbrev pub listed : (Instance → V) → List V
+  abbrev pub listed : (Instance → Value) → List V
   listed s = map s (instances g t)
 
-  pub length-listed : (s : Instance → V) → length (listed s) ≡ instance_count g t
+  pub length-listed : (s : Instance → Value) → length (listed s) ≡ instance_count g t
   length-listed s = length-map (instances g t) s ∙ length-instances g t
 
   -- each instance has its value in the list
-  pub value_in-listed : (s : Instance → V) (i : Instance) → IsInstance g t i → value_in g t missing (listed s) i ≡ s i
+  pub value_in-listed : (s : Instance → Value) (i : Instance) → IsInstance g t i → value_in g t (listed s) i ≡ s i
   value_in-listed s i valid =
       get_or-map s (instances g t) (instance_number g t i) (instance_of top 0) missing
       (let w = number_within g t i.node i.attribute valid.0 valid.1 in let e = length-instances g t in omega
@@ -29,7 +29,7 @@ module _ {V : Type 0} (g : AttributeGrammar V) (law : IsLawful g) (t : Forest) (
       ∙ ap s (instance_at_number g t i.node i.attribute (instance_of top 0) valid.0 valid.1)
 
   -- two tables that agree at the instances solve alike
-  pub solves_alike : (r s : Instance → V) → ((i : Instance) → IsInstance g t i → r i ≡ s i) → Solves g t s
+  pub solves_alike : (r s : Instance → Value) → ((i : Instance) → IsInstance g t i → r i ≡ s i) → Solves g t s
       → Solves g t r
   solves_alike r s same solves i valid =
       same i valid
@@ -38,16 +38,16 @@ module _ {V : Type 0} (g : AttributeGrammar V) (law : IsLawful g) (t : Forest) (
       (λ j reads. sym
       (same j (inside_by g law t fits (g.sort i.attribute) i.node i.attribute refl valid.0 valid.1 j reads)))
 
-  pub listed_solves : (s : Instance → V) → Solves g t s → SolvesList g t missing (listed s)
+  pub listed_solves : (s : Instance → Value) → Solves g t s → SolvesList g t (listed s)
   listed_solves s solves =
       record {
         count = length-listed s;
-        solves = solves_alike (value_in g t missing (listed s)) s
+        solves = solves_alike (value_in g t (listed s)) s
             (value_in-listed s) solves;
       }
 
-  pub lists_equal : (xs ys : List V) → length xs ≡ instance_count g t → length ys ≡ instance_count g t
-      → ((i : Instance) → IsInstance g t i → value_in g t missing xs i ≡ value_in g t missing ys i) → xs ≡ ys
+  pub lists_equal : (xs ys : List Value) → length xs ≡ instance_count g t → length ys ≡ instance_count g t
+      → ((i : Instance) → IsInstance g t i → value_in g t xs i ≡ value_in g t ys i) → xs ≡ ys
   lists_equal xs ys cx cy same =
       ext_get_or missing xs ys (cx ∙ sym cy)
       (λ n below.
@@ -56,11 +56,11 @@ module _ {V : Type 0} (g : AttributeGrammar V) (law : IsLawful g) (t : Forest) (
       ∙ same at_n.instance at_n.valid
       ∙ ap (λ m. get_or ys m missing) at_n.number)
 
-  pub one_list_by : ExactlyOneTable g t → ExactlyOneList g t missing
+  pub one_list_by : ExactlyOneTable g t → ExactlyOneList g t
   one_list_by one =
       record {
         some_solves = (listed one.some_solves.0, listed_solves one.some_solves.0 one.some_solves.1);
         any_two_equal = λ xs ys sx sy.
             lists_equal xs ys sx.count sy.count
-            (one.any_two_agree (value_in g t missing xs) (value_in g t missing ys) sx.solves sy.solves);
+            (one.any_two_agree (value_in g t xs) (value_in g t ys) sx.solves sy.solves);
       }

@@ -15,7 +15,7 @@ use Rattle.ftl_order.specs.LegalOrder.{Turn, turn_of, KeyFirst, Before, address,
 use Rattle.ftl_order.proofs.Kids.{kid_size, below_size}
 use Rattle.ftl_order.proofs.Instances.{is_listed_instance}
 use Rattle.ftl_order.proofs.TreeEquations.{inside_by}
-use Rattle.ftl_order.proofs.Weights.{weight, before_weight, sum_of_all, all_below, total_by, at_most_total_of}
+use Rattle.ftl_lists.proofs.Weights.{weight, before_weight, sum_of_all, all_below, total_by, at_most_total_of}
 use Rattle.ftl_order.proofs.Near.{reads_near}
 use Rattle.ftl_order.proofs.Rows.{near_precedes}
 
@@ -92,7 +92,7 @@ visit_there t inherited (down c k p) h = has_parent t c k p h
 visit_there t synthesized p h = h
 visit_there t local p h = h
 
-module _ {V : Type 0} (g : AttributeGrammar V) (at : Placing) (t : Forest) where
+module _ (g : AttributeGrammar) (at : Placing) (t : Forest) where
   abbrev digits_of : Instance → List ℕ
   digits_of i = digits at (size t) (turn_of g i)
 

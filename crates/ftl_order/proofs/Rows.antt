@@ -121,7 +121,7 @@ near_in_pass bottomup at x y near = ⊎_elim (λ here. inl here) (λ parent. inr
     above (down c k q) p e = inl (sym (parent_above p q e))
 near_in_pass inorder at x y near = near
 
-pub near_precedes : {V : Type 0} (g : AttributeGrammar V) (at : Placing) (i j : Instance) → IsNearBefore g at i j
+pub near_precedes : (g : AttributeGrammar) (at : Placing) (i j : Instance) → IsNearBefore g at i j
     → MustPrecede g at i j
 near_precedes g at i j near =
     ⊎_elim (λ stage. inl stage)

@@ -15,13 +15,13 @@ use Rattle.ftl_order.specs.Schedule.{Placing, HasOneKind}
 use Rattle.ftl_order.specs.Ordered.{EachPairOrdered}
 use Rattle.ftl_order.specs.LegalOrder.{IsStep, MustPrecede, IsLegalOrder, run, HoldsInputs}
 use Rattle.ftl_order.proofs.Instances.{instance_at_number, number_within}
-use Rattle.ftl_order.proofs.Lists.{nothing_in, here_in, in_cases}
+use Rattle.ftl_lists.proofs.Elements.{nothing_in, here_in, in_cases}
 use Rattle.ftl_order.proofs.TreeEquations.{alone_by, inside_by}
 use Rattle.ftl_order.proofs.OneList.{solves_alike}
 use Rattle.ftl_order.proofs.LegalOrders.{input_or_computed, writer_precedes, places_rise}
 
-module _ {V : Type 0} (g : AttributeGrammar V) (at : Placing) (t : Forest) (one_kind : HasOneKind at) (law : IsLawful g)
-    (pairs : EachPairOrdered g at) (fits : IsTreeOf g t) (missing : V) (s : Instance → V) (solves : Solves g t s)
+module _ (g : AttributeGrammar) (at : Placing) (t : Forest) (one_kind : HasOneKind at) (law : IsLawful g)
+    (pairs : EachPairOrdered g at) (fits : IsTreeOf g t) (s : Instance → Value) (solves : Solves g t s)
     (order : List Instance) (legal : IsLegalOrder g at t order) where
   same_number : (i j : Instance) → IsInstance g t i → IsInstance g t j → instance_number g t i ≡ instance_number g t j
       → i ≡ j
@@ -31,10 +31,10 @@ module _ {V : Type 0} (g : AttributeGrammar V) (at : Placing) (t : Forest) (one_
       ∙ instance_at_number g t j.node j.attribute i vj.0 vj.1
 
   -- the values are those of the solution at the inputs and at the steps that are done
-  record Done (done : List Instance) (values : List V) : Type 0 where
+  record Done (done : List Instance) (values : List Value) : Type 0 where
     pub count : length values ≡ instance_count g t
-    pub inputs : (i : Instance) → IsInstance g t i → g.sort i.attribute ≡ input → value_in g t missing values i ≡ s i
-    pub steps : (i : Instance) → Contains done i → value_in g t missing values i ≡ s i
+    pub inputs : (i : Instance) → IsInstance g t i → g.sort i.attribute ≡ input → value_in g t values i ≡ s i
+    pub steps : (i : Instance) → Contains done i → value_in g t values i ≡ s i
 
   -- a step that must precede the next one is done
   precedes_done : (done rest : List Instance) (i j : Instance) → order ≡ done ++ (i ∷ rest) → IsStep g t i
@@ -64,17 +64,17 @@ module _ {V : Type 0} (g : AttributeGrammar V) (at : Placing) (t : Forest) (one_
           omega (arith, less)
 
   -- the value that a step computes is the solution's
-  step_value : (done rest : List Instance) (i : Instance) (values : List V) → order ≡ done ++ (i ∷ rest) → IsStep g t i
+  step_value : (done rest : List Instance) (i : Instance) (values : List Value) → order ≡ done ++ (i ∷ rest) → IsStep g t i
       → Done done values
-      → equation_value g t (value_in g t missing values) (g.sort i.attribute) i.node i.attribute ≡ s i
+      → equation_value g t (value_in g t values) (g.sort i.attribute) i.node i.attribute ≡ s i
   step_value done rest i values e step good =
-      alone_by g law t fits (value_in g t missing values) s
+      alone_by g law t fits (value_in g t values) s
       (g.sort i.attribute) i.node i.attribute refl step.0.0 step.0.1
       (λ j reads. read_value j reads (input_or_computed (g.sort j.attribute)))
       ∙ sym (solves i step.0)
     where
       read_value : (j : Instance) → Reads g t i j → (g.sort j.attribute ≡ input) ⊎ (g.sort j.attribute ≢ input)
-          → value_in g t missing values j ≡ s j
+          → value_in g t values j ≡ s j
       read_value j reads (inl is_input) =
           good.inputs j
           (inside_by g law t fits (g.sort i.attribute) i.node i.attribute refl step.0.0 step.0.1 j reads)
@@ -84,14 +84,14 @@ module _ {V : Type 0} (g : AttributeGrammar V) (at : Placing) (t : Forest) (one_
           good.steps j (precedes_done done rest i j e step first.0 first.1)
 
   -- after a step the other values stay
-  after_step : (i j : Instance) (values : List V) (v : V) → length values ≡ instance_count g t → IsInstance g t i
+  after_step : (i j : Instance) (values : List Value) (v : V) → length values ≡ instance_count g t → IsInstance g t i
       → IsInstance g t j
-      → v ≡ s i → (value_in g t missing values j ≡ s j) ⊎ (i ≡ j)
-      → value_in g t missing (set values (instance_number g t i) v) j ≡ s j
+      → v ≡ s i → (value_in g t values j ≡ s j) ⊎ (i ≡ j)
+      → value_in g t (set values (instance_number g t i) v) j ≡ s j
   after_step i j values v count vi vj is old = go (ℕ_discrete (instance_number g t i) (instance_number g t j))
     where
       go : Dec (instance_number g t i ≡ instance_number g t j)
-          → value_in g t missing (set values (instance_number g t i) v) j ≡ s j
+          → value_in g t (set values (instance_number g t i) v) j ≡ s j
       go (yes e) =
           ap (λ n. get_or (set values (instance_number g t i) v) n missing) (sym e)
           ∙ get_or-set_same values (instance_number g t i) v missing
@@ -102,13 +102,13 @@ module _ {V : Type 0} (g : AttributeGrammar V) (at : Placing) (t : Forest) (one_
           get_or-set_other values (instance_number g t i) (instance_number g t j) v missing (λ e. differ (sym e))
           ∙ ⊎_elim (λ old. old) (λ e. absurd (differ (ap (instance_number g t) e))) old
 
-  run_done : (rest done : List Instance) (values : List V) → order ≡ done ++ rest → Done done values
-      → Done order (run g t missing rest values)
+  run_done : (rest done : List Instance) (values : List Value) → order ≡ done ++ rest → Done done values
+      → Done order (run g t rest values)
   run_done [] done values e good = subst (λ l. Done l values) (sym (e ∙ append-nil done)) good
   run_done (i ∷ rest) done values e good =
       let step = legal.steps i
       (subst (λ l. Contains l i) (sym e) (Contains-append_right done (i ∷ rest) i (here_in i rest))) in
-      let v = equation_value g t (value_in g t missing values) (g.sort i.attribute) i.node i.attribute in
+      let v = equation_value g t (value_in g t values) (g.sort i.attribute) i.node i.attribute in
       let is : v ≡ s i = step_value done rest i values e step good in
       run_done rest (done ++ (i ∷ [])) (set values (instance_number g t i) v)
       (e ∙ sym (append_assoc done (i ∷ []) rest))
@@ -136,8 +136,8 @@ module _ {V : Type 0} (g : AttributeGrammar V) (at : Placing) (t : Forest) (one_
       solves i valid
       ∙ ap (λ x. equation_value g t s x i.node i.attribute) (e ∙ is_input)
 
-  pub run_solves : (values : List V) → length values ≡ instance_count g t → HoldsInputs g t missing values
-      → SolvesList g t missing (run g t missing order values)
+  pub run_solves : (values : List Value) → length values ≡ instance_count g t → HoldsInputs g t values
+      → SolvesList g t (run g t order values)
   run_solves values count holds =
       let good = run_done order [] values refl
       (record {
@@ -149,13 +149,13 @@ module _ {V : Type 0} (g : AttributeGrammar V) (at : Placing) (t : Forest) (one_
       record {
         count = good.count;
         solves =
-            solves_alike g law t fits missing (value_in g t missing (run g t missing order values)) s
+            solves_alike g law t fits missing (value_in g t (run g t order values)) s
             (λ i valid. at_each good i valid (input_or_computed (g.sort i.attribute)))
             solves;
       }
     where
-      at_each : Done order (run g t missing order values) → (i : Instance) → IsInstance g t i
+      at_each : Done order (run g t order values) → (i : Instance) → IsInstance g t i
           → (g.sort i.attribute ≡ input) ⊎ (g.sort i.attribute ≢ input)
-          → value_in g t missing (run g t missing order values) i ≡ s i
+          → value_in g t (run g t order values) i ≡ s i
       at_each good i valid (inl is_input) = good.inputs i valid is_input
       at_each good i valid (inr computed) = good.steps i (legal.all i (valid, computed))

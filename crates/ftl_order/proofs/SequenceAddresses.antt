@@ -7,9 +7,9 @@ use Rattle.ftl_model.specs.Solves.{Instance, instance_of, attributes_of}
 use Rattle.ftl_order.specs.Schedule.{Placing, Spot, IsOnePass}
 use Rattle.ftl_order.specs.LegalOrder.{turn_by, turn_of, Before, way_to, address}
 use Rattle.ftl_order.specs.Sequence.{is_same_sort, is_in_pass, keyed, steps_at}
-use Rattle.ftl_order.proofs.Lists.{in_filter, in_sorted}
+use Rattle.ftl_lists.proofs.Elements.{in_filter, in_sorted}
 use Rattle.ftl_order.proofs.Rows.{way_before}
-use Rattle.ftl_order.proofs.Rising.{Rising, Mapped, in_map}
+use Rattle.ftl_lists.proofs.Rising.{Rising, Mapped, in_map}
 
 pub both_true : (p q : Bool) → (p && q) ≡ true → (p ≡ true) × (q ≡ true)
 both_true true q h = (refl, h)
@@ -33,7 +33,7 @@ same_sort local input h = absurd (let z : ⊥ = grind arith in z)
 same_sort local inherited h = absurd (let z : ⊥ = grind arith in z)
 same_sort local synthesized h = absurd (let z : ⊥ = grind arith in z)
 
-module _ {V : Type 0} (g : AttributeGrammar V) (at : Placing) where
+module _ (g : AttributeGrammar) (at : Placing) where
   abbrev pub EarlierAddress : Instance → Instance → Type 0
   EarlierAddress i j = Before (address at (turn_of g i)) (address at (turn_of g j))
 
@@ -109,7 +109,7 @@ module _ {V : Type 0} (g : AttributeGrammar V) (at : Placing) where
     pub rising : Rising EarlierAddress is
     pub to_come : (i : Instance) → Contains is i → StillToCome p from seen i
 
-module _ {V : Type 0} (g : AttributeGrammar V) (at : Placing) (x : Spot) where
+module _ (g : AttributeGrammar) (at : Placing) (x : Spot) where
   -- a keyed attribute is of its class, of its kind, and in the pass
   pub record Keyed (sort : Sort) (k a : ℕ) : Type 0 where
     pub of : Contains (attributes_of g k) a

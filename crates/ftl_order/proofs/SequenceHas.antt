@@ -9,7 +9,7 @@ use Rattle.ftl_model.proofs.Standing.{has_parent}
 use Rattle.ftl_order.specs.Lawful.{OfClass}
 use Rattle.ftl_order.specs.Schedule.{Placing, Spot, IsOnePass}
 use Rattle.ftl_order.specs.Sequence.{is_same_sort, is_in_pass, keyed, steps_at, sequence_below, sequence}
-use Rattle.ftl_order.proofs.Lists.{filter_has, sorted_has}
+use Rattle.ftl_lists.proofs.Elements.{filter_has, sorted_has}
 
 both_pass : (p q : Bool) → p ≡ true → q ≡ true → (p && q) ≡ true
 both_pass true q a b = b
@@ -21,7 +21,7 @@ itself inherited = refl
 itself synthesized = refl
 itself local = refl
 
-module _ {V : Type 0} (g : AttributeGrammar V) (at : Placing) (x : Spot) where
+module _ (g : AttributeGrammar) (at : Placing) (x : Spot) where
   pub keyed_has : (sort : Sort) (k a : ℕ) → g.sort a ≡ sort → OfClass g k a → IsOnePass (at a) x
       → Contains (keyed g at x sort k) a
   keyed_has sort k a e of pass =

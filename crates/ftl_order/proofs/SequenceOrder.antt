@@ -17,12 +17,12 @@ use Rattle.ftl_order.specs.Sequence.{keyed, steps_at, sequence_below, sequence}
 use Rattle.ftl_order.proofs.Kids.{class_known, root_there}
 use Rattle.ftl_order.proofs.TreeEquations.{root_inherits_nothing}
 use Rattle.ftl_order.proofs.Spots.{own_keys}
-use Rattle.ftl_order.proofs.Rising.{Rising, rising-append, before_once, rising_at, map_has}
+use Rattle.ftl_lists.proofs.Rising.{Rising, rising-append, before_once, rising_at, map_has}
 use Rattle.ftl_order.proofs.SequenceRises.{below_rises, steps_rise, starts_anywhere}
 use Rattle.ftl_order.proofs.SequenceAddresses.{EarlierAddress, local_goes, synthesized_goes, into_block, goes_before}
 use Rattle.ftl_order.proofs.SequenceHas.{keyed_has, kid_in, visit_in}
 
-module _ {V : Type 0} (g : AttributeGrammar V) (law : IsLawful g) (s : Schedule) (once : EachStandsOnce g s)
+module _ (g : AttributeGrammar) (law : IsLawful g) (s : Schedule) (once : EachStandsOnce g s)
     (t : Forest)
     (fits : IsTreeOf g t) (x : Spot) where
   step_in : (sort : Sort) (p : Path) (a : ℕ) → g.sort a ≡ sort → sort ≢ input → Has t p → OfClass g (class_at t p) a
@@ -132,7 +132,7 @@ module _ {V : Type 0} (g : AttributeGrammar V) (law : IsLawful g) (s : Schedule)
   step_there i step pass = step_in (g.sort i.attribute) i.node i.attribute refl step.1 step.0.0 step.0.1 pass
 
 -- in an inorder pass a step must precede another exactly where it stands before it in the sequence
-module _ {V : Type 0} (g : AttributeGrammar V) (law : IsLawful g) (s : Schedule) (once : EachStandsOnce g s)
+module _ (g : AttributeGrammar) (law : IsLawful g) (s : Schedule) (once : EachStandsOnce g s)
     (t : Forest)
     (fits : IsTreeOf g t) (i j : Instance) (step_i : IsStep g t i) (step_j : IsStep g t j)
     (pass : IsOnePass (spot_of s i.attribute) (spot_of s j.attribute))

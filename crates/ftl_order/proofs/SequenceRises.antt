@@ -10,11 +10,11 @@ use Rattle.ftl_order.specs.Lawful.{IsLawful}
 use Rattle.ftl_order.specs.Schedule.{Placing, Spot, IsOnePass}
 use Rattle.ftl_order.specs.LegalOrder.{Before}
 use Rattle.ftl_order.specs.Sequence.{is_same_sort, is_in_pass, keyed, steps_at, sequence_below}
-use Rattle.ftl_order.proofs.Lists.{nothing_in, distinct-filter, distinct-sorted, rises-sorted}
-use Rattle.ftl_order.proofs.Rising.{Rising, rising-append, across-append, rising-map, rising_more, strictly}
+use Rattle.ftl_lists.proofs.Elements.{nothing_in, distinct-filter, distinct-sorted, rises-sorted}
+use Rattle.ftl_lists.proofs.Rising.{Rising, rising-append, across-append, rising-map, rising_more, strictly}
 use Rattle.ftl_order.proofs.SequenceAddresses.{EarlierAddress, Goes, StillToCome, RisesBelow, goes_before, into_kid, into_block, at_kid, kid_first, address_by, key_before, is_keyed, local_goes, synthesized_goes, inherited_goes}
 
-module _ {V : Type 0} (g : AttributeGrammar V) (law : IsLawful g) (at : Placing) (x : Spot)
+module _ (g : AttributeGrammar) (law : IsLawful g) (at : Placing) (x : Spot)
     (own : (k a b : ℕ) → k < g.class_count → Contains (attributes_of g k) a → Contains (attributes_of g k) b
     → g.sort a ≢ input → g.sort b ≢ input → IsOnePass (at a) (at b) → (at a).index ≡ (at b).index → a ≡ b) where
   abbrev pub Earlier : Instance → Instance → Type 0

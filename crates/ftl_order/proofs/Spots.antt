@@ -5,39 +5,7 @@ use Rattle.std.proofs.lemmas.List.Sums.{sum_by-cons}
 use Rattle.ftl_model.specs.AttributeGrammar.{AttributeGrammar, input}
 use Rattle.ftl_order.specs.Schedule.{Pass, Schedule, entries, IsAttribute, EachStandsOnce, IsOnePass, is_listed, pass_of, has_entry, stage_of, empty_pass, pass_at, pass_in_stage, spot_of}
 use Rattle.ftl_order.proofs.Instances.{place_is}
-use Rattle.ftl_order.proofs.Lists.{nothing_in, here_in, later_in, in_cases}
-
--- what is counted is there
-counted_in : (xs : List ℕ) (a : ℕ) → 0 < count_by (λ b. b == a) xs → Contains xs a
-counted_in [] a h = absurd (let z : ⊥ = omega (arith, h) in z)
-counted_in (x ∷ xs) a h =
-    elim (x == a) as (λ b. (x == a ≡ b) → 0 < cond b 1 0 + count_by (λ b. b == a) xs → Contains (x ∷ xs) a) [
-      | true ↦ λ e h. subst (Contains (x ∷ xs)) (eqb-true x a e) (here_in x xs)
-      | false ↦ λ e h. later_in x a xs (counted_in xs a (omega (arith, h)))
-    ]
-    refl
-    (let z = sum_by-cons (λ b. cond (b == a) 1 0) x xs in subst (λ n. 0 < n) z h)
-
-listed : (xs : List ℕ) (a : ℕ) → Contains xs a → is_listed xs a ≡ true
-listed [] a h = absurd (nothing_in a h)
-listed (x ∷ xs) a h =
-    elim (a == x) as (λ b. (a == x ≡ b) → (if b then true else is_listed xs a) ≡ true) [
-      | true ↦ λ e. refl
-      | false ↦ λ e.
-          ⊎_elim (λ same. absurd (let f = eq-eqb a x (sym same) in let z : ⊥ = grind arith in z))
-          (λ later. listed xs a later)
-          (in_cases x a xs h)
-    ]
-    refl
-
-is_there : (xs : List ℕ) (a : ℕ) → is_listed xs a ≡ true → Contains xs a
-is_there [] a h = absurd (let z : ⊥ = grind arith in z)
-is_there (x ∷ xs) a h =
-    elim (a == x) as (λ b. (a == x ≡ b) → (if b then true else is_listed xs a) ≡ true → Contains (x ∷ xs) a) [
-      | true ↦ λ e h. subst (λ z. Contains (x ∷ xs) z) (sym (eqb-true a x e)) (here_in x xs)
-      | false ↦ λ e h. later_in x a xs (is_there xs a h)
-    ]
-    refl h
+use Rattle.ftl_lists.proofs.Elements.{nothing_in, here_in, later_in, in_cases}
 
 in_stage : (passes : List Pass) (a : ℕ) → Contains (flat_map (λ (pass : Pass). pass.attributes) passes) a
     → has_entry passes a ≡ true
@@ -82,7 +50,7 @@ in_its_list (passes ∷ stages) a h =
     refl
 
 -- two computed attributes of one pass and one place are one
-pub own_keys : {V : Type 0} (g : AttributeGrammar V) (s : Schedule) → EachStandsOnce g s → (a b : ℕ) → IsAttribute g a
+pub own_keys : (g : AttributeGrammar) (s : Schedule) → EachStandsOnce g s → (a b : ℕ) → IsAttribute g a
     → IsAttribute g b
     → g.sort a ≢ input → g.sort b ≢ input → IsOnePass (spot_of s a) (spot_of s b)
     → (spot_of s a).index ≡ (spot_of s b).index → a ≡ b

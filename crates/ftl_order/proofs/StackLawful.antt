@@ -9,10 +9,6 @@ use Rattle.ftl_model.specs.Solves.{attributes_of}
 use Rattle.ftl_model.specs.Stack.{stack, page, box_x, box_w, sheet_h, body_origin, column_w, column_h, kids_x, kids_y, word_w, word_h}
 use Rattle.ftl_order.specs.Lawful.{IsLawful, MayReadForSelf, MayReadForChild, IsAlone, AreDistinct}
 
--- what holds of each entry of a list holds of what it contains
-pub each_in : {X : Type 0} (P : X → Type 0) (xs : List X) → AllByRecursion P xs → (x : X) → Contains xs x → P x
-each_in P xs h x in_it = All-contains P xs x (All-from_recursion P xs h) in_it
-
 -- each read of a rule for the node itself
 pub self_rules_have : (P : ℕ → Read → Type 0) → P 0 (single_read 0 4) → P 1 (each_read 0 3) → P 1 (each_read 0 4)
     → P 2 (self_read 5) → P 2 (self_read 6) → (k a : ℕ) → k < 3 → (r : Read)
@@ -73,15 +69,6 @@ stack_child_reads (suc zero) zero a known declared place r in_it =
 stack_child_reads (suc zero) (suc c) a known declared place r in_it = absurd (let z : ⊥ = omega (arith, declared) in z)
 stack_child_reads (suc (suc zero)) c a known declared place r in_it = absurd (let z : ⊥ = omega (arith, declared) in z)
 stack_child_reads (suc (suc (suc k))) c a known declared place r in_it = absurd (let z : ⊥ = omega (arith, known) in z)
-
--- two folds whose steps agree at each kid
-pub fold_kids_same : {V : Type 0} (n : ℕ) (f h : V → ℕ → V) (start : V)
-    → ((k : ℕ) → k < n → (acc : V) → f acc k ≡ h acc k)
-    → fold_kids n f start ≡ fold_kids n h start
-fold_kids_same zero f h start same = refl
-fold_kids_same (suc n) f h start same =
-    same n (omega arith) (fold_kids n f start)
-    ∙ ap (λ acc. h acc n) (fold_kids_same n f h start (λ k below acc. same k (omega arith) acc))
 
 first_in : {X : Type 0} (x : X) (xs : List X) → Contains (x ∷ xs) x
 first_in x xs = (0, let z : 0 < suc 0 = omega arith in (omega arith), refl)
@@ -161,10 +148,6 @@ stack_private_sorts (suc zero) a known = each_in (λ x. (stack.sort x ≡ input)
 stack_private_sorts (suc (suc zero)) a known =
     each_in (λ x. (stack.sort x ≡ input) ⊎ (stack.sort x ≡ local)) (5 ∷ (6 ∷ [])) (inl refl, (inl refl, tt)) a
 stack_private_sorts (suc (suc (suc k))) a known = absurd (let z : ⊥ = omega (arith, known) in z)
-
--- a number that differs from each entry is not among them
-pub not_among : (n : ℕ) (ns : List ℕ) → AllByRecursion (λ x. x ≢ n) ns → Contains ns n → ⊥
-not_among n ns h in_it = each_in (λ x. x ≢ n) ns h n in_it refl
 
 stack_distinct : (k : ℕ) → k < 3 → AreDistinct (attributes_of stack k)
 stack_distinct zero known = (not_among 0 [] tt, tt)

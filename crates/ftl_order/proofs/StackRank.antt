@@ -150,5 +150,5 @@ module _ (t : Forest) (fits : IsTreeOf stack t) where
   pub one_stack_table : ExactlyOneTable stack t
   one_stack_table = one_table_by stack stack_lawful t fits (stack_rank t) stack_falls overflow
 
-  pub one_stack_list : ExactlyOneList stack t overflow
+  pub one_stack_list : ExactlyOneList stack t
   one_stack_list = one_list_by stack stack_lawful t fits overflow one_stack_table

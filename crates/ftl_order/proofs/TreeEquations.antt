@@ -15,7 +15,7 @@ use Rattle.ftl_order.proofs.Kids.{kid_exists, kid_counted, class_known, root_int
 use Rattle.ftl_order.proofs.EquationSystem.{System, solutions_agree, solution, solution_solves}
 
 -- an inherited attribute of a class is one of its interface
-pub inherited_is_shared : {V : Type 0} (g : AttributeGrammar V) → IsLawful g → (k a : ℕ) → k < g.class_count
+pub inherited_is_shared : (g : AttributeGrammar) → IsLawful g → (k a : ℕ) → k < g.class_count
     → OfClass g k a
     → g.sort a ≡ inherited → Contains (g.shared (g.interface k)) a
 inherited_is_shared g law k a known of e =
@@ -23,7 +23,7 @@ inherited_is_shared g law k a known of e =
     (λ h. absurd (⊎_elim (λ f. let z : ⊥ = cc in z) (λ f. let z : ⊥ = cc in z) (law.private_sorts k a known h)))
     (Contains-append_cases (g.shared (g.interface k)) (g.private k) a of)
 
-module _ {V : Type 0} (g : AttributeGrammar V) (law : IsLawful g) (t : Forest) (fits : IsTreeOf g t) where
+module _ (g : AttributeGrammar) (law : IsLawful g) (t : Forest) (fits : IsTreeOf g t) where
   -- the root has no inherited attribute
   pub root_inherits_nothing : (a : ℕ) → Has t top → OfClass g (class_at t top) a → g.sort a ≡ inherited → ⊥
   root_inherits_nothing a h of e =
@@ -114,7 +114,7 @@ module _ {V : Type 0} (g : AttributeGrammar V) (law : IsLawful g) (t : Forest) (
   inside_by synthesized p a e h of j reads = own_inside p a h of (inl e) j reads
   inside_by local p a e h of j reads = own_inside p a h of (inr e) j reads
 
-  own_alone : (r s : Instance → V) (p : Path) (a : ℕ) → Has t p → OfClass g (class_at t p) a → IsOwnSort (g.sort a)
+  own_alone : (r s : Instance → Value) (p : Path) (a : ℕ) → Has t p → OfClass g (class_at t p) a → IsOwnSort (g.sort a)
       → ((j : Instance) → RuleReads t (g.self_rule (class_at t p) a) p 0 j → r j ≡ s j)
       → (g.self_rule (class_at t p) a).value (kids_at t p) 0 (λ o. r (seen_from p o))
       ≡ (g.self_rule (class_at t p) a).value (kids_at t p) 0 (λ o. s (seen_from p o))
@@ -123,7 +123,7 @@ module _ {V : Type 0} (g : AttributeGrammar V) (law : IsLawful g) (t : Forest) (
       (λ o. s (seen_from p o))
       (λ read in_it o sees. same (seen_from p o) (read, o, in_it, sees, refl))
 
-  pub alone_by : (r s : Instance → V) (sort : Sort) (p : Path) (a : ℕ) → g.sort a ≡ sort → Has t p
+  pub alone_by : (r s : Instance → Value) (sort : Sort) (p : Path) (a : ℕ) → g.sort a ≡ sort → Has t p
       → OfClass g (class_at t p) a
       → ((j : Instance) → EquationReads g t sort p a j → r j ≡ s j)
       → equation_value g t r sort p a ≡ equation_value g t s sort p a

@@ -14,7 +14,7 @@ use Rattle.ftl_order.specs.LegalOrder.{IsStep, MustPrecede, IsLegalOrder}
 use Rattle.ftl_order.specs.WorkedSchedules.{sizes_then_places, places_beside}
 use Rattle.ftl_order.specs.WorkedSteps.{the_sheet, the_column, x_first, y_first, sheet_first, without_y, two_words_order}
 use Rattle.ftl_order.proofs.Instances.{is_listed_instance}
-use Rattle.ftl_order.proofs.Rising.{Rising, rising_at, map_has}
+use Rattle.ftl_lists.proofs.Rising.{Rising, rising_at, map_has}
 use Rattle.ftl_order.proofs.StackLawful.{each_in, not_among}
 
 distinct_by_map : {X : Type 0} (f : X → ℕ) (xs : List X) → AreDistinct (map f xs) → AreDistinct xs

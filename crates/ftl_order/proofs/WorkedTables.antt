@@ -8,7 +8,7 @@ use Rattle.ftl_model.specs.Table.{instances}
 use Rattle.ftl_order.proofs.Instances.{is_listed_instance}
 use Rattle.ftl_order.proofs.StackLawful.{each_in}
 
-pub solves_by_each : {V : Type 0} (g : AttributeGrammar V) (t : Forest) (s : Instance → V)
+pub solves_by_each : (g : AttributeGrammar) (t : Forest) (s : Instance → Value)
     → AllByRecursion (λ i. s i ≡ equation_value g t s (g.sort i.attribute) i.node i.attribute) (instances g t)
     → Solves g t s
 solves_by_each g t s h i valid =

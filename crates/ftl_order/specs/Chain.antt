@@ -16,23 +16,23 @@ abbrev pub chain_a_value : ℕ → (Occurrence → Value) → Value
 chain_a_value zero s = number (pos 1)
 chain_a_value (suc before) s = s (kid 0 before 1)
 
-abbrev pub chain_a : Rule Value
+abbrev pub chain_a : Rule
 chain_a = record { first = []; later = prev_read 0 1 ∷ []; value = λ kids place s. chain_a_value place s }
 
 abbrev pub chain_b_value : ℕ → (Occurrence → Value) → Value
 chain_b_value zero s = number (pos 2)
 chain_b_value (suc before) s = sum_of (s (kid 0 before 0)) (s (kid 0 before 1))
 
-abbrev pub chain_b : Rule Value
+abbrev pub chain_b : Rule
 chain_b =
     record { first = []; later = prev_read 0 0 ∷ (prev_read 0 1 ∷ []); value = λ kids place s. chain_b_value place s }
 
 -- no class has a rule for itself
-abbrev pub no_rule : Rule Value
+abbrev pub no_rule : Rule
 no_rule = record { first = []; later = []; value = λ kids place s. overflow }
 
 -- interfaces R 0 and K 1; classes C 0 and L 1; attributes a 0 and b 1
-abbrev pub chain : AttributeGrammar Value
+abbrev pub chain : AttributeGrammar
 chain =
     record {
       root = 0;

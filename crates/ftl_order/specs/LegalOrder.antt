@@ -10,7 +10,7 @@ use Rattle.ftl_order.specs.Schedule.{PassKind, topdown, bottomup, inorder, Placi
 use Rattle.ftl_order.specs.Ordered.{VisitPlace, block_of, KeyBelow, IsSameRule}
 
 -- a step is one computed instance
-abbrev pub IsStep : {V : Type 0} → AttributeGrammar V → Forest → Instance → Type 0
+abbrev pub IsStep : AttributeGrammar → Forest → Instance → Type 0
 IsStep g t i = IsInstance g t i × (g.sort i.attribute ≢ input)
 
 -- when a step runs: in the visit of which node, by which rule of that visit, and for which kid
@@ -35,7 +35,7 @@ turn_by sort p a =
       kid = rule_kid sort p;
     }
 
-abbrev pub turn_of : {V : Type 0} → AttributeGrammar V → Instance → Turn
+abbrev pub turn_of : AttributeGrammar → Instance → Turn
 turn_of g i = turn_by (g.sort i.attribute) i.node i.attribute
 
 -- in one visit: the smaller key, or the same rule for an earlier kid
@@ -73,7 +73,7 @@ TurnPrecedes at x y =
     ⊎ (IsOnePass (at x.rule.attribute) (at y.rule.attribute) × FirstInPass (at y.rule.attribute).kind at x y)
 
 -- step i must come before step j
-abbrev pub MustPrecede : {V : Type 0} → AttributeGrammar V → Placing → Instance → Instance → Type 0
+abbrev pub MustPrecede : AttributeGrammar → Placing → Instance → Instance → Type 0
 MustPrecede g at i j = TurnPrecedes at (turn_of g i) (turn_of g j)
 
 -- the same with the nearest visits alone: the parent's (topdown) or a kid's (bottomup)
@@ -87,11 +87,11 @@ TurnNear at x y =
     ((at x.rule.attribute).stage < (at y.rule.attribute).stage)
     ⊎ (IsOnePass (at x.rule.attribute) (at y.rule.attribute) × NearInPass (at y.rule.attribute).kind at x y)
 
-abbrev pub IsNearBefore : {V : Type 0} → AttributeGrammar V → Placing → Instance → Instance → Type 0
+abbrev pub IsNearBefore : AttributeGrammar → Placing → Instance → Instance → Type 0
 IsNearBefore g at i j = TurnNear at (turn_of g i) (turn_of g j)
 
 -- all steps, each once, and none before one that must precede it
-pub record IsLegalOrder {V : Type 0} (g : AttributeGrammar V) (at : Placing) (t : Forest)
+pub record IsLegalOrder (g : AttributeGrammar) (at : Placing) (t : Forest)
     (order : List Instance) : Type 0 where
   pub steps : (i : Instance) → Contains order i → IsStep g t i
   pub all : (i : Instance) → IsStep g t i → Contains order i
@@ -106,15 +106,15 @@ StandsBefore order i j =
     (m : ℕ) × (n : ℕ) × (m < n) × (n < length order) × HoldsAt (λ x. x ≡ i) order m × HoldsAt (λ x. x ≡ j) order n
 
 -- the values after the steps of an order have been computed one after the other
-abbrev pub run : {V : Type 0} → AttributeGrammar V → Forest → V → List Instance → List V → List V
-run g t missing [] values = values
-run g t missing (i ∷ order) values =
-    run g t missing order
+abbrev pub run : AttributeGrammar → Forest → V → List Instance → List Value → List V
+run g t [] values = values
+run g t (i ∷ order) values =
+    run g t order
     (slice_set values (instance_number g t i)
-    (equation_value g t (value_in g t missing values) (g.sort i.attribute) i.node i.attribute))
+    (equation_value g t (value_in g t values) (g.sort i.attribute) i.node i.attribute))
 
 -- the values have each input's number from the document
-abbrev pub HoldsInputs : {V : Type 0} → AttributeGrammar V → Forest → V → List V → Type 0
-HoldsInputs g t missing values =
+abbrev pub HoldsInputs : AttributeGrammar → Forest → V → List Value → Type 0
+HoldsInputs g t values =
     (i : Instance) → IsInstance g t i → g.sort i.attribute ≡ input
-    → value_in g t missing values i ≡ g.given (class_at t i.node) i.attribute (inputs_at t i.node)
+    → value_in g t values i ≡ g.given (class_at t i.node) i.attribute (inputs_at t i.node)

@@ -37,13 +37,13 @@ SubtreesAreRanges = (t : Forest) (p q : Path) → Has t p → Has t q → Above 
 -- an instance has a number below the count of instances, and stands at it
 abbrev pub InstancesHaveNumbers : Type 0
 InstancesHaveNumbers =
-    (g : AttributeGrammar Value) (t : Forest) (i d : Instance) → IsInstance g t i
+    (g : AttributeGrammar) (t : Forest) (i d : Instance) → IsInstance g t i
     → (instance_number g t i < instance_count g t) × (slice_index_or (instances g t) (instance_number g t i) d ≡ i)
 
 -- each number below the count is the number of the instance there
 abbrev pub NumbersHaveInstances : Type 0
 NumbersHaveInstances =
-    (g : AttributeGrammar Value) (t : Forest) (n : ℕ) (d : Instance) → IsLawful g → IsTreeOf g t
+    (g : AttributeGrammar) (t : Forest) (n : ℕ) (d : Instance) → IsLawful g → IsTreeOf g t
     → n < instance_count g t
     → IsInstance g t (slice_index_or (instances g t) n d)
     × (instance_number g t (slice_index_or (instances g t) n d) ≡ n)

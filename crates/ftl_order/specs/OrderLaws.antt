@@ -16,45 +16,45 @@ use Rattle.ftl_order.specs.Sequence.{sequence}
 use Rattle.ftl_order.specs.OneTable.{ExactlyOneTable, ExactlyOneList}
 
 -- of each tree of a lawful grammar, under each schedule that is ordered for it
-abbrev pub UnderOrderedSchedules : (AttributeGrammar Value → Schedule → Forest → Type 0) → Type 0
+abbrev pub UnderOrderedSchedules : (AttributeGrammar → Schedule → Forest → Type 0) → Type 0
 UnderOrderedSchedules P =
-    (g : AttributeGrammar Value) (s : Schedule) (t : Forest) → IsLawful g → IsOrdered g s → IsTreeOf g t → P g s t
+    (g : AttributeGrammar) (s : Schedule) (t : Forest) → IsLawful g → IsOrdered g s → IsTreeOf g t → P g s t
 
 -- what a step reads, unless it is an input, stands in an earlier stage, or in the same pass: in the same visit by key,
 -- at the parent (topdown), at a kid (bottomup), or earlier in the sequence (inorder)
-abbrev pub WritersStandNear : AttributeGrammar Value → Schedule → Forest → Type 0
+abbrev pub WritersStandNear : AttributeGrammar → Schedule → Forest → Type 0
 WritersStandNear g s t =
     (i j : Instance) → IsStep g t i → Reads g t i j → g.sort j.attribute ≢ input → IsNearBefore g (spot_of s) j i
 
 -- and it must precede the step
-abbrev pub WritersPrecede : AttributeGrammar Value → Schedule → Forest → Type 0
+abbrev pub WritersPrecede : AttributeGrammar → Schedule → Forest → Type 0
 WritersPrecede g s t =
     (i j : Instance) → IsStep g t i → Reads g t i j → g.sort j.attribute ≢ input → MustPrecede g (spot_of s) j i
 
 -- in every legal order the writer of each read stands before the reader
-abbrev pub WritersStandBefore : AttributeGrammar Value → Schedule → Forest → Type 0
+abbrev pub WritersStandBefore : AttributeGrammar → Schedule → Forest → Type 0
 WritersStandBefore g s t =
     (order : List Instance) → IsLegalOrder g (spot_of s) t order
     → (i j : Instance) → IsStep g t i → Reads g t i j → g.sort j.attribute ≢ input → StandsBefore order j i
 
-abbrev pub LegalOrderExists : AttributeGrammar Value → Schedule → Forest → Type 0
+abbrev pub LegalOrderExists : AttributeGrammar → Schedule → Forest → Type 0
 LegalOrderExists g s t = (order : List Instance) × IsLegalOrder g (spot_of s) t order
 
-abbrev pub OneTableSolves : AttributeGrammar Value → Schedule → Forest → Type 0
+abbrev pub OneTableSolves : AttributeGrammar → Schedule → Forest → Type 0
 OneTableSolves g s t = ExactlyOneTable g t
 
-abbrev pub OneListSolves : AttributeGrammar Value → Schedule → Forest → Type 0
-OneListSolves g s t = ExactlyOneList g t overflow
+abbrev pub OneListSolves : AttributeGrammar → Schedule → Forest → Type 0
+OneListSolves g s t = ExactlyOneList g t
 
 -- from values that are right at the inputs
-abbrev pub RunsEndInTheTable : AttributeGrammar Value → Schedule → Forest → Type 0
+abbrev pub RunsEndInTheTable : AttributeGrammar → Schedule → Forest → Type 0
 RunsEndInTheTable g s t =
     (order : List Instance) → IsLegalOrder g (spot_of s) t order
-    → (values : List Value) → length values ≡ instance_count g t → HoldsInputs g t overflow values
-    → SolvesList g t overflow (run g t overflow order values)
+    → (values : List Value) → length values ≡ instance_count g t → HoldsInputs g t values
+    → SolvesList g t (run g t order values)
 
 -- of two steps of an inorder pass one must precede the other exactly where it stands before it in the pass's sequence
-abbrev pub InorderStepsStandInSequence : AttributeGrammar Value → Schedule → Forest → Type 0
+abbrev pub InorderStepsStandInSequence : AttributeGrammar → Schedule → Forest → Type 0
 InorderStepsStandInSequence g s t =
     (i j : Instance) → IsStep g t i → IsStep g t j
     → IsOnePass (spot_of s i.attribute) (spot_of s j.attribute) → (spot_of s j.attribute).kind ≡ inorder

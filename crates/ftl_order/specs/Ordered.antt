@@ -17,7 +17,7 @@ pub record VisitPlace : Type 0 where
   pub block : ℕ
   pub child : ℕ
 
-abbrev pub place_of : {V : Type 0} → AttributeGrammar V → RuleName → VisitPlace
+abbrev pub place_of : AttributeGrammar → RuleName → VisitPlace
 place_of g (for_self class a) = record { attribute = a; block = block_of (g.sort a); child = 0 }
 place_of g (for_child class c a) = record { attribute = a; block = 1; child = c }
 
@@ -70,13 +70,13 @@ IsOrderedRead at place r x y =
     ((at x.attribute).stage < (at y.attribute).stage)
     ⊎ (IsOnePass (at x.attribute) (at y.attribute) × Row place (at y.attribute).kind at r x y)
 
-abbrev pub IsOrderedPair : {V : Type 0} → AttributeGrammar V → Placing → Pair → Type 0
+abbrev pub IsOrderedPair : AttributeGrammar → Placing → Pair → Type 0
 IsOrderedPair g at pair = IsOrderedRead at pair.place pair.read (place_of g pair.writer) (place_of g pair.reader)
 
-abbrev pub EachPairOrdered : {V : Type 0} → AttributeGrammar V → Placing → Type 0
+abbrev pub EachPairOrdered : AttributeGrammar → Placing → Type 0
 EachPairOrdered g at = (pair : Pair) → IsPair g pair → IsOrderedPair g at pair
 
 -- a schedule that is accepted
-pub record IsOrdered {V : Type 0} (g : AttributeGrammar V) (s : Schedule) : Type 0 where
+pub record IsOrdered (g : AttributeGrammar) (s : Schedule) : Type 0 where
   pub once : EachStandsOnce g s
   pub pairs : EachPairOrdered g (spot_of s)

@@ -13,7 +13,7 @@ class_of_rule (for_self class a) = class
 class_of_rule (for_child class c a) = class
 
 -- the grammar has this rule, and one of its parts has this read
-abbrev pub IsReader : {V : Type 0} → AttributeGrammar V → RuleName → Read → Type 0
+abbrev pub IsReader : AttributeGrammar → RuleName → Read → Type 0
 IsReader g (for_self class b) r =
     (class < g.class_count) × OfClass g class b × IsOwnSort (g.sort b) × Contains (g.self_rule class b).first r
 IsReader g (for_child class c b) r =
@@ -28,7 +28,7 @@ pub data Where : Type 0 where
 
 -- what writes attribute `a` of the node itself, by its kind: an inherited one the rules of all classes with a child of
 -- the node's interface, an input none
-abbrev pub WritesOwn : {V : Type 0} → AttributeGrammar V → Sort → (class a : ℕ) → Where → RuleName → Type 0
+abbrev pub WritesOwn : AttributeGrammar → Sort → (class a : ℕ) → Where → RuleName → Type 0
 WritesOwn g input class a place w = ⊥
 WritesOwn g inherited class a place w =
     (above : ℕ) × (c : ℕ) × (above < g.class_count) × (c < g.child_count above)
@@ -37,7 +37,7 @@ WritesOwn g synthesized class a place w = (place ≡ same_class) × (w ≡ for_s
 WritesOwn g local class a place w = (place ≡ same_class) × (w ≡ for_self class a)
 
 -- what writes attribute `a` of a kid in child `c`: a synthesized one the rules of all classes of the child's interface
-abbrev pub WritesKid : {V : Type 0} → AttributeGrammar V → Sort → (class c a : ℕ) → Where → RuleName → Type 0
+abbrev pub WritesKid : AttributeGrammar → Sort → (class c a : ℕ) → Where → RuleName → Type 0
 WritesKid g input class c a place w = ⊥
 WritesKid g inherited class c a place w = (place ≡ same_class) × (w ≡ for_child class c a)
 WritesKid g synthesized class c a place w =
@@ -46,7 +46,7 @@ WritesKid g synthesized class c a place w =
 WritesKid g local class c a place w = ⊥
 
 -- rule `w` writes what a rule of this class reads
-abbrev pub Writes : {V : Type 0} → AttributeGrammar V → (class : ℕ) → Read → Where → RuleName → Type 0
+abbrev pub Writes : AttributeGrammar → (class : ℕ) → Read → Where → RuleName → Type 0
 Writes g class (self_read a) place w = WritesOwn g (g.sort a) class a place w
 Writes g class (single_read c a) place w = WritesKid g (g.sort a) class c a place w
 Writes g class (each_read c a) place w = WritesKid g (g.sort a) class c a place w
@@ -60,7 +60,7 @@ pub record Pair : Type 0 where
   pub writer : RuleName
   pub place : Where
 
-abbrev pub IsPair : {V : Type 0} → AttributeGrammar V → Pair → Type 0
+abbrev pub IsPair : AttributeGrammar → Pair → Type 0
 IsPair g pair = IsReader g pair.reader pair.read × Writes g (class_of_rule pair.reader) pair.read pair.place pair.writer
 
 abbrev pub is_by_prev : Read → Bool

@@ -6,13 +6,13 @@ use Rattle.ftl_model.specs.AttributeGrammar.{AttributeGrammar, Rule, Read, Occur
 use Rattle.ftl_model.specs.Solves.{Instance, IsInstance, seen_from, rule_node, rule_kid, rule_of}
 
 -- a rule that runs at node `p` for the kid at `place` reads this instance
-abbrev pub RuleReads : {V : Type 0} → Forest → Rule V → Path → ℕ → Instance → Type 0
+abbrev pub RuleReads : Forest → Rule → Path → ℕ → Instance → Type 0
 RuleReads t rule p place j =
     (r : Read) × (o : Occurrence) × Contains (reads_for rule place) r × Sees (kids_at t p) place r o
     × (j ≡ seen_from p o)
 
 -- the equation of attribute `a` at node `p` reads this instance; that of an input reads nothing
-abbrev pub EquationReads : {V : Type 0} → AttributeGrammar V → Forest → Sort → Path → ℕ → Instance → Type 0
+abbrev pub EquationReads : AttributeGrammar → Forest → Sort → Path → ℕ → Instance → Type 0
 EquationReads g t input p a j = ⊥
 EquationReads g t inherited p a j = RuleReads t (rule_of g t inherited p a) (rule_node inherited p)
     (rule_kid inherited p) j
@@ -20,9 +20,9 @@ EquationReads g t synthesized p a j = RuleReads t (rule_of g t synthesized p a) 
 EquationReads g t local p a j = RuleReads t (rule_of g t local p a) p 0 j
 
 -- the equation of i reads j
-abbrev pub Reads : {V : Type 0} → AttributeGrammar V → Forest → Instance → Instance → Type 0
+abbrev pub Reads : AttributeGrammar → Forest → Instance → Instance → Type 0
 Reads g t i j = EquationReads g t (g.sort i.attribute) i.node i.attribute j
 
 -- the number is smaller at what is read
-abbrev pub FallsAlongReads : {V : Type 0} → AttributeGrammar V → Forest → (Instance → ℕ) → Type 0
+abbrev pub FallsAlongReads : AttributeGrammar → Forest → (Instance → ℕ) → Type 0
 FallsAlongReads g t rank = (i j : Instance) → IsInstance g t i → Reads g t i j → rank j < rank i

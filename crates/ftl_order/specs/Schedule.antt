@@ -21,12 +21,12 @@ abbrev pub entries : Schedule → List ℕ
 entries s = flat_map (λ (passes : List Pass). flat_map (λ (pass : Pass). pass.attributes) passes) s
 
 -- an attribute of some interface, or one that a class adds
-abbrev pub IsAttribute : {V : Type 0} → AttributeGrammar V → ℕ → Type 0
+abbrev pub IsAttribute : AttributeGrammar → ℕ → Type 0
 IsAttribute g a =
     ((i : ℕ) × Contains (g.shared i) a) ⊎ ((class : ℕ) × (class < g.class_count) × Contains (g.private class) a)
 
 -- each computed attribute stands in the lists exactly once
-abbrev pub EachStandsOnce : {V : Type 0} → AttributeGrammar V → Schedule → Type 0
+abbrev pub EachStandsOnce : AttributeGrammar → Schedule → Type 0
 EachStandsOnce g s =
     (a : ℕ) → IsAttribute g a → g.sort a ≢ input → count_by (λ b. b == a) (entries s) ≡ 1
 

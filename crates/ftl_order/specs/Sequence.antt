@@ -29,16 +29,16 @@ abbrev pub is_in_pass : Placing → Spot → ℕ → Bool
 is_in_pass at x a = ((at a).stage == x.stage) && ((at a).pass == x.pass)
 
 -- the attributes of a class that are of this kind and stand in the pass, by key
-abbrev pub keyed : {V : Type 0} → AttributeGrammar V → Placing → Spot → Sort → (class : ℕ) → List ℕ
+abbrev pub keyed : AttributeGrammar → Placing → Spot → Sort → (class : ℕ) → List ℕ
 keyed g at x sort class =
     sorted_by (λ a. (at a).index)
     (filter (λ a. is_same_sort (g.sort a) sort && is_in_pass at x a) (attributes_of g class))
 
-abbrev pub steps_at : {V : Type 0} → AttributeGrammar V → Placing → Spot → Sort → (class : ℕ) → Path → List Instance
+abbrev pub steps_at : AttributeGrammar → Placing → Spot → Sort → (class : ℕ) → Path → List Instance
 steps_at g at x sort class p = map (instance_of p) (keyed g at x sort class)
 
 -- for trees side by side below a node, so many kids of each child having come
-abbrev pub sequence_below : {V : Type 0} → AttributeGrammar V → Placing → Spot → Path → (ℕ → ℕ) → Forest → List Instance
+abbrev pub sequence_below : AttributeGrammar → Placing → Spot → Path → (ℕ → ℕ) → Forest → List Instance
 sequence_below g at x p seen none = []
 sequence_below g at x p seen (tree class child inputs below beside) =
     steps_at g at x inherited class (down child (seen child) p)
@@ -48,7 +48,7 @@ sequence_below g at x p seen (tree class child inputs below beside) =
     ++ sequence_below g at x p (one_more child seen) beside)))
 
 -- the sequence of the pass of this spot
-abbrev pub sequence : {V : Type 0} → AttributeGrammar V → Placing → Spot → Forest → List Instance
+abbrev pub sequence : AttributeGrammar → Placing → Spot → Forest → List Instance
 sequence g at x t =
     steps_at g at x local (class_of t) top
     ++ (sequence_below g at x top (λ c. 0) (below_of t) ++ steps_at g at x synthesized (class_of t) top)

@@ -91,7 +91,7 @@ stack_pairs =
     ∷ []))))))))))))
 
 -- the stack grammar with kids.y := self.x
-abbrev pub slanted : AttributeGrammar Value
+abbrev pub slanted : AttributeGrammar
 slanted = record stack { child_rule = λ class child a. if class == sheet then body_origin else kids_x }
 
 -- Column kids.y reads Sheet body.x
@@ -100,8 +100,8 @@ slanted_pair =
     pair_of (for_child column only_child box_y) parent_class (for_child sheet only_child box_x) (self_read box_x)
 
 -- a pair that the schedule orders, and one that it does not
-abbrev pub Orders : {V : Type 0} → AttributeGrammar V → Schedule → Pair → Type 0
+abbrev pub Orders : AttributeGrammar → Schedule → Pair → Type 0
 Orders g s pair = IsPair g pair × IsOrderedPair g (spot_of s) pair
 
-abbrev pub LeavesUnordered : {V : Type 0} → AttributeGrammar V → Schedule → Pair → Type 0
+abbrev pub LeavesUnordered : AttributeGrammar → Schedule → Pair → Type 0
 LeavesUnordered g s pair = IsPair g pair × (IsOrderedPair g (spot_of s) pair → ⊥)

@@ -58,7 +58,7 @@ pub fn a_chain_of_three()
     ensures tree { IsTreeOf chain three_kids }
     ensures sequence { sequence chain (spot_of chain_inorder) (spot_of chain_inorder 0) three_kids
         ≡ chain_order }
-    ensures values { run chain three_kids overflow chain_order
+    ensures values { run chain three_kids chain_order
         (numbers (0 ∷ (0 ∷ (0 ∷ (0 ∷ (0 ∷ (0 ∷ [])))))))
         ≡ three_kids_values }
 {}
@@ -82,7 +82,7 @@ pub fn steps_of_two_words()
     ensures in_order { AllByRecursion (MustBe sizes_then_places) in_order }
     ensures in_no_order { AllByRecursion (IsFree sizes_then_places) in_no_order }
     ensures legal { IsLegalOrder stack (spot_of sizes_then_places) two_words two_words_order }
-    ensures values { run stack two_words overflow two_words_order
+    ensures values { run stack two_words two_words_order
         two_words_inputs ≡ two_words_values }
 {}
 
@@ -97,6 +97,6 @@ pub fn legal_orders_of_an_empty_column()
 
 /// A law: the worked tables solve, so they are the only ones.
 pub fn worked_tables_solve()
-    ensures two_words { SolvesList stack two_words overflow two_words_values }
-    ensures three_kids { SolvesList chain three_kids overflow three_kids_values }
+    ensures two_words { SolvesList stack two_words two_words_values }
+    ensures three_kids { SolvesList chain three_kids three_kids_values }
 {}

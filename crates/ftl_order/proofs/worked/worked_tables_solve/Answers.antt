@@ -9,8 +9,8 @@ use Rattle.ftl_order.proofs.worked.worked_tables_solve.Goals as goal
 
 pub returns-clause-two_words : goal.returns-clause-two_words
 returns-clause-two_words c =
-    record { count = refl; solves = solves_by_each stack two_words (value_in stack two_words overflow two_words_values) (search rules) }
+    record { count = refl; solves = solves_by_each stack two_words (value_in stack two_words two_words_values) (search rules) }
 
 pub returns-clause-three_kids : goal.returns-clause-three_kids
 returns-clause-three_kids c =
-    record { count = refl; solves = solves_by_each chain three_kids (value_in chain three_kids overflow three_kids_values) (search rules) }
+    record { count = refl; solves = solves_by_each chain three_kids (value_in chain three_kids three_kids_values) (search rules) }

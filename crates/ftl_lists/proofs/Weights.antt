@@ -1,7 +1,7 @@
 -- Lists of numbers below a base, weighed so that an earlier list weighs less.
 use Rattle.std.proofs.Common.{◌≡◌, ℕ, zero, suc, ◌+◌, ◌*◌, ◌<◌, ◌≤◌, subst, ap, ⊎_elim, arith, List, [], ◌∷◌, length, get_or, Contains, mul-le-mul_right}
 use Rattle.std.specs.List.{AllByRecursion}
-use Rattle.ftl_order.specs.LegalOrder.{Before}
+use Rattle.ftl_lists.specs.Lists.{Before}
 
 abbrev pub power : ℕ → ℕ → ℕ
 power base zero = 1

@@ -3,9 +3,8 @@ use Rattle.std.proofs.Common.{◌≡◌, ℕ, zero, suc, ◌<◌, sym, subst, �
 use Rattle.std.proofs.lemmas.Bool.{cases_lt}
 use Rattle.std.proofs.lemmas.List.{get_or_default}
 use Rattle.std.proofs.lemmas.List.Elements.{Contains-append_cases}
-use Rattle.ftl_order.specs.Lawful.{AreDistinct}
-use Rattle.ftl_order.specs.LegalOrder.{Before}
-use Rattle.ftl_order.proofs.Lists.{nothing_in, here_in, later_in, in_cases, Rises}
+use Rattle.ftl_lists.specs.Lists.{AreDistinct, Before, NoneFalls}
+use Rattle.ftl_lists.proofs.Elements.{nothing_in, here_in, later_in, in_cases}
 
 -- each entry stands so to all behind it
 abbrev pub Rising : {X : Type 0} → (X → X → Type 0) → List X → Type 0
@@ -50,7 +49,7 @@ rising-map R h (x ∷ xs) r =
     ((λ y c. let m = in_map h xs y c in subst (R (h x)) m.is (r.0 m.from m.there)), rising-map R h xs r.1)
 
 -- numbers that do not fall rise, where those of two entries differ
-pub strictly : {X : Type 0} (f : X → ℕ) (xs : List X) → Rises f xs → AreDistinct xs
+pub strictly : {X : Type 0} (f : X → ℕ) (xs : List X) → NoneFalls f xs → AreDistinct xs
     → ((a b : X) → Contains xs a → Contains xs b → f a ≡ f b → a ≡ b) → Rising (λ a b. f a < f b) xs
 strictly f [] r d own = tt
 strictly f (x ∷ xs) r d own = (
