@@ -1,7 +1,8 @@
 -- Entries of lists, and lists without repetition.
-use Rattle.std.proofs.Common.{◌≡◌, ◌≢◌, ◌⊎◌, ℕ, zero, suc, ◌+◌, ◌<◌, Bool, true, false, cond, refl, sym, ◌∙◌, ap, subst, inl, inr, ⊎_elim, arith, List, [], ◌∷◌, length, get_or, filter, Contains}
-use Rattle.std.specs.List.{AllByRecursion}
-use Rattle.std.proofs.lemmas.List.Elements.{All-contains, All-from_recursion}
+use Rattle.std.proofs.Common.{◌≡◌, ◌≢◌, ◌⊎◌, ℕ, zero, suc, ◌+◌, ◌<◌, ◌≤◌, Bool, true, false, cond, refl, sym, ◌∙◌, ap, subst, inl, inr, ⊎_elim, arith, List, [], ◌∷◌, ◌++◌, length, get_or, filter, flat_map, Contains}
+use Rattle.std.specs.List.{AllByRecursion, range_with_len}
+use Rattle.std.proofs.lemmas.List.Elements.{All-contains, All-from_recursion, Contains-append_cases, Contains-append_left, Contains-append_right}
+use Rattle.std.proofs.lemmas.Bool.{cases_lt}
 use Rattle.ftl_lists.specs.Lists.{AreDistinct}
 
 pub nothing_in : {X : Type 0} (x : X) → Contains [] x → ⊥
@@ -69,7 +70,6 @@ distinct-filter p (x ∷ xs) h =
     elim (p x) as (λ b. AreDistinct (cond b (x ∷ filter p xs) (filter p xs)))
     [ true ↦ ((λ again. h.0 (in_filter p xs x again).0), distinct-filter p xs h.1) | false ↦ distinct-filter p xs h.1 ]
 
-
 -- what holds of each entry of a list holds of what it contains
 pub each_in : {X : Type 0} (P : X → Type 0) (xs : List X) → AllByRecursion P xs → (x : X) → Contains xs x → P x
 each_in P xs h x in_it = All-contains P xs x (All-from_recursion P xs h) in_it
@@ -78,3 +78,49 @@ each_in P xs h x in_it = All-contains P xs x (All-from_recursion P xs h) in_it
 pub not_among : (n : ℕ) (ns : List ℕ) → AllByRecursion (λ x. x ≢ n) ns → Contains ns n → ⊥
 not_among n ns h in_it = each_in (λ x. x ≢ n) ns h n in_it refl
 
+-- what a list of pieces has, one of the pieces has
+pub in_flat_map : {X Y : Type 0} (f : X → List Y) (xs : List X) (y : Y) → Contains (flat_map f xs) y
+    → (x : X) × Contains xs x × Contains (f x) y
+in_flat_map f [] y h = absurd (nothing_in y h)
+in_flat_map f (x ∷ xs) y h =
+    ⊎_elim (λ here. (x, here_in x xs, here))
+    (λ later. let i = in_flat_map f xs y later in (i.0, later_in x i.0 xs i.1, i.2))
+    (Contains-append_cases (f x) (flat_map f xs) y h)
+
+pub flat_map_has : {X Y : Type 0} (f : X → List Y) (xs : List X) (x : X) (y : Y) → Contains xs x → Contains (f x) y
+    → Contains (flat_map f xs) y
+flat_map_has f [] x y h there = absurd (nothing_in x h)
+flat_map_has f (z ∷ xs) x y h there =
+    ⊎_elim
+    (λ same. Contains-append_left (f z) (flat_map f xs) y (subst (λ w. Contains (f w) y) (sym same) there))
+    (λ later. Contains-append_right (f z) (flat_map f xs) y (flat_map_has f xs x y later there))
+    (in_cases z x xs h)
+
+-- numbers from one on, each below the end
+pub in_range_from : (a n m : ℕ) → Contains (range_with_len a n) m → (a ≤ m) × (m < a + n)
+in_range_from a zero m h = absurd (nothing_in m h)
+in_range_from a (suc n) m h =
+    ⊎_elim (λ same. ((let z : a ≤ m = omega (arith, same) in z), (let z : m < a + suc n = omega (arith, same) in z)))
+    (λ later.
+    let i = in_range_from (a + 1) n m later in
+    let low = i.0 in
+    let high = i.1 in
+    ((let z : a ≤ m = omega (arith, low) in z), (let z : m < a + suc n = omega (arith, high) in z)))
+    (in_cases a m (range_with_len (a + 1) n) h)
+
+pub range_has : (a n m : ℕ) → a ≤ m → m < a + n → Contains (range_with_len a n) m
+range_has a zero m low high = absurd (let z : ⊥ = omega (arith, low, high) in z)
+range_has a (suc n) m low high =
+    ⊎_elim (λ less. later_in a m (range_with_len (a + 1) n) (range_has (a + 1) n m (omega (arith, less)) (omega (arith, high))))
+    (λ least.
+    let same : a ≡ m = omega (arith, low, least) in
+    subst (Contains (a ∷ range_with_len (a + 1) n)) same (here_in a (range_with_len (a + 1) n)))
+    (cases_lt a m)
+
+pub distinct-append : {X : Type 0} (xs ys : List X) → AreDistinct xs → AreDistinct ys
+    → ((x : X) → Contains xs x → Contains ys x → ⊥) → AreDistinct (xs ++ ys)
+distinct-append [] ys dx dy apart = dy
+distinct-append (x ∷ xs) ys dx dy apart = (
+  (λ h. ⊎_elim dx.0 (λ there. apart x (here_in x xs) there) (Contains-append_cases xs ys x h)),
+  distinct-append xs ys dx.1 dy (λ z here there. apart z (later_in x z xs here) there),
+)

@@ -35,4 +35,3 @@ is_there (x ∷ xs) a h =
       | false ↦ λ e h. later_in x a xs (is_there xs a h)
     ]
     refl h
-

@@ -79,4 +79,3 @@ piece_within f d (x ∷ xs) zero j known within = omega (arith, within, length-a
 piece_within f d (x ∷ xs) (suc i) j known within =
     let later = piece_within f d xs i j (omega (arith, known)) within in
     omega (arith, later, length-append (f x) (flat_map f xs), length-append (f x) (flat_map f (take i xs)))
-

@@ -10,4 +10,3 @@ fold_kids_same zero f h start same = refl
 fold_kids_same (suc n) f h start same =
     same n (omega arith) (fold_kids n f start)
     ∙ ap (λ acc. h acc n) (fold_kids_same n f h start (λ k below acc. same k (omega arith) acc))
-

@@ -1,6 +1,6 @@
 -- Attribute grammars of trees of boxes (Knuth 1968), with the names gone: interfaces, classes, children and attributes
 -- are numbers, and a rule is its reads and its value, as a function of what it can see.
-use Rattle.std.specs.Prelude.{◌≡◌, ℕ, zero, suc, Bool, true, false, List, [], ◌∷◌, ◌++◌, filter, flat_map, length, ℤ, pos, slice_index_or}
+use Rattle.std.specs.Prelude.{ℕ, zero, suc, Bool, true, false, List, [], ◌∷◌, ◌++◌, filter, flat_map, ℤ, pos, slice_index_or}
 use Rattle.std.specs.List.{range_with_len}
 use Rattle.ftl_lists.specs.Lists.{place_in}
 use Rattle.ftl_model.specs.Values.{Value, number}

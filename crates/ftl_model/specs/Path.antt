@@ -71,3 +71,7 @@ node_at t n = slice_index_or (preorder t) n top
 abbrev pub Above : Path → Path → Type 0
 Above p top = ⊥
 Above p (down child kid above) = (p ≡ above) ⊎ Above p above
+
+-- p is q, or above it
+abbrev pub AtOrAbove : Path → Path → Type 0
+AtOrAbove p q = (p ≡ q) ⊎ Above p q

@@ -2,7 +2,7 @@
 use Rattle.std.specs.Prelude.{ℕ, zero, suc, ◌==◌, if◌then◌else◌, List, [], ◌∷◌, pos}
 use Rattle.ftl_model.specs.Values.{Value, number, narrow, sum_of, greatest_of}
 use Rattle.ftl_model.specs.Folds.{fold_kids}
-use Rattle.ftl_model.specs.AttributeGrammar.{AttributeGrammar, Rule, Read, self_read, single_read, each_read, prev_read, Parts, plain, first_then, fold_over, Occurrence, own, kid, RuleName, for_self, for_child, Sort, input, inherited, synthesized}
+use Rattle.ftl_model.specs.AttributeGrammar.{AttributeGrammar, Rule, Read, self_read, single_read, each_read, prev_read, plain, first_then, fold_over, Occurrence, own, kid, RuleName, for_self, for_child, Sort, input, inherited, synthesized}
 
 -- the interfaces
 abbrev pub page : ℕ

@@ -1,20 +1,34 @@
 -- Each instance of a tree stands in the list of instances at its number, and nothing else stands there.
-use Rattle.std.proofs.Common.{◌≡◌, ℕ, zero, suc, ◌+◌, ◌-◌, ◌<◌, ◌≤◌, ◌==◌, true, false, if◌then◌else◌, refl, sym, ◌∙◌, ap, subst, arith, List, [], ◌∷◌, length, get_or, take, map, sum_by, flat_map, Contains, ⊎_elim, eqb-true, eq-eqb, ne_eqb, length-append}
-use Rattle.std.proofs.lemmas.Bool.{cases_lt}
+use Rattle.std.proofs.Common.{◌≡◌, ℕ, suc, ◌+◌, ◌<◌, sym, ◌∙◌, ap, subst, arith, List, length, get_or, take, map, sum_by, flat_map, Contains}
 use Rattle.std.proofs.lemmas.List.{get_or-map, length-map}
 use Rattle.std.proofs.lemmas.List.Concat.{get_or-flat_map, length-flat_map}
 use Rattle.std.proofs.lemmas.List.Elements.{Contains-get_or}
 use mathlib.Core.Path.{fun_ext}
-use Rattle.ftl_model.specs.Tree.{Forest, size, below_of}
-use Rattle.ftl_model.specs.Path.{Path, top, Has, class_at, preorder, number_of, node_at}
-use Rattle.ftl_model.specs.AttributeGrammar.{AttributeGrammar}
+use Rattle.ftl_lists.specs.Lists.{AreDistinct, place_in}
+use Rattle.ftl_lists.proofs.Elements.{distinct-append}
+use Rattle.ftl_lists.proofs.Places.{piece_of, piece_within, place_is, place_of_entry, place_within}
+use Rattle.ftl_model.specs.AttributeGrammar.{AttributeGrammar, attributes_of}
+use Rattle.ftl_model.specs.Path.{Has, Path, class_at, node_at, number_of, preorder, top}
+use Rattle.ftl_model.specs.Solves.{Instance, IsInstance, instance_of}
+use Rattle.ftl_model.specs.Table.{instance_count, instance_number, instances, width_at}
+use Rattle.ftl_model.specs.Tree.{Forest, below_of, size}
 use Rattle.ftl_model.specs.TreeOf.{IsTreeOf}
-use Rattle.ftl_model.specs.Solves.{Instance, instance_of, attributes_of, IsInstance}
-use Rattle.ftl_model.specs.Table.{place_in, width_at, instances, instance_count, instance_number}
-use Rattle.ftl_model.proofs.Numbering.{length-preorder, number_of-node_at, has-node_at}
-use Rattle.ftl_model.proofs.Standing.{number_of-lt, node_at-number_of}
-use Rattle.ftl_order.specs.Lawful.{IsLawful, OfClass, AreDistinct}
+use Rattle.ftl_model.proofs.Numbering.{has-node_at, length-preorder, number_of-node_at}
+use Rattle.ftl_model.proofs.Standing.{node_at-number_of, number_of-lt}
+use Rattle.ftl_order.specs.Lawful.{IsLawful, OfClass, class_owner, interface_owner}
 use Rattle.ftl_order.proofs.Kids.{class_known, root_there}
+
+-- no class has an attribute twice
+pub class_distinct : (g : AttributeGrammar) → IsLawful g → (k : ℕ) → k < g.class_count
+    → AreDistinct (attributes_of g k)
+class_distinct g law k known =
+    let i = g.interface k in
+    let shared = law.interfaces_known k known in
+    distinct-append (g.shared i) (g.private k) (law.shared_once i shared) (law.private_once k known)
+    (λ a here there.
+    let same : interface_owner i ≡ class_owner k =
+    law.one_owner (interface_owner i) (class_owner k) a (shared, here) (known, there) in
+    let z : ⊥ = grind (arith, same) in z)
 
 module _ (g : AttributeGrammar) (t : Forest) where
   -- the instances of a node
@@ -91,7 +105,7 @@ module _ (g : AttributeGrammar) (t : Forest) where
             ap (λ m. sum_by (width_at g t) (take m (preorder t)) + place_in these (get_or these j 0))
             (number_of-node_at t i known)
             ∙ ap (λ m. sum_by (width_at g t) (take i (preorder t)) + m)
-            (place_of_entry these (law.distinct (class_at t p) (class_known g t fits p there)) j 0 within)
+            (place_of_entry these (class_distinct g law (class_at t p) (class_known g t fits p there)) j 0 within)
             ∙ ap (λ m. m + j) (sym (before_row (take i (preorder t))))
             ∙ piece.is;
       }

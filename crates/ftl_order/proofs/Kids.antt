@@ -1,10 +1,10 @@
 -- The kids of a node: a kid is there exactly where its number is below the count.
 use Rattle.std.proofs.Common.{◌≡◌, ℕ, zero, suc, ◌+◌, ◌<◌, ◌≤◌, ◌==◌, true, false, if◌then◌else◌, arith}
-use Rattle.ftl_model.specs.Tree.{Forest, none, tree, size, IsTree, class_of, below_of, count_in, from_kid}
-use Rattle.ftl_model.specs.Path.{Path, Has, class_at}
 use Rattle.ftl_model.specs.AttributeGrammar.{AttributeGrammar}
-use Rattle.ftl_model.proofs.Fits.{fits_at}
+use Rattle.ftl_model.specs.Path.{Has, Path, class_at}
+use Rattle.ftl_model.specs.Tree.{Forest, IsTree, below_of, class_of, count_in, from_kid, none, size, tree}
 use Rattle.ftl_model.specs.TreeOf.{IsTreeOf}
+use Rattle.ftl_model.proofs.Fits.{fits_at}
 
 pub kid_exists : (c k : ℕ) (f : Forest) → k < count_in c f → IsTree (from_kid c k f)
 kid_exists c k none h = absurd (let z : ⊥ = omega (arith, h) in z)

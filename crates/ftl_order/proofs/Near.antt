@@ -1,21 +1,23 @@
 -- Under an ordered schedule what a step reads is an input, or stands near before it.
-use Rattle.std.proofs.Common.{◌≡◌, ◌⊎◌, ℕ, zero, suc, ◌-◌, ◌<◌, ◌≤◌, true, false, IsTrue, refl, sym, subst, inl, inr, arith, Contains}
-use Rattle.ftl_model.specs.Tree.{Forest}
-use Rattle.ftl_model.specs.Path.{Path, top, down, Has, class_at, kids_at}
-use Rattle.ftl_model.specs.AttributeGrammar.{AttributeGrammar, Read, self_read, single_read, each_read, this_read, prev_read, last_read, Occurrence, Sees, reads_for, Sort, input, inherited, synthesized, local}
-use Rattle.ftl_model.specs.TreeOf.{IsTreeOf}
+use Rattle.std.proofs.Common.{◌≡◌, ◌⊎◌, ℕ, ◌-◌, ◌<◌, ◌≤◌, true, false, IsTrue, refl, sym, subst, inl, inr, arith, Contains}
+use Rattle.ftl_lists.proofs.Elements.{nothing_in}
+use Rattle.ftl_model.specs.AttributeGrammar.{AttributeGrammar, Occurrence, Read, RuleName, Sort, each_read, for_child, for_self, inherited, input, last_read, local, prev_read, self_read, single_read, synthesized, this_read}
+use Rattle.ftl_model.specs.Path.{Has, Path, class_at, down, kids_at, top}
 use Rattle.ftl_model.specs.Solves.{Instance, IsInstance, seen_from}
-use Rattle.ftl_model.proofs.Standing.{has_parent}
+use Rattle.ftl_model.specs.Tree.{Forest}
+use Rattle.ftl_model.specs.TreeOf.{IsTreeOf}
 use Rattle.ftl_model.proofs.Fits.{kid_stands}
-use Rattle.ftl_order.specs.Lawful.{IsLawful, OfClass, OfChild, IsOwnSort, MayReadForSelf, MayReadForChild}
-use Rattle.ftl_order.specs.Reads.{RuleReads, EquationReads, Reads}
+use Rattle.ftl_model.proofs.Standing.{has_parent}
+use Rattle.ftl_order.specs.Lawful.{IsLawful, IsOwnSort, MayReadLater, OfChild, OfClass}
+use Rattle.ftl_order.specs.LegalOrder.{IsNearBy, Turn, TurnNear, turn_by, turn_of}
+use Rattle.ftl_order.specs.Ordered.{ChildRow, EachPairOrdered, IsOrderedRead, VisitPlace, block_of, place_of}
+use Rattle.ftl_order.specs.Pairs.{Where, Writes, WritesKid, WritesOwn, child_class, child_read, is_by_prev, parent_class, same_class}
+use Rattle.ftl_order.specs.Reads.{Reads, equation_reads, rule_reads}
 use Rattle.ftl_order.specs.Schedule.{Placing}
-use Rattle.ftl_order.specs.Pairs.{RuleName, for_self, for_child, Where, same_class, parent_class, child_class, Writes, WritesOwn, WritesKid, is_by_prev, child_read}
-use Rattle.ftl_order.specs.Ordered.{block_of, VisitPlace, place_of, ChildRow, IsOrderedRead, EachPairOrdered}
-use Rattle.ftl_order.specs.LegalOrder.{Turn, turn_by, turn_of, TurnNear, IsNearBefore}
 use Rattle.ftl_order.proofs.Kids.{class_known}
-use Rattle.ftl_order.proofs.TreeEquations.{inherited_of_child, root_inherits_nothing, self_sees_instances, child_sees_instances}
-use Rattle.ftl_order.proofs.Rows.{turn, same_visit_near, parent_near, child_near, lift_row, own_block}
+use Rattle.ftl_order.proofs.Rows.{child_near, lift_row, own_block, parent_near, same_visit_near, turn}
+use Rattle.ftl_order.proofs.Seen.{MaySeeForSelf, Sees}
+use Rattle.ftl_order.proofs.TreeEquations.{child_seen_at, child_sees_instances, kid_rule, own_rule, root_inherits_nothing, self_seen_at, self_sees_instances}
 
 module _ (g : AttributeGrammar) (law : IsLawful g) (at : Placing) (t : Forest)
     (fits : IsTreeOf g t) where
@@ -24,13 +26,13 @@ module _ (g : AttributeGrammar) (law : IsLawful g) (at : Placing) (t : Forest)
 
   -- what writes for this read is ordered
   abbrev WritersOrdered : ℕ → Read → VisitPlace → Type 0
-  WritersOrdered class r y = (place : Where) (w : RuleName) → Writes g class r place w
-      → IsOrderedRead at place r (place_of g w) y
+  WritersOrdered class r y = (runs_at : Where) (w : RuleName) → Writes g class r runs_at w
+      → IsOrderedRead at runs_at r (place_of g w) y
 
   own_near : (sort : Sort) (p : Path) (a : ℕ) → g.sort a ≡ sort → Has t p → OfClass g (class_at t p) a
       → (y : VisitPlace) (ky : ℕ)
-      → ((place : Where) (w : RuleName) → WritesOwn g sort (class_at t p) a place w
-      → IsOrderedRead at place (self_read a) (place_of g w) y)
+      → ((runs_at : Where) (w : RuleName) → WritesOwn g sort (class_at t p) a runs_at w
+      → IsOrderedRead at runs_at (self_read a) (place_of g w) y)
       → (g.sort a ≡ input) ⊎ TurnNear at (turn_by sort p a) (turn p y ky)
   own_near input p a e h of y ky ordered = inl e
   own_near inherited top a e h of y ky ordered = absurd (root_inherits_nothing g law t fits a h of e)
@@ -61,8 +63,8 @@ module _ (g : AttributeGrammar) (law : IsLawful g) (at : Placing) (t : Forest)
   kid_near : (sort : Sort) (p : Path) (d n a : ℕ) → g.sort a ≡ sort → OfChild g (class_at t p) d a → Has t (down d n p)
       → (r : Read) → child_read r ≡ d → (y : VisitPlace) (ky : ℕ)
       → (IsTrue (is_by_prev r) → (d ≡ y.child) × (n < ky)) → (1 ≡ y.block → d ≡ y.child → n ≤ ky)
-      → ((place : Where) (w : RuleName) → WritesKid g sort (class_at t p) d a place w
-      → IsOrderedRead at place r (place_of g w) y)
+      → ((runs_at : Where) (w : RuleName) → WritesKid g sort (class_at t p) d a runs_at w
+      → IsOrderedRead at runs_at r (place_of g w) y)
       → (g.sort a ≡ input) ⊎ TurnNear at (turn_by sort (down d n p) a) (turn p y ky)
   kid_near input p d n a e of h r child y ky earlier no_later ordered = inl e
   kid_near inherited p d n a e of h r child y ky earlier no_later ordered =
@@ -83,13 +85,17 @@ module _ (g : AttributeGrammar) (law : IsLawful g) (at : Placing) (t : Forest)
       child_near (at y.attribute).kind at (is_by_prev r) p d n x y 0 ky
       (subst (λ m. ChildRow (at y.attribute).kind (is_by_prev r) m y) child row) earlier))
   kid_near local p d n a e of h r child y ky earlier no_later ordered = absurd
-      (law.shared_sorts (g.child_interface (class_at t p) d) a of e)
+      (law.shared_sorts (g.child_interface (class_at t p) d) a (
+        law.children_known (class_at t p) d (class_known g t fits p (has_parent t d n p h))
+            (kid_stands g t d n p fits h).declared,
+        of,
+      ) e)
 
   not_first : {X : Type 0} → IsTrue false → X
   not_first h = absurd (let z : ⊥ = grind arith in z)
 
   -- what a rule for the node itself sees
-  self_read_near : (p : Path) → Has t p → (r : Read) → MayReadForSelf g (class_at t p) r → (o : Occurrence)
+  self_read_near : (p : Path) → Has t p → (r : Read) → MaySeeForSelf g (class_at t p) r → (o : Occurrence)
       → Sees (kids_at t p) 0 r o → (y : VisitPlace) → (y.block ≡ 1 → ⊥) → WritersOrdered (class_at t p) r y
       → NearOrInput (seen_from p o) (turn p y 0)
   self_read_near p h (self_read a) may o sees y self ordered =
@@ -116,7 +122,7 @@ module _ (g : AttributeGrammar) (law : IsLawful g) (at : Placing) (t : Forest)
       (last_read c a) refl y 0 (λ no_prev. not_first no_prev) (λ block child. absurd (self (sym block))) ordered)
 
   -- what a rule for a kid sees
-  child_read_near : (p : Path) (c k b : ℕ) → Has t (down c k p) → (r : Read) → MayReadForChild g (class_at t p) c r
+  child_read_near : (p : Path) (c k b : ℕ) → Has t (down c k p) → (r : Read) → MayReadLater g (class_at t p) c r
       → (o : Occurrence)
       → Sees (kids_at t p) k r o → WritersOrdered (class_at t p) r (record { attribute = b; block = 1; child = c })
       → NearOrInput (seen_from p o) (turn p (record { attribute = b; block = 1; child = c }) k)
@@ -162,37 +168,40 @@ module _ (g : AttributeGrammar) (law : IsLawful g) (at : Placing) (t : Forest)
 
   module _ (pairs : EachPairOrdered g at) where
     own_rule_near : (p : Path) (b : ℕ) → Has t p → OfClass g (class_at t p) b → IsOwnSort (g.sort b) → (j : Instance)
-        → RuleReads t (g.self_rule (class_at t p) b) p 0 j
+        → Contains (rule_reads t (g.self_rule (class_at t p) b) p 0) j
         → NearOrInput j (turn p (record { attribute = b; block = block_of (g.sort b); child = 0 }) 0)
     own_rule_near p b h of sort j reads =
-        let known = class_known g t fits p h in
-        subst (λ x. NearOrInput x (turn p (record { attribute = b; block = block_of (g.sort b); child = 0 }) 0))
-        (sym reads.4)
-        (self_read_near p h reads.0 (law.self_reads (class_at t p) b known of sort reads.0 reads.2) reads.1 reads.3
+        let rule = own_rule g t fits p b h of sort in
+        let s = self_seen_at g law t fits p b rule j reads in
+        subst (λ x. NearOrInput x (turn p (record { attribute = b; block = block_of (g.sort b); child = 0 }) 0)) s.2
+        (self_read_near p h s.1.read s.1.may s.0 s.1.sees
         (record { attribute = b; block = block_of (g.sort b); child = 0 }) (own_block (g.sort b) sort)
-        (λ place w writes.
-        pairs (record { reader = for_self (class_at t p) b; read = reads.0; writer = w; place = place })
-        ((known, of, sort, reads.2), writes)))
-
-    in_some_part : (class c b place : ℕ) (r : Read) → Contains (reads_for (g.child_rule class c b) place) r
-        → Contains (g.child_rule class c b).first r ⊎ Contains (g.child_rule class c b).later r
-    in_some_part class c b zero r h = inl h
-    in_some_part class c b (suc place) r h = inr h
+        (λ runs_at w writes.
+        pairs (record {
+          reader = for_self (class_at t p) b;
+          part = s.1.part;
+          read = s.1.read;
+          writer = w;
+          runs_at = runs_at;
+        }) ((rule, s.1.in_part), writes)))
 
     near_by : (sort : Sort) (p : Path) (b : ℕ) → g.sort b ≡ sort → Has t p → OfClass g (class_at t p) b → (j : Instance)
-        → EquationReads g t sort p b j → NearOrInput j (turn_by sort p b)
-    near_by input p b e h of j reads = absurd reads
+        → Contains (equation_reads g t sort p b) j → NearOrInput j (turn_by sort p b)
+    near_by input p b e h of j reads = absurd (nothing_in j reads)
     near_by inherited top b e h of j reads = absurd (root_inherits_nothing g law t fits b h of e)
     near_by inherited (down c k p) b e h of j reads =
-        let known = class_known g t fits p (has_parent t c k p h) in
-        let declared = (kid_stands g t c k p fits h).declared in
-        let shared = inherited_of_child g law t fits b c k p h of e in
-        subst (λ x. NearOrInput x (turn p (record { attribute = b; block = 1; child = c }) k)) (sym reads.4)
-        (child_read_near p c k b h reads.0
-        (law.child_reads (class_at t p) c b known declared shared e k reads.0 reads.2) reads.1 reads.3
-        (λ place w writes.
-        pairs (record { reader = for_child (class_at t p) c b; read = reads.0; writer = w; place = place })
-        ((known, declared, shared, e, in_some_part (class_at t p) c b k reads.0 reads.2), writes)))
+        let rule = kid_rule g law t fits c k p b h of e in
+        let s = child_seen_at g law t fits c k p b rule j reads in
+        subst (λ x. NearOrInput x (turn p (record { attribute = b; block = 1; child = c }) k)) s.2
+        (child_read_near p c k b h s.1.read s.1.may s.0 s.1.sees
+        (λ runs_at w writes.
+        pairs (record {
+          reader = for_child (class_at t p) c b;
+          part = s.1.part;
+          read = s.1.read;
+          writer = w;
+          runs_at = runs_at;
+        }) ((rule, s.1.in_part), writes)))
     near_by synthesized p b e h of j reads =
         subst (λ s. NearOrInput j (turn p (record { attribute = b; block = block_of s; child = 0 }) 0)) e
         (own_rule_near p b h of (inl e) j reads)
@@ -202,5 +211,5 @@ module _ (g : AttributeGrammar) (law : IsLawful g) (at : Placing) (t : Forest)
 
     -- what a step reads is an input, or stands near before it
     pub reads_near : (i j : Instance) → IsInstance g t i → Reads g t i j
-        → (g.sort j.attribute ≡ input) ⊎ IsNearBefore g at j i
+        → (g.sort j.attribute ≡ input) ⊎ IsNearBy g at j i
     reads_near i j valid reads = near_by (g.sort i.attribute) i.node i.attribute refl valid.0 valid.1 j reads

@@ -1,20 +1,21 @@
 -- Where exactly one table solves, exactly one list of values does.
 use Rattle.std.proofs.Common.{◌≡◌, refl, sym, ◌∙◌, ap, arith, List, length, get_or, map, ext_get_or}
 use Rattle.std.proofs.lemmas.List.{get_or-map, length-map}
-use Rattle.ftl_model.specs.Tree.{Forest}
-use Rattle.ftl_model.specs.Path.{top}
 use Rattle.ftl_model.specs.AttributeGrammar.{AttributeGrammar}
+use Rattle.ftl_model.specs.Path.{top}
+use Rattle.ftl_model.specs.Solves.{Instance, IsInstance, Solves, instance_of}
+use Rattle.ftl_model.specs.Table.{SolvesList, instance_count, instance_number, instances, value_in}
+use Rattle.ftl_model.specs.Tree.{Forest}
 use Rattle.ftl_model.specs.TreeOf.{IsTreeOf}
-use Rattle.ftl_model.specs.Solves.{Instance, instance_of, IsInstance, Solves}
-use Rattle.ftl_model.specs.Table.{instances, instance_count, instance_number, value_in, SolvesList}
+use Rattle.ftl_model.specs.Values.{Value, overflow}
 use Rattle.ftl_order.specs.Lawful.{IsLawful}
-use Rattle.ftl_order.specs.OneTable.{ExactlyOneTable, ExactlyOneList}
+use Rattle.ftl_order.specs.OneTable.{ExactlyOneList, ExactlyOneTable}
+use Rattle.ftl_order.proofs.Instances.{instance_at_number, length-instances, number_within, numbered}
 use Rattle.ftl_order.proofs.TreeEquations.{alone_by, inside_by}
-use Rattle.ftl_order.proofs.Instances.{length-instances, instance_at_number, number_within, numbered}
 
 module _ (g : AttributeGrammar) (law : IsLawful g) (t : Forest) (fits : IsTreeOf g t) where
   -- the values of a table, instance by instance
-  abbrev pub listed : (Instance → Value) → List V
+  abbrev pub listed : (Instance → Value) → List Value
   listed s = map s (instances g t)
 
   pub length-listed : (s : Instance → Value) → length (listed s) ≡ instance_count g t
@@ -23,7 +24,7 @@ module _ (g : AttributeGrammar) (law : IsLawful g) (t : Forest) (fits : IsTreeOf
   -- each instance has its value in the list
   pub value_in-listed : (s : Instance → Value) (i : Instance) → IsInstance g t i → value_in g t (listed s) i ≡ s i
   value_in-listed s i valid =
-      get_or-map s (instances g t) (instance_number g t i) (instance_of top 0) missing
+      get_or-map s (instances g t) (instance_number g t i) (instance_of top 0) overflow
       (let w = number_within g t i.node i.attribute valid.0 valid.1 in let e = length-instances g t in omega
       (arith, w, e))
       ∙ ap s (instance_at_number g t i.node i.attribute (instance_of top 0) valid.0 valid.1)
@@ -49,12 +50,12 @@ module _ (g : AttributeGrammar) (law : IsLawful g) (t : Forest) (fits : IsTreeOf
   pub lists_equal : (xs ys : List Value) → length xs ≡ instance_count g t → length ys ≡ instance_count g t
       → ((i : Instance) → IsInstance g t i → value_in g t xs i ≡ value_in g t ys i) → xs ≡ ys
   lists_equal xs ys cx cy same =
-      ext_get_or missing xs ys (cx ∙ sym cy)
+      ext_get_or overflow xs ys (cx ∙ sym cy)
       (λ n below.
       let at_n = numbered g t law fits n (omega (arith, below, cx)) in
-      ap (λ m. get_or xs m missing) (sym at_n.number)
+      ap (λ m. get_or xs m overflow) (sym at_n.number)
       ∙ same at_n.instance at_n.valid
-      ∙ ap (λ m. get_or ys m missing) at_n.number)
+      ∙ ap (λ m. get_or ys m overflow) at_n.number)
 
   pub one_list_by : ExactlyOneTable g t → ExactlyOneList g t
   one_list_by one =

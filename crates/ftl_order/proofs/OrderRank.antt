@@ -1,23 +1,25 @@
 -- A number that rises from each step to those that it must precede, and so falls along the reads.
-use Rattle.std.proofs.Common.{◌≡◌, ◌⊎◌, ℕ, suc, ◌+◌, ◌-◌, ◌<◌, ◌≤◌, refl, sym, ap, subst, inl, inr, ⊎_elim, arith, List, [], ◌∷◌, length}
-use Rattle.ftl_model.specs.Tree.{Forest, size, below_of}
-use Rattle.ftl_model.specs.Path.{Path, top, down, at as tree_at, Has, Above}
-use Rattle.ftl_model.specs.AttributeGrammar.{AttributeGrammar, Sort, input, inherited, synthesized, local}
-use Rattle.ftl_model.specs.TreeOf.{IsTreeOf}
+use Rattle.std.proofs.Common.{◌≡◌, ◌⊎◌, ℕ, suc, ◌+◌, ◌-◌, ◌<◌, ◌≤◌, refl, sym, ap, subst, inl, inr, ⊎_elim, arith, List, [], ◌∷◌, length, Contains}
+use Rattle.ftl_lists.specs.Lists.{Before}
+use Rattle.ftl_lists.proofs.Elements.{nothing_in}
+use Rattle.ftl_lists.proofs.Weights.{all_below, at_most_total_of, before_weight, sum_of_all, total_by, weight}
+use Rattle.ftl_model.specs.AttributeGrammar.{AttributeGrammar, Sort, inherited, input, local, synthesized}
+use Rattle.ftl_model.specs.Path.{Above, Has, Path, at as tree_at, down, top}
 use Rattle.ftl_model.specs.Solves.{Instance, IsInstance, rule_node}
 use Rattle.ftl_model.specs.Table.{instances}
+use Rattle.ftl_model.specs.Tree.{Forest, below_of, size}
+use Rattle.ftl_model.specs.TreeOf.{IsTreeOf}
 use Rattle.ftl_model.proofs.Standing.{has_parent}
 use Rattle.ftl_order.specs.Lawful.{IsLawful}
-use Rattle.ftl_order.specs.Reads.{EquationReads, Reads, FallsAlongReads}
-use Rattle.ftl_order.specs.Schedule.{PassKind, topdown, bottomup, inorder, Placing, HasOneKind}
+use Rattle.ftl_order.specs.LegalOrder.{FirstInPass, KeyFirst, PrecedesBy, Turn, TurnPrecedes, address, turn_of}
 use Rattle.ftl_order.specs.Ordered.{EachPairOrdered}
-use Rattle.ftl_order.specs.LegalOrder.{Turn, turn_of, KeyFirst, Before, address, FirstInPass, TurnPrecedes, MustPrecede}
-use Rattle.ftl_order.proofs.Kids.{kid_size, below_size}
+use Rattle.ftl_order.specs.Reads.{FallsAlongReads, Reads, equation_reads}
+use Rattle.ftl_order.specs.Schedule.{HasOneKind, PassKind, Placing, bottomup, inorder, topdown}
 use Rattle.ftl_order.proofs.Instances.{is_listed_instance}
-use Rattle.ftl_order.proofs.TreeEquations.{inside_by}
-use Rattle.ftl_lists.proofs.Weights.{weight, before_weight, sum_of_all, all_below, total_by, at_most_total_of}
+use Rattle.ftl_order.proofs.Kids.{below_size, kid_size}
 use Rattle.ftl_order.proofs.Near.{reads_near}
 use Rattle.ftl_order.proofs.Rows.{near_precedes}
+use Rattle.ftl_order.proofs.TreeEquations.{inside_by}
 
 abbrev pub depth_of : Path → ℕ
 depth_of top = 0
@@ -105,7 +107,7 @@ module _ (g : AttributeGrammar) (at : Placing) (t : Forest) where
   abbrev pub step_rank : Instance → ℕ
   step_rank i = weight base digit_count (digits_of i)
 
-  pub step_rises : HasOneKind at → (i j : Instance) → IsInstance g t i → MustPrecede g at i j
+  pub step_rises : HasOneKind at → (i j : Instance) → IsInstance g t i → PrecedesBy g at i j
       → step_rank i < step_rank j
   step_rises one_kind i j valid first =
       let listed = is_listed_instance g t i valid in
@@ -135,7 +137,7 @@ module _ (g : AttributeGrammar) (at : Placing) (t : Forest) where
   step_or_nothing : (sort : Sort) (i j : Instance) → g.sort i.attribute ≡ sort → Reads g t i j
       → rank_by sort i ≡ suc (step_rank i)
   step_or_nothing input i j e reads =
-      absurd (subst (λ s. EquationReads g t s i.node i.attribute j) e reads)
+      absurd (nothing_in j (subst (λ s. Contains (equation_reads g t s i.node i.attribute) j) e reads))
   step_or_nothing inherited i j e reads = refl
   step_or_nothing synthesized i j e reads = refl
   step_or_nothing local i j e reads = refl

@@ -2,11 +2,11 @@
 use Rattle.std.proofs.Common.{◌≡◌, ℕ, zero, suc, ◌+◌, ◌-◌, ◌<◌, ◌≤◌, ◌==◌, true, false, if◌then◌else◌, refl, sym, ◌∙◌, ap, subst, inl, inr, ⊎_elim, arith, List, [], ◌∷◌, length, get_or}
 use Rattle.std.specs.List.{AllByRecursion}
 use Rattle.std.proofs.lemmas.List.{get_or-drop, get_or_append_left}
-use Rattle.ftl_model.specs.Tree.{Forest, none, tree, IsTree, size, below_of, from_kid, nodes_before}
-use Rattle.ftl_model.specs.Path.{Path, top, down, at, Has, Above, size_at, number_of, one_more, nodes_below, preorder}
-use Rattle.ftl_model.proofs.Each.{each-append, each_at}
+use Rattle.ftl_lists.proofs.Each.{each-append, each_at}
+use Rattle.ftl_model.specs.Path.{Above, Has, Path, at, down, nodes_below, number_of, one_more, preorder, size_at, top}
+use Rattle.ftl_model.specs.Tree.{Forest, IsTree, below_of, from_kid, nodes_before, none, size, tree}
 use Rattle.ftl_model.proofs.Numbering.{length-nodes_below}
-use Rattle.ftl_model.proofs.Standing.{has_parent, stands, node_at-number_of}
+use Rattle.ftl_model.proofs.Standing.{has_parent, node_at-number_of, stands}
 use Rattle.ftl_order.specs.Numbers.{InRangeOf}
 
 -- a kid's tree lies among the trees, behind the nodes before it

@@ -1,14 +1,15 @@
 -- Each row of the table of ordered reads puts the writer near before the reader, and what is near must precede.
 use Rattle.std.proofs.Common.{◌≡◌, ◌⊎◌, ℕ, ◌<◌, ◌≤◌, Bool, IsTrue, refl, sym, inl, inr, ⊎_elim, arith, List, [], ◌∷◌, Some}
 use Rattle.std.proofs.lemmas.Bool.{cases_lt}
-use Rattle.ftl_model.specs.Path.{Path, top, down, parent_of, Above}
-use Rattle.ftl_model.specs.AttributeGrammar.{AttributeGrammar, Read, Sort, input, inherited, synthesized, local}
+use Rattle.ftl_lists.specs.Lists.{Before}
+use Rattle.ftl_model.specs.AttributeGrammar.{AttributeGrammar, Read, Sort, inherited, input, local, synthesized}
+use Rattle.ftl_model.specs.Path.{Above, Path, down, parent_of, top}
 use Rattle.ftl_model.specs.Solves.{Instance}
 use Rattle.ftl_order.specs.Lawful.{IsOwnSort}
-use Rattle.ftl_order.specs.Schedule.{PassKind, topdown, bottomup, inorder, Placing}
+use Rattle.ftl_order.specs.LegalOrder.{FirstInPass, IsNearBy, NearInPass, PrecedesBy, Turn, TurnNear, turn_of, way_to}
+use Rattle.ftl_order.specs.Ordered.{ChildRow, IsOrderedRead, IsSameBlock, ParentRow, Row, SameClassRow, VisitPlace, block_of}
 use Rattle.ftl_order.specs.Pairs.{Where}
-use Rattle.ftl_order.specs.Ordered.{block_of, VisitPlace, IsSameBlock, SameClassRow, ParentRow, ChildRow, Row, IsOrderedRead}
-use Rattle.ftl_order.specs.LegalOrder.{Turn, turn_of, Before, way_to, NearInPass, TurnNear, FirstInPass, IsNearBefore, MustPrecede}
+use Rattle.ftl_order.specs.Schedule.{PassKind, Placing, bottomup, inorder, topdown}
 
 abbrev pub turn : Path → VisitPlace → ℕ → Turn
 turn p x k = record { visit = p; rule = x; kid = k }
@@ -91,11 +92,11 @@ child_near inorder at by_prev p d n x y kx ky row earlier =
     row)
 
 -- an earlier stage, or the same pass with its row
-pub lift_row : (at : Placing) (place : Where) (r : Read) (x y : VisitPlace) (px py : Path) (kx ky : ℕ)
-    → IsOrderedRead at place r x y
-    → (Row place (at y.attribute).kind at r x y → NearInPass (at y.attribute).kind at (turn px x kx) (turn py y ky))
+pub lift_row : (at : Placing) (runs_at : Where) (r : Read) (x y : VisitPlace) (px py : Path) (kx ky : ℕ)
+    → IsOrderedRead at runs_at r x y
+    → (Row runs_at (at y.attribute).kind at r x y → NearInPass (at y.attribute).kind at (turn px x kx) (turn py y ky))
     → TurnNear at (turn px x kx) (turn py y ky)
-lift_row at place r x y px py kx ky ordered near =
+lift_row at runs_at r x y px py kx ky ordered near =
     ⊎_elim (λ stage. inl stage) (λ here. inr (here.0, near here.1)) ordered
 
 pub own_block : (sort : Sort) → IsOwnSort sort → block_of sort ≡ 1 → ⊥
@@ -121,8 +122,8 @@ near_in_pass bottomup at x y near = ⊎_elim (λ here. inl here) (λ parent. inr
     above (down c k q) p e = inl (sym (parent_above p q e))
 near_in_pass inorder at x y near = near
 
-pub near_precedes : (g : AttributeGrammar) (at : Placing) (i j : Instance) → IsNearBefore g at i j
-    → MustPrecede g at i j
+pub near_precedes : (g : AttributeGrammar) (at : Placing) (i j : Instance) → IsNearBy g at i j
+    → PrecedesBy g at i j
 near_precedes g at i j near =
     ⊎_elim (λ stage. inl stage)
     (λ here. inr (here.0, near_in_pass (at j.attribute).kind at (turn_of g i) (turn_of g j) here.1)) near

@@ -1,28 +1,30 @@
 -- A run along a legal order, from values that are right at the inputs, ends in the list that solves.
-use Rattle.std.proofs.Common.{◌≡◌, ◌≢◌, ◌⊎◌, ◌+◌, ◌<◌, refl, sym, ◌∙◌, ap, subst, inl, inr, ⊎_elim, arith, List, [], ◌∷◌, ◌++◌, length, get_or, set, Contains, append_assoc, length-set, get_or-set_same, get_or-set_other, length-append}
+use Rattle.std.proofs.Common.{◌≡◌, ◌≢◌, ◌⊎◌, ◌+◌, ◌<◌, refl, sym, ◌∙◌, ap, subst, inl, inr, ⊎_elim, arith, List, [], ◌∷◌, ◌++◌, length, get_or, set, Contains, append_assoc, length-set, get_or-set_same, get_or-set_other, length-append, ℕ}
 use Rattle.std.proofs.lemmas.List.{get_or-append-add, append-nil}
 use Rattle.std.proofs.lemmas.List.Elements.{Contains-append_cases, Contains-append_left, Contains-append_right}
 use native.Mathlib.Decide.{ℕ_discrete}
-use Rattle.ftl_model.specs.Tree.{Forest}
+use Rattle.ftl_lists.proofs.Elements.{here_in, in_cases, nothing_in}
+use Rattle.ftl_model.specs.AttributeGrammar.{AttributeGrammar, Sort, input, input_value, is_input}
 use Rattle.ftl_model.specs.Path.{class_at, inputs_at}
-use Rattle.ftl_model.specs.AttributeGrammar.{AttributeGrammar, Sort, input}
+use Rattle.ftl_model.specs.Solves.{Instance, IsInstance, Solves, equation_value}
+use Rattle.ftl_model.specs.Table.{SolvesList, instance_count, instance_number, instances, value_in}
+use Rattle.ftl_model.specs.Tree.{Forest}
 use Rattle.ftl_model.specs.TreeOf.{IsTreeOf}
-use Rattle.ftl_model.specs.Solves.{Instance, IsInstance, equation_value, Solves}
-use Rattle.ftl_model.specs.Table.{instances, instance_count, instance_number, value_in, SolvesList}
+use Rattle.ftl_model.specs.Values.{Value, overflow}
 use Rattle.ftl_order.specs.Lawful.{IsLawful}
+use Rattle.ftl_order.specs.LegalOrder.{HoldsInputs, IsLegalBy, IsStep, run}
 use Rattle.ftl_order.specs.Reads.{Reads}
-use Rattle.ftl_order.specs.Schedule.{Placing, HasOneKind}
-use Rattle.ftl_order.specs.Ordered.{EachPairOrdered}
-use Rattle.ftl_order.specs.LegalOrder.{IsStep, MustPrecede, IsLegalOrder, run, HoldsInputs}
 use Rattle.ftl_order.proofs.Instances.{instance_at_number, number_within}
-use Rattle.ftl_lists.proofs.Elements.{nothing_in, here_in, in_cases}
-use Rattle.ftl_order.proofs.TreeEquations.{alone_by, inside_by}
+use Rattle.ftl_order.proofs.LegalOrders.{computed, input_or_computed, places_rise, writer_is_step}
 use Rattle.ftl_order.proofs.OneList.{solves_alike}
-use Rattle.ftl_order.proofs.LegalOrders.{input_or_computed, writer_precedes, places_rise}
+use Rattle.ftl_order.proofs.TreeEquations.{alone_by, inside_by}
 
-module _ (g : AttributeGrammar) (at : Placing) (t : Forest) (one_kind : HasOneKind at) (law : IsLawful g)
-    (pairs : EachPairOrdered g at) (fits : IsTreeOf g t) (s : Instance → Value) (solves : Solves g t s)
-    (order : List Instance) (legal : IsLegalOrder g at t order) where
+module _ (g : AttributeGrammar) (t : Forest) (law : IsLawful g) (fits : IsTreeOf g t)
+    (First : Instance → Instance → Type 0) (number : Instance → ℕ)
+    (rises : (i j : Instance) → IsStep g t i → First i j → number i < number j)
+    (writer_first : (i j : Instance) → IsStep g t i → Reads g t i j → g.sort j.attribute ≢ input → First j i)
+    (s : Instance → Value) (solves : Solves g t s)
+    (order : List Instance) (legal : IsLegalBy g t First order) where
   same_number : (i j : Instance) → IsInstance g t i → IsInstance g t j → instance_number g t i ≡ instance_number g t j
       → i ≡ j
   same_number i j vi vj e =
@@ -39,7 +41,7 @@ module _ (g : AttributeGrammar) (at : Placing) (t : Forest) (one_kind : HasOneKi
   -- a step that must precede the next one is done
   precedes_done : (done rest : List Instance) (i j : Instance) → order ≡ done ++ (i ∷ rest) → IsStep g t i
       → IsStep g t j
-      → MustPrecede g at j i → Contains done j
+      → First j i → Contains done j
   precedes_done done rest i j e step before first =
       ⊎_elim (λ h. h) (λ h. absurd (late h))
       (Contains-append_cases done (i ∷ rest) j (subst (λ l. Contains l j) e (legal.all j before)))
@@ -59,7 +61,7 @@ module _ (g : AttributeGrammar) (at : Placing) (t : Forest) (one_kind : HasOneKi
           (let f = ap length e in let b = h.1 in omega (arith, f, b, length-append done (i ∷ rest))) in
           let is : get_or order (length done + h.0) j ≡ j =
           ap (λ l. get_or l (length done + h.0) j) e ∙ get_or-append-add done (i ∷ rest) h.0 j ∙ h.2 in
-          let less = places_rise g at t one_kind law pairs fits order legal j i before first (length done + h.0)
+          let less = places_rise g t law fits First number rises order legal j i before first (length done + h.0)
           (length done) there place is here in
           omega (arith, less)
 
@@ -80,11 +82,13 @@ module _ (g : AttributeGrammar) (at : Placing) (t : Forest) (one_kind : HasOneKi
           (inside_by g law t fits (g.sort i.attribute) i.node i.attribute refl step.0.0 step.0.1 j reads)
           is_input
       read_value j reads (inr computed) =
-          let first = writer_precedes g at t one_kind law pairs fits i j step.0 reads computed in
-          good.steps j (precedes_done done rest i j e step first.0 first.1)
+          good.steps j
+          (precedes_done done rest i j e step
+          (writer_is_step g t law fits First number rises writer_first i j step reads computed)
+          (writer_first i j step reads computed))
 
   -- after a step the other values stay
-  after_step : (i j : Instance) (values : List Value) (v : V) → length values ≡ instance_count g t → IsInstance g t i
+  after_step : (i j : Instance) (values : List Value) (v : Value) → length values ≡ instance_count g t → IsInstance g t i
       → IsInstance g t j
       → v ≡ s i → (value_in g t values j ≡ s j) ⊎ (i ≡ j)
       → value_in g t (set values (instance_number g t i) v) j ≡ s j
@@ -93,13 +97,13 @@ module _ (g : AttributeGrammar) (at : Placing) (t : Forest) (one_kind : HasOneKi
       go : Dec (instance_number g t i ≡ instance_number g t j)
           → value_in g t (set values (instance_number g t i) v) j ≡ s j
       go (yes e) =
-          ap (λ n. get_or (set values (instance_number g t i) v) n missing) (sym e)
-          ∙ get_or-set_same values (instance_number g t i) v missing
+          ap (λ n. get_or (set values (instance_number g t i) v) n overflow) (sym e)
+          ∙ get_or-set_same values (instance_number g t i) v overflow
           (let w = number_within g t i.node i.attribute vi.0 vi.1 in omega (arith, w, count))
           ∙ is
           ∙ ap s (same_number i j vi vj e)
       go (no differ) =
-          get_or-set_other values (instance_number g t i) (instance_number g t j) v missing (λ e. differ (sym e))
+          get_or-set_other values (instance_number g t i) (instance_number g t j) v overflow (λ e. differ (sym e))
           ∙ ⊎_elim (λ old. old) (λ e. absurd (differ (ap (instance_number g t) e))) old
 
   run_done : (rest done : List Instance) (values : List Value) → order ≡ done ++ rest → Done done values
@@ -131,7 +135,7 @@ module _ (g : AttributeGrammar) (at : Placing) (t : Forest) (one_kind : HasOneKi
       })
 
   given_value : (sort : Sort) (i : Instance) → g.sort i.attribute ≡ sort → sort ≡ input → IsInstance g t i
-      → s i ≡ g.given (class_at t i.node) i.attribute (inputs_at t i.node)
+      → s i ≡ input_value g (class_at t i.node) i.attribute (inputs_at t i.node)
   given_value sort i e is_input valid =
       solves i valid
       ∙ ap (λ x. equation_value g t s x i.node i.attribute) (e ∙ is_input)
@@ -149,7 +153,7 @@ module _ (g : AttributeGrammar) (at : Placing) (t : Forest) (one_kind : HasOneKi
       record {
         count = good.count;
         solves =
-            solves_alike g law t fits missing (value_in g t (run g t order values)) s
+            solves_alike g law t fits (value_in g t (run g t order values)) s
             (λ i valid. at_each good i valid (input_or_computed (g.sort i.attribute)))
             solves;
       }

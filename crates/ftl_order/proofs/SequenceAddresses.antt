@@ -1,15 +1,18 @@
 -- Addresses in the sequence of an inorder pass: by key at a node, by block in its visit, by child and kid.
 use Rattle.std.proofs.Common.{◌≡◌, ◌≢◌, ℕ, suc, ◌<◌, ◌≤◌, ◌==◌, ◌&&◌, Bool, true, false, if◌then◌else◌, refl, sym, ◌∙◌, ap, subst₂, inl, inr, ⊎_elim, arith, eqb-true, eq-eqb, List, [], ◌∷◌, ◌++◌, filter, Contains}
 use Rattle.std.proofs.lemmas.Bool.{cases_lt}
-use Rattle.ftl_model.specs.Path.{Path, top, down, one_more}
-use Rattle.ftl_model.specs.AttributeGrammar.{AttributeGrammar, Sort, input, inherited, synthesized, local}
-use Rattle.ftl_model.specs.Solves.{Instance, instance_of, attributes_of}
-use Rattle.ftl_order.specs.Schedule.{Placing, Spot, IsOnePass}
-use Rattle.ftl_order.specs.LegalOrder.{turn_by, turn_of, Before, way_to, address}
-use Rattle.ftl_order.specs.Sequence.{is_same_sort, is_in_pass, keyed, steps_at}
-use Rattle.ftl_lists.proofs.Elements.{in_filter, in_sorted}
+use Rattle.ftl_lists.specs.Lists.{Before}
+use Rattle.ftl_lists.proofs.Elements.{in_filter}
+use Rattle.ftl_lists.proofs.Rising.{Mapped, Rising, in_map}
+use Rattle.ftl_lists.proofs.Sorted.{in_sorted}
+use Rattle.ftl_model.specs.AttributeGrammar.{AttributeGrammar, Sort, attributes_of, inherited, input, local, synthesized}
+use Rattle.ftl_model.specs.Path.{Path, down, one_more, top}
+use Rattle.ftl_model.specs.Solves.{Instance, instance_of}
+use Rattle.ftl_order.specs.LegalOrder.{address, turn_by, turn_of, way_to}
+use Rattle.ftl_order.specs.Schedule.{IsOnePass, Placing, Spot}
+use Rattle.ftl_order.specs.Sequence.{is_in_pass, is_same_sort, keyed, steps_at}
+use Rattle.ftl_order.proofs.LegalOrders.{computed}
 use Rattle.ftl_order.proofs.Rows.{way_before}
-use Rattle.ftl_lists.proofs.Rising.{Rising, Mapped, in_map}
 
 pub both_true : (p q : Bool) → (p && q) ≡ true → (p ≡ true) × (q ≡ true)
 both_true true q h = (refl, h)

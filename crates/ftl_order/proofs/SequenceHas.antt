@@ -1,15 +1,16 @@
 -- The sequence of an inorder pass has the steps of each node of the tree.
 use Rattle.std.proofs.Common.{◌≡◌, ◌⊎◌, ℕ, zero, suc, ◌+◌, ◌==◌, ◌&&◌, Bool, true, false, if◌then◌else◌, refl, sym, ◌∙◌, ap, subst, inl, inr, ⊎_elim, arith, eqb-true, eq-eqb, List, ◌++◌, filter, Contains}
 use Rattle.std.proofs.lemmas.List.Elements.{Contains-append_left, Contains-append_right}
-use Rattle.ftl_model.specs.Tree.{Forest, none, tree, IsTree, class_of, below_of, from_kid}
-use Rattle.ftl_model.specs.Path.{Path, top, down, at as tree_at, Has, one_more}
-use Rattle.ftl_model.specs.AttributeGrammar.{AttributeGrammar, Sort, input, inherited, synthesized, local}
-use Rattle.ftl_model.specs.Solves.{Instance, attributes_of}
+use Rattle.ftl_lists.proofs.Elements.{filter_has}
+use Rattle.ftl_lists.proofs.Sorted.{sorted_has}
+use Rattle.ftl_model.specs.AttributeGrammar.{AttributeGrammar, Sort, attributes_of, inherited, input, local, synthesized}
+use Rattle.ftl_model.specs.Path.{AtOrAbove, Has, Path, at as tree_at, class_at, down, one_more, top}
+use Rattle.ftl_model.specs.Solves.{Instance}
+use Rattle.ftl_model.specs.Tree.{Forest, IsTree, below_of, class_of, from_kid, none, tree}
 use Rattle.ftl_model.proofs.Standing.{has_parent}
 use Rattle.ftl_order.specs.Lawful.{OfClass}
-use Rattle.ftl_order.specs.Schedule.{Placing, Spot, IsOnePass}
-use Rattle.ftl_order.specs.Sequence.{is_same_sort, is_in_pass, keyed, steps_at, sequence_below, sequence}
-use Rattle.ftl_lists.proofs.Elements.{filter_has, sorted_has}
+use Rattle.ftl_order.specs.Schedule.{IsOnePass, Placing, Spot}
+use Rattle.ftl_order.specs.Sequence.{is_in_pass, is_same_sort, keyed, sequence_at, sequence_below, steps_at}
 
 both_pass : (p q : Bool) → p ≡ true → q ≡ true → (p && q) ≡ true
 both_pass true q a b = b
@@ -112,16 +113,23 @@ module _ (g : AttributeGrammar) (at : Placing) (x : Spot) where
       ])
       refl there h
 
-  pub visit_in : (t : Forest) (p : Path) → Has t p → (i : Instance) → InVisit p (tree_at t p) i
-      → Contains (sequence g at x t) i
-  visit_in t top there i h =
-      let ls = steps_at g at x local (class_of t) top in
-      let bs = sequence_below g at x top (λ c. 0) (below_of t) in
-      let ss = steps_at g at x synthesized (class_of t) top in
+  -- the sequence at a node has what its visit has
+  in_own_visit : (t : Forest) (q : Path) (i : Instance) → InVisit q (tree_at t q) i → Contains (sequence_at g at x t q) i
+  in_own_visit t q i h =
+      let ls = steps_at g at x local (class_at t q) q in
+      let bs = sequence_below g at x q (λ c. 0) (below_of (tree_at t q)) in
+      let ss = steps_at g at x synthesized (class_at t q) q in
       ⊎_elim (λ a. Contains-append_left ls (bs ++ ss) i a)
       (λ h. Contains-append_right ls (bs ++ ss) i
       (⊎_elim (λ a. Contains-append_left bs ss i a) (λ a. Contains-append_right bs ss i a) h)) h
-  visit_in t (down c k p) there i h =
-      visit_in t p (has_parent t c k p there) i
+
+  -- and what the visit of each node below it has
+  pub visit_in : (t : Forest) (r p : Path) → AtOrAbove r p → Has t p → (i : Instance) → InVisit p (tree_at t p) i
+      → Contains (sequence_at g at x t r) i
+  visit_in t r p (inl same) there i h =
+      subst (λ q. Contains (sequence_at g at x t q) i) (sym same) (in_own_visit t p i h)
+  visit_in t r top (inr above) there i h = absurd above
+  visit_in t r (down c k p) (inr above) there i h =
+      visit_in t r p above (has_parent t c k p there) i
       (inr (inl
       (kid_in (below_of (tree_at t p)) p (λ c. 0) c k k (let z : k ≡ 0 + k = omega arith in z) there i (inr h))))

@@ -3,54 +3,60 @@ use Rattle.std.proofs.Common.{◌≡◌, ◌≢◌, ℕ, ◌+◌, ◌<◌, ◌�
 use Rattle.std.proofs.lemmas.Bool.{cases_lt}
 use Rattle.std.proofs.lemmas.List.{get_or_default}
 use Rattle.std.proofs.lemmas.List.Elements.{Contains-append_cases}
-use Rattle.ftl_model.specs.Tree.{Forest, class_of, below_of}
-use Rattle.ftl_model.specs.Path.{Path, top, down, at as tree_at, Has, class_at}
-use Rattle.ftl_model.specs.AttributeGrammar.{AttributeGrammar, Sort, input, inherited, synthesized, local}
+use Rattle.ftl_lists.specs.Lists.{Before, StandsBefore}
+use Rattle.ftl_lists.proofs.Rising.{Rising, before_once, map_has, rising-append, rising_at}
+use Rattle.ftl_model.specs.AttributeGrammar.{AttributeGrammar, Sort, attributes_of, inherited, input, local, synthesized}
+use Rattle.ftl_model.specs.Path.{AtOrAbove, Has, Path, at as tree_at, class_at, down, top}
+use Rattle.ftl_model.specs.Solves.{Instance, instance_of, rule_node}
+use Rattle.ftl_model.specs.Tree.{Forest, below_of}
 use Rattle.ftl_model.specs.TreeOf.{IsTreeOf}
-use Rattle.ftl_model.specs.Solves.{Instance, instance_of, attributes_of}
-use Rattle.ftl_model.proofs.Standing.{has_parent}
 use Rattle.ftl_model.proofs.Fits.{fits_at}
-use Rattle.ftl_order.specs.Lawful.{IsLawful, OfClass}
-use Rattle.ftl_order.specs.Schedule.{Schedule, Spot, IsOnePass, IsAttribute, EachStandsOnce, spot_of, inorder}
-use Rattle.ftl_order.specs.LegalOrder.{IsStep, turn_of, Before, address, FirstInPass, MustPrecede, StandsBefore}
-use Rattle.ftl_order.specs.Sequence.{keyed, steps_at, sequence_below, sequence}
-use Rattle.ftl_order.proofs.Kids.{class_known, root_there}
-use Rattle.ftl_order.proofs.TreeEquations.{root_inherits_nothing}
-use Rattle.ftl_order.proofs.Spots.{own_keys}
-use Rattle.ftl_lists.proofs.Rising.{Rising, rising-append, before_once, rising_at, map_has}
-use Rattle.ftl_order.proofs.SequenceRises.{below_rises, steps_rise, starts_anywhere}
-use Rattle.ftl_order.proofs.SequenceAddresses.{EarlierAddress, local_goes, synthesized_goes, into_block, goes_before}
+use Rattle.ftl_model.proofs.Standing.{has_parent}
+use Rattle.ftl_order.specs.Lawful.{IsLawful, OfClass, class_owner, interface_owner}
+use Rattle.ftl_order.specs.LegalOrder.{FirstInPass, IsStep, MustPrecede, address, turn_of}
+use Rattle.ftl_order.specs.Schedule.{EachStandsOnce, IsOnePass, Schedule, Spot, inorder, spot_of}
+use Rattle.ftl_order.specs.Sequence.{keyed, sequence_at, sequence_below, steps_at}
+use Rattle.ftl_order.proofs.Kids.{class_known}
+use Rattle.ftl_order.proofs.LegalOrders.{computed}
+use Rattle.ftl_order.proofs.SequenceAddresses.{EarlierAddress, goes_before, into_block, local_goes, synthesized_goes}
 use Rattle.ftl_order.proofs.SequenceHas.{keyed_has, kid_in, visit_in}
+use Rattle.ftl_order.proofs.SequenceRises.{below_rises, starts_anywhere, steps_rise}
+use Rattle.ftl_order.proofs.Spots.{own_keys}
+use Rattle.ftl_order.proofs.TreeEquations.{root_inherits_nothing}
 
+-- of the pass of this spot, over a node and all below it
 module _ (g : AttributeGrammar) (law : IsLawful g) (s : Schedule) (once : EachStandsOnce g s)
     (t : Forest)
-    (fits : IsTreeOf g t) (x : Spot) where
+    (fits : IsTreeOf g t) (x : Spot) (r : Path) (root : Has t r) where
   step_in : (sort : Sort) (p : Path) (a : ℕ) → g.sort a ≡ sort → sort ≢ input → Has t p → OfClass g (class_at t p) a
-      → IsOnePass (spot_of s a) x → Contains (sequence g (spot_of s) x t) (instance_of p a)
-  step_in input p a e computed there of pass = absurd (computed refl)
-  step_in inherited top a e computed there of pass = absurd (root_inherits_nothing g law t fits a there of e)
-  step_in inherited (down c k p) a e computed there of pass =
-      visit_in g (spot_of s) x t p (has_parent t c k p there) (instance_of (down c k p) a)
+      → AtOrAbove r (rule_node sort p)
+      → IsOnePass (spot_of s a) x → Contains (sequence_at g (spot_of s) x t r) (instance_of p a)
+  step_in input p a e computed there of below pass = absurd (computed refl)
+  step_in inherited top a e computed there of below pass = absurd (root_inherits_nothing g law t fits a there of e)
+  step_in inherited (down c k p) a e computed there of below pass =
+      visit_in g (spot_of s) x t r p below (has_parent t c k p there) (instance_of (down c k p) a)
       (inr (inl
       (kid_in g (spot_of s) x (below_of (tree_at t p)) p (λ c. 0) c k k (let z : k ≡ 0 + k = omega arith in z) there
       (instance_of (down c k p) a)
       (inl
       (map_has (instance_of (down c k p)) (keyed g (spot_of s) x inherited (class_at t (down c k p))) a
       (keyed_has g (spot_of s) x inherited (class_at t (down c k p)) a e of pass))))))
-  step_in synthesized p a e computed there of pass =
-      visit_in g (spot_of s) x t p there (instance_of p a)
+  step_in synthesized p a e computed there of below pass =
+      visit_in g (spot_of s) x t r p below there (instance_of p a)
       (inr (inr
       (map_has (instance_of p) (keyed g (spot_of s) x synthesized (class_at t p)) a
       (keyed_has g (spot_of s) x synthesized (class_at t p) a e of pass))))
-  step_in local p a e computed there of pass =
-      visit_in g (spot_of s) x t p there (instance_of p a)
+  step_in local p a e computed there of below pass =
+      visit_in g (spot_of s) x t r p below there (instance_of p a)
       (inl
       (map_has (instance_of p) (keyed g (spot_of s) x local (class_at t p)) a
       (keyed_has g (spot_of s) x local (class_at t p) a e of pass)))
 
-  attribute_of_class : (k a : ℕ) → k < g.class_count → OfClass g k a → IsAttribute g a
+  attribute_of_class : (k a : ℕ) → k < g.class_count → OfClass g k a → a < g.attribute_count
   attribute_of_class k a known of =
-      ⊎_elim (λ shared. inl (g.interface k, shared)) (λ private. inr (k, known, private))
+      ⊎_elim
+      (λ shared. law.attributes_known (interface_owner (g.interface k)) a (law.interfaces_known k known, shared))
+      (λ private. law.attributes_known (class_owner k) a (known, private))
       (Contains-append_cases (g.shared (g.interface k)) (g.private k) a of)
 
   keys : (k a b : ℕ) → k < g.class_count → Contains (attributes_of g k) a → Contains (attributes_of g k) b
@@ -58,35 +64,35 @@ module _ (g : AttributeGrammar) (law : IsLawful g) (s : Schedule) (once : EachSt
       → (spot_of s a).index ≡ (spot_of s b).index → a ≡ b
   keys k a b known ha hb = own_keys g s once a b (attribute_of_class k a known ha) (attribute_of_class k b known hb)
 
-  sequence_rises : Rising (EarlierAddress g (spot_of s)) (sequence g (spot_of s) x t)
+  sequence_rises : Rising (EarlierAddress g (spot_of s)) (sequence_at g (spot_of s) x t r)
   sequence_rises =
       let at = spot_of s in
-      let known = class_known g t fits top (root_there g t fits) in
-      let ls = steps_at g at x local (class_of t) top in
-      let bs = sequence_below g at x top (λ c. 0) (below_of t) in
-      let ss = steps_at g at x synthesized (class_of t) top in
-      let within = below_rises g law at x keys (below_of t) (class_of t) 0 top (λ c. 0)
-      (fits_at g t top fits (root_there g t fits)).below
-      (starts_anywhere g law at x keys (below_of t)) in
-      let lg = local_goes g at x (class_of t) top in
-      let sg = synthesized_goes g at x (class_of t) top in
+      let known = class_known g t fits r root in
+      let ls = steps_at g at x local (class_at t r) r in
+      let bs = sequence_below g at x r (λ c. 0) (below_of (tree_at t r)) in
+      let ss = steps_at g at x synthesized (class_at t r) r in
+      let within = below_rises g law at x keys (below_of (tree_at t r)) (class_at t r) 0 r (λ c. 0)
+      (fits_at g t r fits root).below
+      (starts_anywhere g law at x keys (below_of (tree_at t r))) in
+      let lg = local_goes g at x (class_at t r) r in
+      let sg = synthesized_goes g at x (class_at t r) r in
       let R = EarlierAddress g at in
-      rising-append R ls (bs ++ ss) (steps_rise g law at x keys local (class_of t) top known (grind arith))
-      (rising-append R bs ss within.rising (steps_rise g law at x keys synthesized (class_of t) top known (grind arith))
+      rising-append R ls (bs ++ ss) (steps_rise g law at x keys local (class_at t r) r known (grind arith))
+      (rising-append R bs ss within.rising (steps_rise g law at x keys synthesized (class_at t r) r known (grind arith))
       (λ i j hi hj.
-      goes_before g at top (1 ∷ []) (2 ∷ []) i j
-      (into_block g at top 0 (λ c. 0) i (within.to_come i hi)) (sg j hj)
+      goes_before g at r (1 ∷ []) (2 ∷ []) i j
+      (into_block g at r 0 (λ c. 0) i (within.to_come i hi)) (sg j hj)
       (λ ri rj. inl (omega arith))))
       (λ i j hi hj.
       ⊎_elim
       (λ b.
-      goes_before g at top (0 ∷ []) (1 ∷ []) i j (lg i hi)
-      (into_block g at top 0 (λ c. 0) j (within.to_come j b)) (λ ri rj. inl (omega arith)))
-      (λ b. goes_before g at top (0 ∷ []) (2 ∷ []) i j (lg i hi) (sg j b) (λ ri rj. inl (omega arith)))
+      goes_before g at r (0 ∷ []) (1 ∷ []) i j (lg i hi)
+      (into_block g at r 0 (λ c. 0) j (within.to_come j b)) (λ ri rj. inl (omega arith)))
+      (λ b. goes_before g at r (0 ∷ []) (2 ∷ []) i j (lg i hi) (sg j b) (λ ri rj. inl (omega arith)))
       (Contains-append_cases bs ss j hj))
 
   abbrev pub whole : List Instance
-  whole = sequence g (spot_of s) x t
+  whole = sequence_at g (spot_of s) x t r
 
   abbrev pub Earlier : Instance → Instance → Type 0
   Earlier i j = Before (address (spot_of s) (turn_of g i)) (address (spot_of s) (turn_of g j))
@@ -128,29 +134,36 @@ module _ (g : AttributeGrammar) (law : IsLawful g) (s : Schedule) (once : EachSt
       subst (λ z. Earlier z j) (h.4 i)
       (subst (λ z. Earlier (get_or whole h.0 i) z) (h.5 i) (places_rise h.0 h.1 i i h.2 h.3))
 
-  pub step_there : (i : Instance) → IsStep g t i → IsOnePass (spot_of s i.attribute) x → Contains whole i
-  step_there i step pass = step_in (g.sort i.attribute) i.node i.attribute refl step.1 step.0.0 step.0.1 pass
+  pub step_there : (i : Instance) → IsStep g t i → AtOrAbove r (turn_of g i).visit → IsOnePass (spot_of s i.attribute) x
+      → Contains whole i
+  step_there i step below pass =
+      step_in (g.sort i.attribute) i.node i.attribute refl step.1 step.0.0 step.0.1 below pass
 
 -- in an inorder pass a step must precede another exactly where it stands before it in the sequence
 module _ (g : AttributeGrammar) (law : IsLawful g) (s : Schedule) (once : EachStandsOnce g s)
     (t : Forest)
-    (fits : IsTreeOf g t) (i j : Instance) (step_i : IsStep g t i) (step_j : IsStep g t j)
+    (fits : IsTreeOf g t) (r : Path) (root : Has t r) (i j : Instance) (step_i : IsStep g t i) (step_j : IsStep g t j)
+    (below_i : AtOrAbove r (turn_of g i).visit) (below_j : AtOrAbove r (turn_of g j).visit)
     (pass : IsOnePass (spot_of s i.attribute) (spot_of s j.attribute))
     (kind : (spot_of s j.attribute).kind ≡ inorder) where
-  pub precede_stands : MustPrecede g (spot_of s) i j
-      → StandsBefore (sequence g (spot_of s) (spot_of s j.attribute) t) i j
+  pub precede_stands : MustPrecede g t s i j
+      → StandsBefore (sequence_at g (spot_of s) (spot_of s j.attribute) t r) i j
   precede_stands first =
-      stands_by_address g law s once t fits (spot_of s j.attribute) i j
-      (step_there g law s once t fits (spot_of s j.attribute) i step_i pass)
-      (step_there g law s once t fits (spot_of s j.attribute) j step_j (refl, refl))
+      stands_by_address g law s once t fits (spot_of s j.attribute) r root i j
+      (step_there g law s once t fits (spot_of s j.attribute) r root i step_i below_i pass)
+      (step_there g law s once t fits (spot_of s j.attribute) r root j step_j below_j (refl, refl))
       (⊎_elim (λ stage. absurd (let e = pass.0 in let z : ⊥ = omega (arith, stage, e) in z))
       (λ here. subst (λ k. FirstInPass k (spot_of s) (turn_of g i) (turn_of g j)) kind here.1) first)
 
-  pub stands_precede : StandsBefore (sequence g (spot_of s) (spot_of s j.attribute) t) i j
-      → MustPrecede g (spot_of s) i j
+  pub stands_precede : StandsBefore (sequence_at g (spot_of s) (spot_of s j.attribute) t r) i j
+      → MustPrecede g t s i j
   stands_precede h =
       inr (
         pass,
         subst (λ k. FirstInPass k (spot_of s) (turn_of g i) (turn_of g j)) (sym kind)
-            (address_by_place g law s once t fits (spot_of s j.attribute) i j h),
+            (address_by_place g law s once t fits (spot_of s j.attribute) r root i j h),
       )
+
+pub top_above : (p : Path) → AtOrAbove top p
+top_above top = inl refl
+top_above (down c k p) = inr (top_above p)

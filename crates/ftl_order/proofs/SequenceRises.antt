@@ -1,18 +1,21 @@
 -- The addresses of an inorder pass's sequence rise.
 use Rattle.std.proofs.Common.{◌≡◌, ◌≢◌, ℕ, suc, ◌<◌, ◌≤◌, ◌==◌, ◌&&◌, true, false, if◌then◌else◌, refl, sym, ◌∙◌, subst₂, inl, inr, ⊎_elim, arith, List, [], ◌∷◌, ◌++◌, filter, Contains}
 use Rattle.std.proofs.lemmas.List.Elements.{Contains-append_cases}
-use Rattle.ftl_model.specs.Tree.{Forest, none, tree}
+use Rattle.ftl_lists.specs.Lists.{Before}
+use Rattle.ftl_lists.proofs.Elements.{distinct-filter, nothing_in}
+use Rattle.ftl_lists.proofs.Rising.{Rising, across-append, rising-append, rising-map, rising_more, strictly}
+use Rattle.ftl_lists.proofs.Sorted.{distinct-sorted, none_falls-sorted}
+use Rattle.ftl_model.specs.AttributeGrammar.{AttributeGrammar, Sort, attributes_of, inherited, input, local, synthesized}
 use Rattle.ftl_model.specs.Path.{Path, down, one_more}
-use Rattle.ftl_model.specs.AttributeGrammar.{AttributeGrammar, Sort, input, inherited, synthesized, local}
-use Rattle.ftl_model.specs.TreeOf.{StartsFrom, FitBelow}
-use Rattle.ftl_model.specs.Solves.{Instance, instance_of, attributes_of}
+use Rattle.ftl_model.specs.Solves.{Instance, instance_of}
+use Rattle.ftl_model.specs.Tree.{Forest, none, tree}
+use Rattle.ftl_model.specs.TreeOf.{FitBelow, StartsFrom}
 use Rattle.ftl_order.specs.Lawful.{IsLawful}
-use Rattle.ftl_order.specs.Schedule.{Placing, Spot, IsOnePass}
-use Rattle.ftl_order.specs.LegalOrder.{Before}
-use Rattle.ftl_order.specs.Sequence.{is_same_sort, is_in_pass, keyed, steps_at, sequence_below}
-use Rattle.ftl_lists.proofs.Elements.{nothing_in, distinct-filter, distinct-sorted, rises-sorted}
-use Rattle.ftl_lists.proofs.Rising.{Rising, rising-append, across-append, rising-map, rising_more, strictly}
-use Rattle.ftl_order.proofs.SequenceAddresses.{EarlierAddress, Goes, StillToCome, RisesBelow, goes_before, into_kid, into_block, at_kid, kid_first, address_by, key_before, is_keyed, local_goes, synthesized_goes, inherited_goes}
+use Rattle.ftl_order.specs.Schedule.{IsOnePass, Placing, Spot}
+use Rattle.ftl_order.specs.Sequence.{is_in_pass, is_same_sort, keyed, sequence_below, steps_at}
+use Rattle.ftl_order.proofs.Instances.{class_distinct}
+use Rattle.ftl_order.proofs.LegalOrders.{computed}
+use Rattle.ftl_order.proofs.SequenceAddresses.{EarlierAddress, Goes, RisesBelow, StillToCome, address_by, at_kid, goes_before, inherited_goes, into_block, into_kid, is_keyed, key_before, kid_first, local_goes, synthesized_goes}
 
 module _ (g : AttributeGrammar) (law : IsLawful g) (at : Placing) (x : Spot)
     (own : (k a b : ℕ) → k < g.class_count → Contains (attributes_of g k) a → Contains (attributes_of g k) b
@@ -24,10 +27,10 @@ module _ (g : AttributeGrammar) (law : IsLawful g) (at : Placing) (x : Spot)
       → Rising (λ a b. (at a).index < (at b).index) (keyed g at x sort k)
   keyed_rises sort k known computed =
       let chosen = filter (λ a. is_same_sort (g.sort a) sort && is_in_pass at x a) (attributes_of g k) in
-      strictly (λ a. (at a).index) (keyed g at x sort k) (rises-sorted (λ a. (at a).index) chosen)
+      strictly (λ a. (at a).index) (keyed g at x sort k) (none_falls-sorted (λ a. (at a).index) chosen)
       (distinct-sorted (λ a. (at a).index) chosen
       (distinct-filter (λ a. is_same_sort (g.sort a) sort && is_in_pass at x a) (attributes_of g k)
-      (law.distinct k known)))
+      (class_distinct g law k known)))
       (λ a b ha hb same.
       let ka = is_keyed g at x sort k a ha in
       let kb = is_keyed g at x sort k b hb in

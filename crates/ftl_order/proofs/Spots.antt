@@ -1,11 +1,12 @@
 -- In a schedule with each computed attribute once, an attribute stands in the list of its spot, alone at its place.
-use Rattle.std.proofs.Common.{◌≡◌, ◌≢◌, ℕ, suc, ◌+◌, ◌<◌, ◌==◌, true, false, cond, if◌then◌else◌, refl, sym, ◌∙◌, ap₂, subst, ⊎_elim, arith, eqb-true, eq-eqb, List, [], ◌∷◌, get_or, count_by, flat_map, Contains}
+use Rattle.std.proofs.Common.{◌≡◌, ◌≢◌, ℕ, suc, ◌<◌, true, false, if◌then◌else◌, refl, sym, ◌∙◌, ap₂, ⊎_elim, arith, List, [], ◌∷◌, get_or, flat_map, Contains}
 use Rattle.std.proofs.lemmas.List.Elements.{Contains-append_cases}
-use Rattle.std.proofs.lemmas.List.Sums.{sum_by-cons}
+use Rattle.ftl_lists.specs.Lists.{is_listed}
+use Rattle.ftl_lists.proofs.Elements.{nothing_in}
+use Rattle.ftl_lists.proofs.Listed.{counted_in, is_there, listed}
+use Rattle.ftl_lists.proofs.Places.{place_is}
 use Rattle.ftl_model.specs.AttributeGrammar.{AttributeGrammar, input}
-use Rattle.ftl_order.specs.Schedule.{Pass, Schedule, entries, IsAttribute, EachStandsOnce, IsOnePass, is_listed, pass_of, has_entry, stage_of, empty_pass, pass_at, pass_in_stage, spot_of}
-use Rattle.ftl_order.proofs.Instances.{place_is}
-use Rattle.ftl_lists.proofs.Elements.{nothing_in, here_in, later_in, in_cases}
+use Rattle.ftl_order.specs.Schedule.{EachStandsOnce, IsOnePass, Pass, Schedule, empty_pass, entries, has_entry, pass_at, pass_in_stage, pass_of, spot_of, stage_of}
 
 in_stage : (passes : List Pass) (a : ℕ) → Contains (flat_map (λ (pass : Pass). pass.attributes) passes) a
     → has_entry passes a ≡ true
@@ -50,8 +51,8 @@ in_its_list (passes ∷ stages) a h =
     refl
 
 -- two computed attributes of one pass and one place are one
-pub own_keys : (g : AttributeGrammar) (s : Schedule) → EachStandsOnce g s → (a b : ℕ) → IsAttribute g a
-    → IsAttribute g b
+pub own_keys : (g : AttributeGrammar) (s : Schedule) → EachStandsOnce g s → (a b : ℕ) → a < g.attribute_count
+    → b < g.attribute_count
     → g.sort a ≢ input → g.sort b ≢ input → IsOnePass (spot_of s a) (spot_of s b)
     → (spot_of s a).index ≡ (spot_of s b).index → a ≡ b
 own_keys g s once a b of_a of_b computed_a computed_b same index =

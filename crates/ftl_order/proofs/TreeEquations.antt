@@ -1,27 +1,35 @@
 -- The equations of a tree of a lawful grammar are a system: each depends on what it reads alone, and reads instances.
-use Rattle.std.proofs.Common.{◌≡◌, ℕ, ◌-◌, ◌<◌, refl, sym, subst, inl, inr, ⊎_elim, arith, Contains}
+use Rattle.std.proofs.Common.{◌≡◌, ℕ, zero, ◌-◌, ◌<◌, refl, sym, subst, inl, inr, ⊎_elim, arith, Contains, suc}
 use Rattle.std.proofs.lemmas.List.Elements.{Contains-append_left, Contains-append_cases}
+use Rattle.ftl_lists.proofs.Elements.{nothing_in}
+use Rattle.ftl_lists.proofs.Rising.{in_map, map_has}
+use Rattle.ftl_model.specs.AttributeGrammar.{AttributeGrammar, Occurrence, Read, Sort, each_read, for_child, for_self, inherited, input, last_read, local, prev_read, read_occurrences, self_read, single_read, synthesized, this_read}
+use Rattle.ftl_model.specs.Path.{Has, Path, at, class_at, down, kids_at, top}
+use Rattle.ftl_model.specs.Solves.{Instance, IsInstance, equation_value, instance_of, seen_from}
 use Rattle.ftl_model.specs.Tree.{Forest, below_of}
-use Rattle.ftl_model.specs.Path.{Path, top, down, at, Has, class_at, kids_at}
-use Rattle.ftl_model.specs.AttributeGrammar.{AttributeGrammar, Read, self_read, single_read, each_read, this_read, prev_read, last_read, Occurrence, Sees, Sort, input, inherited, synthesized, local}
 use Rattle.ftl_model.specs.TreeOf.{IsTreeOf}
-use Rattle.ftl_model.specs.Solves.{Instance, instance_of, IsInstance, seen_from, equation_value}
-use Rattle.ftl_model.proofs.Standing.{has_parent}
+use Rattle.ftl_model.specs.Values.{Value, overflow}
 use Rattle.ftl_model.proofs.Fits.{fits_at, kid_stands}
-use Rattle.ftl_order.specs.Lawful.{IsLawful, IsSingle, OfClass, OfChild, MayReadForSelf, MayReadForChild, IsOwnSort}
-use Rattle.ftl_order.specs.Reads.{RuleReads, EquationReads, Reads, FallsAlongReads}
+use Rattle.ftl_model.proofs.Standing.{has_parent}
+use Rattle.ftl_order.specs.Lawful.{IsLawful, IsOwnSort, IsRule, IsSingle, MayReadLater, OfChild, OfClass}
 use Rattle.ftl_order.specs.OneTable.{ExactlyOneTable}
-use Rattle.ftl_order.proofs.Kids.{kid_exists, kid_counted, class_known, root_interface}
-use Rattle.ftl_order.proofs.EquationSystem.{System, solutions_agree, solution, solution_solves}
+use Rattle.ftl_order.specs.Reads.{EndsWithin, FallsAlongReads, Reads, ReadsEnd, equation_reads, rule_reads}
+use Rattle.ftl_order.proofs.EquationSystem.{Ends, Low, System, low_by_rank, solution, solution_solves, solutions_agree}
+use Rattle.ftl_order.proofs.Kids.{class_known, kid_counted, kid_exists, root_interface}
+use Rattle.ftl_order.proofs.Seen.{MaySeeForSelf, Seen, Sees, child_seen, self_seen}
 
 -- an inherited attribute of a class is one of its interface
-pub inherited_is_shared : (g : AttributeGrammar) → IsLawful g → (k a : ℕ) → k < g.class_count
-    → OfClass g k a
+pub inherited_is_shared : (g : AttributeGrammar) → IsLawful g → (k a : ℕ) → k < g.class_count → OfClass g k a
     → g.sort a ≡ inherited → Contains (g.shared (g.interface k)) a
 inherited_is_shared g law k a known of e =
     ⊎_elim (λ h. h)
-    (λ h. absurd (⊎_elim (λ f. let z : ⊥ = cc in z) (λ f. let z : ⊥ = cc in z) (law.private_sorts k a known h)))
+    (λ h. absurd (⊎_elim (λ f. let z : ⊥ = cc in z) (λ f. let z : ⊥ = cc in z) (law.private_sorts k a (known, h))))
     (Contains-append_cases (g.shared (g.interface k)) (g.private k) a of)
+
+-- the rule of an attribute that a node's own class defines
+pub own_rule : (g : AttributeGrammar) (t : Forest) → IsTreeOf g t → (p : Path) (a : ℕ) → Has t p
+    → OfClass g (class_at t p) a → IsOwnSort (g.sort a) → IsRule g (for_self (class_at t p) a)
+own_rule g t fits p a h of sort = (class_known g t fits p h, of, sort)
 
 module _ (g : AttributeGrammar) (law : IsLawful g) (t : Forest) (fits : IsTreeOf g t) where
   -- the root has no inherited attribute
@@ -55,7 +63,7 @@ module _ (g : AttributeGrammar) (law : IsLawful g) (t : Forest) (fits : IsTreeOf
       omega arith
 
   -- what a rule for the node itself sees is there
-  pub self_sees_instances : (p : Path) → Has t p → (r : Read) → MayReadForSelf g (class_at t p) r
+  pub self_sees_instances : (p : Path) → Has t p → (r : Read) → MaySeeForSelf g (class_at t p) r
       → (o : Occurrence) → Sees (kids_at t p) 0 r o → IsInstance g t (seen_from p o)
   self_sees_instances p h (self_read a) may o sees = subst (λ x. IsInstance g t (seen_from p x)) (sym sees) (h, may)
   self_sees_instances p h (single_read c a) may o sees =
@@ -70,7 +78,7 @@ module _ (g : AttributeGrammar) (law : IsLawful g) (t : Forest) (fits : IsTreeOf
 
   -- what a rule for a kid sees is there
   pub child_sees_instances : (p : Path) (c k : ℕ) → Has t (down c k p) → (r : Read)
-      → MayReadForChild g (class_at t p) c r
+      → MayReadLater g (class_at t p) c r
       → (o : Occurrence) → Sees (kids_at t p) k r o → IsInstance g t (seen_from p o)
   child_sees_instances p c k h (self_read a) may o sees =
       subst (λ x. IsInstance g t (seen_from p x)) (sym sees) (has_parent t c k p h, may)
@@ -92,52 +100,89 @@ module _ (g : AttributeGrammar) (law : IsLawful g) (t : Forest) (fits : IsTreeOf
       subst (λ x. IsInstance g t (seen_from p x)) (sym sees.1)
       (kid_instance d (kids_at t p d - 1) a p (has_parent t c k p h) (let z = sees.0 in omega (arith, z)) may.2)
 
+  -- the rule of an inherited attribute of a kid
+  pub kid_rule : (c k : ℕ) (p : Path) (a : ℕ) → Has t (down c k p) → OfClass g (class_at t (down c k p)) a
+      → g.sort a ≡ inherited → IsRule g (for_child (class_at t p) c a)
+  kid_rule c k p a h of e = (
+    class_known g t fits p (has_parent t c k p h),
+    (kid_stands g t c k p fits h).declared,
+    inherited_of_child a c k p h of e,
+    e,
+  )
+
+  -- what a rule reads, as an occurrence at the node where it runs
+  abbrev pub SelfSeenAt : Path → ℕ → Instance → Type 0
+  SelfSeenAt p a j =
+      (o : Occurrence)
+      × Seen (g.self_rule (class_at t p) a).parts (kids_at t p) 0 (MaySeeForSelf g (class_at t p)) o
+      × (seen_from p o ≡ j)
+
+  pub self_seen_at : (p : Path) (a : ℕ) → IsRule g (for_self (class_at t p) a) → (j : Instance)
+      → Contains (rule_reads t (g.self_rule (class_at t p) a) p 0) j → SelfSeenAt p a j
+  self_seen_at p a rule j h =
+      let parts = (g.self_rule (class_at t p) a).parts in
+      let m = in_map (seen_from p) (read_occurrences parts (kids_at t p) 0) j h in
+      (m.from, self_seen g (class_at t p) (kids_at t p) parts (law.self_parts (class_at t p) a rule) m.from m.there, m.is)
+
+  abbrev pub ChildSeenAt : (c k : ℕ) → Path → ℕ → Instance → Type 0
+  ChildSeenAt c k p a j =
+      (o : Occurrence)
+      × Seen (g.child_rule (class_at t p) c a).parts (kids_at t p) k (MayReadLater g (class_at t p) c) o
+      × (seen_from p o ≡ j)
+
+  pub child_seen_at : (c k : ℕ) (p : Path) (a : ℕ) → IsRule g (for_child (class_at t p) c a) → (j : Instance)
+      → Contains (rule_reads t (g.child_rule (class_at t p) c a) p k) j → ChildSeenAt c k p a j
+  child_seen_at c k p a rule j h =
+      let parts = (g.child_rule (class_at t p) c a).parts in
+      let m = in_map (seen_from p) (read_occurrences parts (kids_at t p) k) j h in (
+        m.from,
+        child_seen g (class_at t p) (kids_at t p) c k parts (law.child_parts (class_at t p) c a rule) m.from m.there,
+        m.is,
+      )
+
   own_inside : (p : Path) (a : ℕ) → Has t p → OfClass g (class_at t p) a → IsOwnSort (g.sort a) → (j : Instance)
-      → RuleReads t (g.self_rule (class_at t p) a) p 0 j → IsInstance g t j
+      → Contains (rule_reads t (g.self_rule (class_at t p) a) p 0) j → IsInstance g t j
   own_inside p a h of sort j reads =
-      subst (IsInstance g t) (sym reads.4)
-      (self_sees_instances p h reads.0
-      (law.self_reads (class_at t p) a (class_known g t fits p h) of sort reads.0 reads.2) reads.1 reads.3)
+      let s = self_seen_at p a (own_rule g t fits p a h of sort) j reads in
+      subst (IsInstance g t) s.2 (self_sees_instances p h s.1.read s.1.may s.0 s.1.sees)
 
   pub inside_by : (sort : Sort) (p : Path) (a : ℕ) → g.sort a ≡ sort → Has t p → OfClass g (class_at t p) a
       → (j : Instance)
-      → EquationReads g t sort p a j → IsInstance g t j
-  inside_by input p a e h of j reads = absurd reads
+      → Contains (equation_reads g t sort p a) j → IsInstance g t j
+  inside_by input p a e h of j reads = absurd (nothing_in j reads)
   inside_by inherited top a e h of j reads = absurd (root_inherits_nothing a h of e)
   inside_by inherited (down c k p) a e h of j reads =
-      let above = has_parent t c k p h in
-      subst (IsInstance g t) (sym reads.4)
-      (child_sees_instances p c k h reads.0
-      (law.child_reads (class_at t p) c a (class_known g t fits p above) (kid_stands g t c k p fits h).declared
-      (inherited_of_child a c k p h of e) e k reads.0 reads.2)
-      reads.1 reads.3)
+      let s = child_seen_at c k p a (kid_rule c k p a h of e) j reads in
+      subst (IsInstance g t) s.2 (child_sees_instances p c k h s.1.read s.1.may s.0 s.1.sees)
   inside_by synthesized p a e h of j reads = own_inside p a h of (inl e) j reads
   inside_by local p a e h of j reads = own_inside p a h of (inr e) j reads
 
-  own_alone : (r s : Instance → Value) (p : Path) (a : ℕ) → Has t p → OfClass g (class_at t p) a → IsOwnSort (g.sort a)
-      → ((j : Instance) → RuleReads t (g.self_rule (class_at t p) a) p 0 j → r j ≡ s j)
+  own_alone : (r s : Instance → Value) (p : Path) (a : ℕ) → Has t p → OfClass g (class_at t p) a
+      → IsOwnSort (g.sort a)
+      → ((j : Instance) → Contains (rule_reads t (g.self_rule (class_at t p) a) p 0) j → r j ≡ s j)
       → (g.self_rule (class_at t p) a).value (kids_at t p) 0 (λ o. r (seen_from p o))
       ≡ (g.self_rule (class_at t p) a).value (kids_at t p) 0 (λ o. s (seen_from p o))
   own_alone r s p a h of sort same =
-      law.self_alone (class_at t p) a (class_known g t fits p h) of sort (kids_at t p) (λ o. r (seen_from p o))
+      law.self_alone (class_at t p) a (own_rule g t fits p a h of sort) (kids_at t p) (λ o. r (seen_from p o))
       (λ o. s (seen_from p o))
-      (λ read in_it o sees. same (seen_from p o) (read, o, in_it, sees, refl))
+      (λ o in_it. same (seen_from p o)
+      (map_has (seen_from p) (read_occurrences (g.self_rule (class_at t p) a).parts (kids_at t p) 0) o in_it))
 
   pub alone_by : (r s : Instance → Value) (sort : Sort) (p : Path) (a : ℕ) → g.sort a ≡ sort → Has t p
       → OfClass g (class_at t p) a
-      → ((j : Instance) → EquationReads g t sort p a j → r j ≡ s j)
+      → ((j : Instance) → Contains (equation_reads g t sort p a) j → r j ≡ s j)
       → equation_value g t r sort p a ≡ equation_value g t s sort p a
   alone_by r s input p a e h of same = refl
   alone_by r s inherited top a e h of same = absurd (root_inherits_nothing a h of e)
   alone_by r s inherited (down c k p) a e h of same =
-      let above = has_parent t c k p h in
-      law.child_alone (class_at t p) c a (class_known g t fits p above) (kid_stands g t c k p fits h).declared
-      (inherited_of_child a c k p h of e) e k (kids_at t p) (λ o. r (seen_from p o)) (λ o. s (seen_from p o))
-      (λ read in_it o sees. same (seen_from p o) (read, o, in_it, sees, refl))
+      law.child_alone (class_at t p) c a (kid_rule c k p a h of e) k (kids_at t p) (λ o. r (seen_from p o))
+      (λ o. s (seen_from p o))
+      (λ o in_it. same (seen_from p o)
+      (map_has (seen_from p) (read_occurrences (g.child_rule (class_at t p) c a).parts (kids_at t p) k) o in_it))
   alone_by r s synthesized p a e h of same = own_alone r s p a h of (inl e) same
   alone_by r s local p a e h of same = own_alone r s p a h of (inr e) same
 
-  abbrev pub equations : System Instance V
+  abbrev pub equations : System Instance Value
   equations =
       record {
         Valid = IsInstance g t;
@@ -147,10 +192,23 @@ module _ (g : AttributeGrammar) (law : IsLawful g) (t : Forest) (fits : IsTreeOf
         inside = λ i j valid reads. inside_by (g.sort i.attribute) i.node i.attribute refl valid.0 valid.1 j reads;
       }
 
-  -- exactly one table solves, where a number falls along the reads; some value is at hand
-  pub one_table_by : (rank : Instance → ℕ) → FallsAlongReads g t rank → V → ExactlyOneTable g t
-  one_table_by rank falls some =
+  low_of : (n : ℕ) (i : Instance) → EndsWithin g t n i → Low equations n i
+  low_of zero i ends = ends
+  low_of (suc n) i ends = λ j r. low_of n j (ends j r)
+
+  low_ends : (n : ℕ) (i : Instance) → Low equations n i → EndsWithin g t n i
+  low_ends zero i low = low
+  low_ends (suc n) i low = λ j r. low_ends n j (low j r)
+
+  pub reads_end_by : (rank : Instance → ℕ) → FallsAlongReads g t rank → ReadsEnd g t (λ i. suc (rank i))
+  reads_end_by rank falls i valid =
+      low_ends (suc (rank i)) i (low_by_rank equations rank falls (suc (rank i)) i valid (omega arith))
+
+  -- exactly one table solves, where chains of reads end
+  pub one_table_by : (number : Instance → ℕ) → ReadsEnd g t number → ExactlyOneTable g t
+  one_table_by number ends =
+      let low : Ends equations number = λ i valid. low_of (number i) i (ends i valid) in
       record {
-        some_solves = (solution equations rank (λ i. some), solution_solves equations rank falls (λ i. some));
-        any_two_agree = λ r s rs ss i valid. solutions_agree equations rank falls r s rs ss i valid;
+        some_solves = (solution equations number (λ i. overflow), solution_solves equations number low (λ i. overflow));
+        any_two_agree = λ r s rs ss i valid. solutions_agree equations number low r s rs ss i valid;
       }

@@ -1,16 +1,20 @@
--- What a grammar with its names gone has to meet: which attributes there may be, what each rule may read, and that
--- its value depends on these reads alone. It speaks of the grammar and of no tree.
-use Rattle.std.specs.Prelude.{◌≡◌, ◌≢◌, ◌⊎◌, ℕ, ◌<◌, true, false, List, [], ◌∷◌, Contains}
-use Rattle.ftl_model.specs.AttributeGrammar.{AttributeGrammar, Rule, Read, self_read, single_read, each_read, this_read, prev_read, last_read, Occurrence, Sees, reads_for, Sort, input, inherited, synthesized, local}
-use Rattle.ftl_model.specs.Solves.{attributes_of}
+-- What a grammar with its names gone has to meet: which numbers it may use, which attributes there may be, what each
+-- rule may read, and that its value depends on these reads alone. It speaks of the grammar and of no tree.
+use Rattle.std.specs.Prelude.{◌≡◌, ◌≢◌, ◌⊎◌, ℕ, ◌<◌, true, false, List, Contains}
+use Rattle.ftl_lists.specs.Lists.{AreDistinct}
+use Rattle.ftl_model.specs.AttributeGrammar.{AttributeGrammar, Occurrence, Parts, Read, Rule, RuleName, Sort, attributes_of, each_read, first_then, fold_over, for_child, for_self, inherited, input, last_read, local, plain, prev_read, read_occurrences, self_read, single_read, synthesized, this_read}
+use Rattle.ftl_model.specs.Values.{Value}
 
--- a declared child that has one kid
-abbrev pub IsSingle : AttributeGrammar → ℕ → ℕ → Type 0
-IsSingle g class c = (c < g.child_count class) × (g.is_list class c ≡ false)
+-- ---- attributes, and who declares them
 
--- a declared child that has a list of kids
-abbrev pub IsListChild : AttributeGrammar → ℕ → ℕ → Type 0
-IsListChild g class c = (c < g.child_count class) × (g.is_list class c ≡ true)
+pub data Owner : Type 0 where
+  interface_owner : (interface : ℕ) → Owner
+  class_owner : (class : ℕ) → Owner
+
+-- the interface shares the attribute, or the class adds it
+abbrev pub Owns : AttributeGrammar → Owner → ℕ → Type 0
+Owns g (interface_owner i) a = (i < g.interface_count) × Contains (g.shared i) a
+Owns g (class_owner k) a = (k < g.class_count) × Contains (g.private k) a
 
 -- an attribute of the class
 abbrev pub OfClass : AttributeGrammar → ℕ → ℕ → Type 0
@@ -20,55 +24,114 @@ OfClass g class a = Contains (attributes_of g class) a
 abbrev pub OfChild : AttributeGrammar → ℕ → ℕ → ℕ → Type 0
 OfChild g class c a = Contains (g.shared (g.child_interface class c)) a
 
--- the reads that a rule for the node itself may have: `this` over the kids of a fold, and `last`, but no `prev`
+-- an attribute that a rule of the node's own class defines
+abbrev pub IsOwnSort : Sort → Type 0
+IsOwnSort sort = (sort ≡ synthesized) ⊎ (sort ≡ local)
+
+-- ---- rules
+
+-- a declared child that has one kid
+abbrev pub IsSingle : AttributeGrammar → ℕ → ℕ → Type 0
+IsSingle g class c = (c < g.child_count class) × (g.is_list class c ≡ false)
+
+-- a declared child that has a list of kids
+abbrev pub IsListChild : AttributeGrammar → ℕ → ℕ → Type 0
+IsListChild g class c = (c < g.child_count class) × (g.is_list class c ≡ true)
+
+-- a rule that the grammar has: for a computed attribute of a class, or an inherited one of a child
+abbrev pub IsRule : AttributeGrammar → RuleName → Type 0
+IsRule g (for_self class a) = (class < g.class_count) × OfClass g class a × IsOwnSort (g.sort a)
+IsRule g (for_child class c a) =
+    (class < g.class_count) × (c < g.child_count class) × OfChild g class c a × (g.sort a ≡ inherited)
+
+-- ---- what may be read
+
+-- the reads that a rule for the node itself may have: `last`, but neither `this` nor `prev`
 abbrev pub MayReadForSelf : AttributeGrammar → ℕ → Read → Type 0
 MayReadForSelf g class (self_read a) = OfClass g class a
 MayReadForSelf g class (single_read c a) = IsSingle g class c × OfChild g class c a
-MayReadForSelf g class (each_read c a) = IsListChild g class c × OfChild g class c a
+MayReadForSelf g class (each_read c a) = ⊥
 MayReadForSelf g class (this_read c a) = ⊥
 MayReadForSelf g class (prev_read c a) = ⊥
 MayReadForSelf g class (last_read c a) = IsListChild g class c × OfChild g class c a
 
--- the reads that a rule for the kids in child `c` may have: `this` and `prev` over a list, of its own kids alone, and
--- `last` where it is for a single child; no fold
+-- in the step of a fold over child `c` also `this`, of that child
+abbrev pub MayReadInStep : AttributeGrammar → ℕ → (c : ℕ) → Read → Type 0
+MayReadInStep g class c (self_read a) = MayReadForSelf g class (self_read a)
+MayReadInStep g class c (single_read d a) = MayReadForSelf g class (single_read d a)
+MayReadInStep g class c (each_read d a) = (d ≡ c) × OfChild g class c a
+MayReadInStep g class c (this_read d a) = ⊥
+MayReadInStep g class c (prev_read d a) = ⊥
+MayReadInStep g class c (last_read d a) = MayReadForSelf g class (last_read d a)
+
+-- the reads that a rule for the kids in child `c` may have: `this` over a list, of its own kids alone, and `last` where
+-- it is for a single child
 abbrev pub MayReadForChild : AttributeGrammar → ℕ → ℕ → Read → Type 0
 MayReadForChild g class c (self_read a) = OfClass g class a
 MayReadForChild g class c (single_read d a) = IsSingle g class d × OfChild g class d a
 MayReadForChild g class c (each_read d a) = ⊥
 MayReadForChild g class c (this_read d a) = (d ≡ c) × IsListChild g class c × OfChild g class c a
-MayReadForChild g class c (prev_read d a) = (d ≡ c) × IsListChild g class c × OfChild g class c a
+MayReadForChild g class c (prev_read d a) = ⊥
 MayReadForChild g class c (last_read d a) = IsSingle g class c × IsListChild g class d × OfChild g class d a
 
--- the rule's value depends on the reads of this part alone: two tables that agree on what they see give one value
-abbrev pub IsAlone : {V : Type 0} → Rule → ℕ → Type 0
-IsAlone {V} rule place =
+-- in the part for the later kids also `prev`
+abbrev pub MayReadLater : AttributeGrammar → ℕ → ℕ → Read → Type 0
+MayReadLater g class c (self_read a) = MayReadForChild g class c (self_read a)
+MayReadLater g class c (single_read d a) = MayReadForChild g class c (single_read d a)
+MayReadLater g class c (each_read d a) = ⊥
+MayReadLater g class c (this_read d a) = MayReadForChild g class c (this_read d a)
+MayReadLater g class c (prev_read d a) = (d ≡ c) × IsListChild g class c × OfChild g class c a
+MayReadLater g class c (last_read d a) = MayReadForChild g class c (last_read d a)
+
+-- each of some reads is allowed
+abbrev pub EachMay : (Read → Type 0) → List Read → Type 0
+EachMay May reads = (r : Read) → Contains reads r → May r
+
+-- the parts that a rule for the node itself may have: one expression, or a fold over a list
+abbrev pub PartsForSelf : AttributeGrammar → (class : ℕ) → Parts → Type 0
+PartsForSelf g class (plain reads) = EachMay (MayReadForSelf g class) reads
+PartsForSelf g class (first_then first later) = ⊥
+PartsForSelf g class (fold_over c start step) =
+    IsListChild g class c × EachMay (MayReadForSelf g class) start × EachMay (MayReadInStep g class c) step
+
+-- the parts that a rule for the kids of a child may have: one expression, or over a list one for the first kid and one
+-- for the later ones
+abbrev pub PartsForChild : AttributeGrammar → (class c : ℕ) → Parts → Type 0
+PartsForChild g class c (plain reads) = EachMay (MayReadForChild g class c) reads
+PartsForChild g class c (first_then first later) =
+    IsListChild g class c × EachMay (MayReadForChild g class c) first × EachMay (MayReadLater g class c) later
+PartsForChild g class c (fold_over d start step) = ⊥
+
+-- the rule's value for this kid depends on what it reads alone: two tables that agree on that give one value
+abbrev pub IsAlone : Rule → (number : ℕ) → Type 0
+IsAlone rule k =
     (kids : ℕ → ℕ) (s t : Occurrence → Value)
-    → ((r : Read) → Contains (reads_for rule place) r → (o : Occurrence) → Sees kids place r o → s o ≡ t o)
-    → rule.value kids place s ≡ rule.value kids place t
+    → ((o : Occurrence) → Contains (read_occurrences rule.parts kids k) o → s o ≡ t o)
+    → rule.value kids k s ≡ rule.value kids k t
 
--- an attribute that a rule of the node's own class defines
-abbrev pub IsOwnSort : Sort → Type 0
-IsOwnSort sort = (sort ≡ synthesized) ⊎ (sort ≡ local)
+-- ---- lawful grammars
 
--- no entry stands twice
-abbrev pub AreDistinct : {X : Type 0} → List X → Type 0
-AreDistinct [] = Unit {0}
-AreDistinct (x ∷ xs) = (Contains xs x → ⊥) × AreDistinct xs
-
--- The interfaces share inputs, inherited and synthesized attributes, and the root's has none that is inherited; a class
--- adds inputs and locals. A class has no attribute twice. Each rule reads what it may, and depends on it alone.
+-- All numbers are in range, and each attribute has one owner, which declares it once. The interfaces share inputs,
+-- inherited and synthesized attributes, and the root's has none that is inherited; a class adds inputs and locals. The
+-- list of rules has each rule once. Each rule reads what it may, and depends on it alone.
 pub record IsLawful (g : AttributeGrammar) : Type 0 where
-  pub shared_sorts : (i a : ℕ) → Contains (g.shared i) a → g.sort a ≢ local
+  pub root_known : g.root < g.interface_count
+  pub interfaces_known : (k : ℕ) → k < g.class_count → g.interface k < g.interface_count
+  pub children_known :
+      (k c : ℕ) → k < g.class_count → c < g.child_count k → g.child_interface k c < g.interface_count
+  pub attributes_known : (x : Owner) (a : ℕ) → Owns g x a → a < g.attribute_count
+  pub owned : (a : ℕ) → a < g.attribute_count → (x : Owner) × Owns g x a
+  pub one_owner : (x y : Owner) (a : ℕ) → Owns g x a → Owns g y a → x ≡ y
+  pub shared_once : (i : ℕ) → i < g.interface_count → AreDistinct (g.shared i)
+  pub private_once : (k : ℕ) → k < g.class_count → AreDistinct (g.private k)
+  pub shared_sorts : (i a : ℕ) → Owns g (interface_owner i) a → g.sort a ≢ local
   pub root_sorts : (a : ℕ) → Contains (g.shared g.root) a → g.sort a ≢ inherited
-  pub private_sorts : (k a : ℕ) → k < g.class_count → Contains (g.private k) a → (g.sort a ≡ input) ⊎ (g.sort a ≡ local)
-  pub distinct : (k : ℕ) → k < g.class_count → AreDistinct (attributes_of g k)
-  pub self_reads :
-      (k a : ℕ) → k < g.class_count → OfClass g k a → IsOwnSort (g.sort a)
-      → (r : Read) → Contains (reads_for (g.self_rule k a) 0) r → MayReadForSelf g k r
-  pub self_alone : (k a : ℕ) → k < g.class_count → OfClass g k a → IsOwnSort (g.sort a) → IsAlone (g.self_rule k a) 0
-  pub child_reads :
-      (k c a : ℕ) → k < g.class_count → c < g.child_count k → OfChild g k c a → g.sort a ≡ inherited
-      → (place : ℕ) (r : Read) → Contains (reads_for (g.child_rule k c a) place) r → MayReadForChild g k c r
+  pub private_sorts : (k a : ℕ) → Owns g (class_owner k) a → (g.sort a ≡ input) ⊎ (g.sort a ≡ local)
+  pub rules_are : (w : RuleName) → Contains g.rules w → IsRule g w
+  pub rules_have : (w : RuleName) → IsRule g w → Contains g.rules w
+  pub rules_once : AreDistinct g.rules
+  pub self_parts : (k a : ℕ) → IsRule g (for_self k a) → PartsForSelf g k (g.self_rule k a).parts
+  pub self_alone : (k a : ℕ) → IsRule g (for_self k a) → IsAlone (g.self_rule k a) 0
+  pub child_parts : (k c a : ℕ) → IsRule g (for_child k c a) → PartsForChild g k c (g.child_rule k c a).parts
   pub child_alone :
-      (k c a : ℕ) → k < g.class_count → c < g.child_count k → OfChild g k c a → g.sort a ≡ inherited
-      → (place : ℕ) → IsAlone (g.child_rule k c a) place
+      (k c a : ℕ) → IsRule g (for_child k c a) → (number : ℕ) → IsAlone (g.child_rule k c a) number

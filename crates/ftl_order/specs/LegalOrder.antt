@@ -1,13 +1,14 @@
 -- Which step must come before which, and the orders of all steps that keep to it.
-use Rattle.std.specs.Prelude.{◌≡◌, ◌≢◌, ◌⊎◌, ℕ, ◌<◌, List, [], ◌∷◌, length, Some, slice_index_or, slice_set, HoldsAt, Contains}
-use Rattle.ftl_model.specs.Tree.{Forest}
-use Rattle.ftl_model.specs.Path.{Path, top, down, parent_of, Above, class_at, inputs_at}
-use Rattle.ftl_model.specs.AttributeGrammar.{AttributeGrammar, Sort, input, inherited, synthesized, local}
-use Rattle.ftl_model.specs.Solves.{Instance, IsInstance, rule_node, rule_kid, equation_value}
+use Rattle.std.specs.Prelude.{◌≡◌, ◌≢◌, ◌⊎◌, ℕ, ◌<◌, List, [], ◌∷◌, length, Some, slice_index_or, slice_set, Contains}
+use Rattle.ftl_lists.specs.Lists.{AreDistinct, Before}
+use Rattle.ftl_model.specs.AttributeGrammar.{AttributeGrammar, Sort, inherited, input, input_value, local, synthesized}
+use Rattle.ftl_model.specs.Path.{Above, Path, class_at, down, inputs_at, parent_of, top}
+use Rattle.ftl_model.specs.Solves.{Instance, IsInstance, equation_value, rule_kid, rule_node}
 use Rattle.ftl_model.specs.Table.{instance_number, value_in}
-use Rattle.ftl_order.specs.Lawful.{AreDistinct}
-use Rattle.ftl_order.specs.Schedule.{PassKind, topdown, bottomup, inorder, Placing, IsOnePass}
-use Rattle.ftl_order.specs.Ordered.{VisitPlace, block_of, KeyBelow, IsSameRule}
+use Rattle.ftl_model.specs.Tree.{Forest}
+use Rattle.ftl_model.specs.Values.{Value}
+use Rattle.ftl_order.specs.Ordered.{IsSameRule, KeyBelow, VisitPlace, block_of}
+use Rattle.ftl_order.specs.Schedule.{IsOnePass, PassKind, Placing, Schedule, bottomup, inorder, spot_of, topdown}
 
 -- a step is one computed instance
 abbrev pub IsStep : AttributeGrammar → Forest → Instance → Type 0
@@ -42,12 +43,6 @@ turn_of g i = turn_by (g.sort i.attribute) i.node i.attribute
 abbrev pub KeyFirst : Placing → Turn → Turn → Type 0
 KeyFirst at x y = KeyBelow at x.rule y.rule ⊎ (IsSameRule x.rule y.rule × (x.kid < y.kid))
 
--- at the first difference the number is smaller
-abbrev pub Before : List ℕ → List ℕ → Type 0
-Before [] ys = ⊥
-Before (x ∷ xs) [] = ⊥
-Before (x ∷ xs) (y ∷ ys) = (x < y) ⊎ ((x ≡ y) × Before xs ys)
-
 -- The sequence of an inorder pass at a node: the locals; for each child and each kid, the kid's inherited attributes
 -- and then the kid's sequence; the synthesized attributes. A step's address names, from the root on, the block, the
 -- child and the kid, then 0 for the attributes there and 1 for the kid's sequence; it ends in the place in the pass's
@@ -72,9 +67,13 @@ TurnPrecedes at x y =
     ((at x.rule.attribute).stage < (at y.rule.attribute).stage)
     ⊎ (IsOnePass (at x.rule.attribute) (at y.rule.attribute) × FirstInPass (at y.rule.attribute).kind at x y)
 
--- step i must come before step j
-abbrev pub MustPrecede : AttributeGrammar → Placing → Instance → Instance → Type 0
-MustPrecede g at i j = TurnPrecedes at (turn_of g i) (turn_of g j)
+-- step i must come before step j, where attributes stand so
+abbrev pub PrecedesBy : AttributeGrammar → Placing → Instance → Instance → Type 0
+PrecedesBy g at i j = TurnPrecedes at (turn_of g i) (turn_of g j)
+
+-- of a tree, under a schedule
+abbrev pub MustPrecede : AttributeGrammar → Forest → Schedule → Instance → Instance → Type 0
+MustPrecede g t s i j = PrecedesBy g (spot_of s) i j
 
 -- the same with the nearest visits alone: the parent's (topdown) or a kid's (bottomup)
 abbrev pub NearInPass : PassKind → Placing → Turn → Turn → Type 0
@@ -87,26 +86,28 @@ TurnNear at x y =
     ((at x.rule.attribute).stage < (at y.rule.attribute).stage)
     ⊎ (IsOnePass (at x.rule.attribute) (at y.rule.attribute) × NearInPass (at y.rule.attribute).kind at x y)
 
-abbrev pub IsNearBefore : AttributeGrammar → Placing → Instance → Instance → Type 0
-IsNearBefore g at i j = TurnNear at (turn_of g i) (turn_of g j)
+abbrev pub IsNearBy : AttributeGrammar → Placing → Instance → Instance → Type 0
+IsNearBy g at i j = TurnNear at (turn_of g i) (turn_of g j)
 
--- all steps, each once, and none before one that must precede it
-pub record IsLegalOrder (g : AttributeGrammar) (at : Placing) (t : Forest)
+abbrev pub IsNearBefore : AttributeGrammar → Forest → Schedule → Instance → Instance → Type 0
+IsNearBefore g t s i j = IsNearBy g (spot_of s) i j
+
+-- all steps, each once, and none before one that must come first by this relation
+pub record IsLegalBy (g : AttributeGrammar) (t : Forest) (First : Instance → Instance → Type 0)
     (order : List Instance) : Type 0 where
   pub steps : (i : Instance) → Contains order i → IsStep g t i
   pub all : (i : Instance) → IsStep g t i → Contains order i
   pub once : AreDistinct order
   pub legal :
       (m n : ℕ) (d : Instance) → m < n → n < length order
-      → MustPrecede g at (slice_index_or order n d) (slice_index_or order m d) → ⊥
+      → First (slice_index_or order n d) (slice_index_or order m d) → ⊥
 
--- i stands before j
-abbrev pub StandsBefore : List Instance → Instance → Instance → Type 0
-StandsBefore order i j =
-    (m : ℕ) × (n : ℕ) × (m < n) × (n < length order) × HoldsAt (λ x. x ≡ i) order m × HoldsAt (λ x. x ≡ j) order n
+-- all steps, each once, and none before one that must precede it
+abbrev pub IsLegalOrder : AttributeGrammar → Forest → Schedule → List Instance → Type 0
+IsLegalOrder g t s order = IsLegalBy g t (MustPrecede g t s) order
 
 -- the values after the steps of an order have been computed one after the other
-abbrev pub run : AttributeGrammar → Forest → V → List Instance → List Value → List V
+abbrev pub run : AttributeGrammar → Forest → List Instance → List Value → List Value
 run g t [] values = values
 run g t (i ∷ order) values =
     run g t order
@@ -114,7 +115,7 @@ run g t (i ∷ order) values =
     (equation_value g t (value_in g t values) (g.sort i.attribute) i.node i.attribute))
 
 -- the values have each input's number from the document
-abbrev pub HoldsInputs : AttributeGrammar → Forest → V → List Value → Type 0
+abbrev pub HoldsInputs : AttributeGrammar → Forest → List Value → Type 0
 HoldsInputs g t values =
     (i : Instance) → IsInstance g t i → g.sort i.attribute ≡ input
-    → value_in g t values i ≡ g.given (class_at t i.node) i.attribute (inputs_at t i.node)
+    → value_in g t values i ≡ input_value g (class_at t i.node) i.attribute (inputs_at t i.node)

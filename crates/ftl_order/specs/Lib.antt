@@ -1,4 +1,3 @@
-pub mod Chain
 pub mod Lawful
 pub mod LegalOrder
 pub mod Numbers
@@ -9,6 +8,3 @@ pub mod Pairs
 pub mod Reads
 pub mod Schedule
 pub mod Sequence
-pub mod WorkedRows
-pub mod WorkedSchedules
-pub mod WorkedSteps

@@ -1,13 +1,12 @@
 -- Numbers of nodes and of instances: each node has its own, a subtree is a range of them, and so are a node's
 -- instances.
 use Rattle.std.specs.Prelude.{◌≡◌, ◌↔◌, ℕ, ◌+◌, ◌<◌, length, slice_index_or}
-use Rattle.ftl_model.specs.Values.{Value}
-use Rattle.ftl_model.specs.Tree.{Forest, IsTree}
-use Rattle.ftl_model.specs.Path.{Path, top, Has, Above, size_at, number_of, node_at, preorder}
 use Rattle.ftl_model.specs.AttributeGrammar.{AttributeGrammar}
-use Rattle.ftl_model.specs.TreeOf.{IsTreeOf}
+use Rattle.ftl_model.specs.Path.{Above, Has, Path, node_at, number_of, preorder, size_at, top}
 use Rattle.ftl_model.specs.Solves.{Instance, IsInstance}
-use Rattle.ftl_model.specs.Table.{instances, instance_count, instance_number}
+use Rattle.ftl_model.specs.Table.{instance_count, instance_number, instances}
+use Rattle.ftl_model.specs.Tree.{Forest, IsTree}
+use Rattle.ftl_model.specs.TreeOf.{IsTreeOf}
 use Rattle.ftl_order.specs.Lawful.{IsLawful}
 
 abbrev pub node_count : Forest → ℕ

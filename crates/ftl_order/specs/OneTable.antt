@@ -1,14 +1,13 @@
 -- Exactly one table solves: some table does, and any two that do are equal.
-use Rattle.std.specs.Prelude.{◌≡◌, ℕ, List}
-use Rattle.ftl_model.specs.Values.{Value, overflow}
-use Rattle.ftl_model.specs.Tree.{Forest}
+use Rattle.std.specs.Prelude.{◌≡◌, ℕ, suc, List}
 use Rattle.ftl_model.specs.AttributeGrammar.{AttributeGrammar}
-use Rattle.ftl_model.specs.TreeOf.{IsTreeOf}
 use Rattle.ftl_model.specs.Solves.{Instance, IsInstance, Solves}
 use Rattle.ftl_model.specs.Table.{SolvesList}
-use Rattle.ftl_model.specs.Stack.{stack}
+use Rattle.ftl_model.specs.Tree.{Forest}
+use Rattle.ftl_model.specs.TreeOf.{IsTreeOf}
+use Rattle.ftl_model.specs.Values.{Value}
 use Rattle.ftl_order.specs.Lawful.{IsLawful}
-use Rattle.ftl_order.specs.Reads.{FallsAlongReads}
+use Rattle.ftl_order.specs.Reads.{FallsAlongReads, ReadsEnd}
 
 -- some table solves, and any two that solve agree at each instance
 pub record ExactlyOneTable (g : AttributeGrammar) (t : Forest) : Type 0 where
@@ -21,20 +20,19 @@ pub record ExactlyOneList (g : AttributeGrammar) (t : Forest) : Type 0 where
   pub some_solves : (values : List Value) × SolvesList g t values
   pub any_two_equal : (xs ys : List Value) → SolvesList g t xs → SolvesList g t ys → xs ≡ ys
 
--- of a tree of a lawful grammar, where a number falls along the reads
-abbrev pub OneTableByRank : Type 0
-OneTableByRank =
+-- of a tree of a lawful grammar, where chains of reads end
+abbrev pub OneTableWhereReadsEnd : Type 0
+OneTableWhereReadsEnd =
     (g : AttributeGrammar) (t : Forest) → IsLawful g → IsTreeOf g t
-    → (rank : Instance → ℕ) → FallsAlongReads g t rank → ExactlyOneTable g t
+    → (number : Instance → ℕ) → ReadsEnd g t number → ExactlyOneTable g t
 
-abbrev pub OneListByRank : Type 0
-OneListByRank =
+abbrev pub OneListWhereReadsEnd : Type 0
+OneListWhereReadsEnd =
     (g : AttributeGrammar) (t : Forest) → IsLawful g → IsTreeOf g t
-    → (rank : Instance → ℕ) → FallsAlongReads g t rank → ExactlyOneList g t
+    → (number : Instance → ℕ) → ReadsEnd g t number → ExactlyOneList g t
 
--- of each tree of the stack grammar
-abbrev pub OneStackTable : Type 0
-OneStackTable = (t : Forest) → IsTreeOf stack t → ExactlyOneTable stack t
-
-abbrev pub OneStackList : Type 0
-OneStackList = (t : Forest) → IsTreeOf stack t → ExactlyOneList stack t
+-- where a number falls along the reads, chains of reads end
+abbrev pub ReadsEndByRank : Type 0
+ReadsEndByRank =
+    (g : AttributeGrammar) (t : Forest) → IsLawful g → IsTreeOf g t
+    → (rank : Instance → ℕ) → FallsAlongReads g t rank → ReadsEnd g t (λ i. suc (rank i))

@@ -1,19 +1,21 @@
 -- What an ordered schedule gives: the writer of each read stands before the reader, a legal order exists, exactly one
 -- table solves, and a run along any legal order ends in it. It speaks of the project's values.
 use Rattle.std.specs.Prelude.{◌≡◌, ◌≢◌, ◌↔◌, List, length}
-use Rattle.ftl_model.specs.Values.{Value, overflow}
-use Rattle.ftl_model.specs.Tree.{Forest}
+use Rattle.ftl_lists.specs.Lists.{StandsBefore}
 use Rattle.ftl_model.specs.AttributeGrammar.{AttributeGrammar, input}
-use Rattle.ftl_model.specs.TreeOf.{IsTreeOf}
+use Rattle.ftl_model.specs.Path.{AtOrAbove, Has, Path}
 use Rattle.ftl_model.specs.Solves.{Instance}
-use Rattle.ftl_model.specs.Table.{instance_count, SolvesList}
+use Rattle.ftl_model.specs.Table.{SolvesList, instance_count}
+use Rattle.ftl_model.specs.Tree.{Forest}
+use Rattle.ftl_model.specs.TreeOf.{IsTreeOf}
+use Rattle.ftl_model.specs.Values.{Value}
 use Rattle.ftl_order.specs.Lawful.{IsLawful}
-use Rattle.ftl_order.specs.Reads.{Reads}
-use Rattle.ftl_order.specs.Schedule.{inorder, Schedule, IsOnePass, spot_of}
+use Rattle.ftl_order.specs.LegalOrder.{HoldsInputs, IsLegalOrder, IsNearBefore, IsStep, MustPrecede, run, turn_of}
+use Rattle.ftl_order.specs.OneTable.{ExactlyOneList, ExactlyOneTable}
 use Rattle.ftl_order.specs.Ordered.{IsOrdered}
-use Rattle.ftl_order.specs.LegalOrder.{IsStep, IsNearBefore, MustPrecede, IsLegalOrder, StandsBefore, HoldsInputs, run}
-use Rattle.ftl_order.specs.Sequence.{sequence}
-use Rattle.ftl_order.specs.OneTable.{ExactlyOneTable, ExactlyOneList}
+use Rattle.ftl_order.specs.Reads.{Reads}
+use Rattle.ftl_order.specs.Schedule.{IsOnePass, Schedule, inorder, spot_of}
+use Rattle.ftl_order.specs.Sequence.{sequence, sequence_at}
 
 -- of each tree of a lawful grammar, under each schedule that is ordered for it
 abbrev pub UnderOrderedSchedules : (AttributeGrammar → Schedule → Forest → Type 0) → Type 0
@@ -24,21 +26,21 @@ UnderOrderedSchedules P =
 -- at the parent (topdown), at a kid (bottomup), or earlier in the sequence (inorder)
 abbrev pub WritersStandNear : AttributeGrammar → Schedule → Forest → Type 0
 WritersStandNear g s t =
-    (i j : Instance) → IsStep g t i → Reads g t i j → g.sort j.attribute ≢ input → IsNearBefore g (spot_of s) j i
+    (i j : Instance) → IsStep g t i → Reads g t i j → g.sort j.attribute ≢ input → IsNearBefore g t s j i
 
 -- and it must precede the step
 abbrev pub WritersPrecede : AttributeGrammar → Schedule → Forest → Type 0
 WritersPrecede g s t =
-    (i j : Instance) → IsStep g t i → Reads g t i j → g.sort j.attribute ≢ input → MustPrecede g (spot_of s) j i
+    (i j : Instance) → IsStep g t i → Reads g t i j → g.sort j.attribute ≢ input → MustPrecede g t s j i
 
 -- in every legal order the writer of each read stands before the reader
 abbrev pub WritersStandBefore : AttributeGrammar → Schedule → Forest → Type 0
 WritersStandBefore g s t =
-    (order : List Instance) → IsLegalOrder g (spot_of s) t order
+    (order : List Instance) → IsLegalOrder g t s order
     → (i j : Instance) → IsStep g t i → Reads g t i j → g.sort j.attribute ≢ input → StandsBefore order j i
 
 abbrev pub LegalOrderExists : AttributeGrammar → Schedule → Forest → Type 0
-LegalOrderExists g s t = (order : List Instance) × IsLegalOrder g (spot_of s) t order
+LegalOrderExists g s t = (order : List Instance) × IsLegalOrder g t s order
 
 abbrev pub OneTableSolves : AttributeGrammar → Schedule → Forest → Type 0
 OneTableSolves g s t = ExactlyOneTable g t
@@ -49,7 +51,7 @@ OneListSolves g s t = ExactlyOneList g t
 -- from values that are right at the inputs
 abbrev pub RunsEndInTheTable : AttributeGrammar → Schedule → Forest → Type 0
 RunsEndInTheTable g s t =
-    (order : List Instance) → IsLegalOrder g (spot_of s) t order
+    (order : List Instance) → IsLegalOrder g t s order
     → (values : List Value) → length values ≡ instance_count g t → HoldsInputs g t values
     → SolvesList g t (run g t order values)
 
@@ -58,4 +60,12 @@ abbrev pub InorderStepsStandInSequence : AttributeGrammar → Schedule → Fores
 InorderStepsStandInSequence g s t =
     (i j : Instance) → IsStep g t i → IsStep g t j
     → IsOnePass (spot_of s i.attribute) (spot_of s j.attribute) → (spot_of s j.attribute).kind ≡ inorder
-    → MustPrecede g (spot_of s) i j ↔ StandsBefore (sequence g (spot_of s) (spot_of s j.attribute) t) i j
+    → MustPrecede g t s i j ↔ StandsBefore (sequence g (spot_of s) (spot_of s j.attribute) t) i j
+
+-- and in the sequence at any node, of two steps that run at that node or below it
+abbrev pub StepsBelowStandInSequence : AttributeGrammar → Schedule → Forest → Type 0
+StepsBelowStandInSequence g s t =
+    (p : Path) (i j : Instance) → Has t p → IsStep g t i → IsStep g t j
+    → AtOrAbove p (turn_of g i).visit → AtOrAbove p (turn_of g j).visit
+    → IsOnePass (spot_of s i.attribute) (spot_of s j.attribute) → (spot_of s j.attribute).kind ≡ inorder
+    → MustPrecede g t s i j ↔ StandsBefore (sequence_at g (spot_of s) (spot_of s j.attribute) t p) i j

@@ -1,8 +1,8 @@
 -- Ordered schedules: each pair of a read and a writer is ordered, by the kind of the pass and by where the writer runs.
 use Rattle.std.specs.Prelude.{◌≡◌, ◌⊎◌, ℕ, ◌<◌, Bool, IsTrue}
-use Rattle.ftl_model.specs.AttributeGrammar.{AttributeGrammar, Read, Sort, input, inherited, synthesized, local}
-use Rattle.ftl_order.specs.Schedule.{PassKind, topdown, bottomup, inorder, Schedule, EachStandsOnce, Placing, IsOnePass, spot_of}
-use Rattle.ftl_order.specs.Pairs.{RuleName, for_self, for_child, Where, same_class, parent_class, child_class, Pair, IsPair, is_by_prev, child_read}
+use Rattle.ftl_model.specs.AttributeGrammar.{AttributeGrammar, Read, RuleName, Sort, for_child, for_self, inherited, input, local, synthesized}
+use Rattle.ftl_order.specs.Pairs.{IsPair, Pair, Where, child_class, child_read, is_by_prev, parent_class, same_class}
+use Rattle.ftl_order.specs.Schedule.{EachStandsOnce, IsOnePass, PassKind, Placing, Schedule, bottomup, inorder, spot_of, topdown}
 
 -- the block of a node's visit: 0 for the locals, 1 for the kids of a child, 2 for the synthesized attributes
 abbrev pub block_of : Sort → ℕ
@@ -66,12 +66,12 @@ Row child_class kind at r x y = ChildRow kind (is_by_prev r) (child_read r) y
 
 -- the writer x stands in an earlier stage, or in the same pass, and the pass has it earlier than the reader y
 abbrev pub IsOrderedRead : Placing → Where → Read → VisitPlace → VisitPlace → Type 0
-IsOrderedRead at place r x y =
+IsOrderedRead at runs_at r x y =
     ((at x.attribute).stage < (at y.attribute).stage)
-    ⊎ (IsOnePass (at x.attribute) (at y.attribute) × Row place (at y.attribute).kind at r x y)
+    ⊎ (IsOnePass (at x.attribute) (at y.attribute) × Row runs_at (at y.attribute).kind at r x y)
 
 abbrev pub IsOrderedPair : AttributeGrammar → Placing → Pair → Type 0
-IsOrderedPair g at pair = IsOrderedRead at pair.place pair.read (place_of g pair.writer) (place_of g pair.reader)
+IsOrderedPair g at pair = IsOrderedRead at pair.runs_at pair.read (place_of g pair.writer) (place_of g pair.reader)
 
 abbrev pub EachPairOrdered : AttributeGrammar → Placing → Type 0
 EachPairOrdered g at = (pair : Pair) → IsPair g pair → IsOrderedPair g at pair

@@ -1,27 +1,38 @@
--- What the equation of an instance reads: the instances that its rule sees from the node where it runs.
-use Rattle.std.specs.Prelude.{◌≡◌, ℕ, ◌<◌, Contains}
-use Rattle.ftl_model.specs.Tree.{Forest}
+-- What the equation of an instance reads: the instances that its rule sees from the node where it runs, in the order of
+-- the text, each as often as it is read.
+use Rattle.std.specs.Prelude.{ℕ, zero, suc, ◌<◌, List, [], map, Contains}
+use Rattle.ftl_model.specs.AttributeGrammar.{AttributeGrammar, Rule, Sort, inherited, input, local, read_occurrences, synthesized}
 use Rattle.ftl_model.specs.Path.{Path, kids_at}
-use Rattle.ftl_model.specs.AttributeGrammar.{AttributeGrammar, Rule, Read, Occurrence, Sees, reads_for, Sort, input, inherited, synthesized, local}
-use Rattle.ftl_model.specs.Solves.{Instance, IsInstance, seen_from, rule_node, rule_kid, rule_of}
+use Rattle.ftl_model.specs.Solves.{Instance, IsInstance, rule_kid, rule_node, rule_of, seen_from}
+use Rattle.ftl_model.specs.Tree.{Forest}
 
--- a rule that runs at node `p` for the kid at `place` reads this instance
-abbrev pub RuleReads : Forest → Rule → Path → ℕ → Instance → Type 0
-RuleReads t rule p place j =
-    (r : Read) × (o : Occurrence) × Contains (reads_for rule place) r × Sees (kids_at t p) place r o
-    × (j ≡ seen_from p o)
+-- what a rule reads that runs at node `p` for the kid of this number
+abbrev pub rule_reads : Forest → Rule → Path → (number : ℕ) → List Instance
+rule_reads t rule p k = map (seen_from p) (read_occurrences rule.parts (kids_at t p) k)
 
--- the equation of attribute `a` at node `p` reads this instance; that of an input reads nothing
-abbrev pub EquationReads : AttributeGrammar → Forest → Sort → Path → ℕ → Instance → Type 0
-EquationReads g t input p a j = ⊥
-EquationReads g t inherited p a j = RuleReads t (rule_of g t inherited p a) (rule_node inherited p)
-    (rule_kid inherited p) j
-EquationReads g t synthesized p a j = RuleReads t (rule_of g t synthesized p a) p 0 j
-EquationReads g t local p a j = RuleReads t (rule_of g t local p a) p 0 j
+-- what the equation of attribute `a` at node `p` reads; that of an input reads nothing
+abbrev pub equation_reads : AttributeGrammar → Forest → Sort → Path → ℕ → List Instance
+equation_reads g t input p a = []
+equation_reads g t inherited p a =
+    rule_reads t (rule_of g t inherited p a) (rule_node inherited p) (rule_kid inherited p)
+equation_reads g t synthesized p a = rule_reads t (rule_of g t synthesized p a) p 0
+equation_reads g t local p a = rule_reads t (rule_of g t local p a) p 0
+
+abbrev pub reads_of : AttributeGrammar → Forest → Instance → List Instance
+reads_of g t i = equation_reads g t (g.sort i.attribute) i.node i.attribute
 
 -- the equation of i reads j
 abbrev pub Reads : AttributeGrammar → Forest → Instance → Instance → Type 0
-Reads g t i j = EquationReads g t (g.sort i.attribute) i.node i.attribute j
+Reads g t i j = Contains (reads_of g t i) j
+
+-- each chain of reads from i on has fewer than n reads
+abbrev pub EndsWithin : AttributeGrammar → Forest → ℕ → Instance → Type 0
+EndsWithin g t zero i = ⊥
+EndsWithin g t (suc n) i = (j : Instance) → Reads g t i j → EndsWithin g t n j
+
+-- each chain of reads ends: from each instance on it has fewer reads than the number of that instance
+abbrev pub ReadsEnd : AttributeGrammar → Forest → (Instance → ℕ) → Type 0
+ReadsEnd g t number = (i : Instance) → IsInstance g t i → EndsWithin g t (number i) i
 
 -- the number is smaller at what is read
 abbrev pub FallsAlongReads : AttributeGrammar → Forest → (Instance → ℕ) → Type 0

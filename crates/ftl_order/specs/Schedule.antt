@@ -1,7 +1,7 @@
 -- Schedules: stages one after the other, each with passes beside each other, each with a list of attributes.
-use Rattle.std.specs.Prelude.{◌≡◌, ◌≢◌, ◌⊎◌, ℕ, suc, ◌<◌, Bool, true, false, ◌==◌, if◌then◌else◌, List, [], ◌∷◌, count_by, flat_map, slice_index_or, Contains}
+use Rattle.std.specs.Prelude.{◌≡◌, ◌≢◌, ℕ, suc, ◌<◌, Bool, true, false, ◌==◌, if◌then◌else◌, List, [], ◌∷◌, count_by, flat_map, slice_index_or}
+use Rattle.ftl_lists.specs.Lists.{is_listed, place_in}
 use Rattle.ftl_model.specs.AttributeGrammar.{AttributeGrammar, input}
-use Rattle.ftl_model.specs.Table.{place_in}
 
 -- a pass visits every node once: a node before its kids, after them, or between them in one sequence
 pub data PassKind : Type 0 where
@@ -20,15 +20,10 @@ Schedule = List (List Pass)
 abbrev pub entries : Schedule → List ℕ
 entries s = flat_map (λ (passes : List Pass). flat_map (λ (pass : Pass). pass.attributes) passes) s
 
--- an attribute of some interface, or one that a class adds
-abbrev pub IsAttribute : AttributeGrammar → ℕ → Type 0
-IsAttribute g a =
-    ((i : ℕ) × Contains (g.shared i) a) ⊎ ((class : ℕ) × (class < g.class_count) × Contains (g.private class) a)
-
 -- each computed attribute stands in the lists exactly once
 abbrev pub EachStandsOnce : AttributeGrammar → Schedule → Type 0
 EachStandsOnce g s =
-    (a : ℕ) → IsAttribute g a → g.sort a ≢ input → count_by (λ b. b == a) (entries s) ≡ 1
+    (a : ℕ) → a < g.attribute_count → g.sort a ≢ input → count_by (λ b. b == a) (entries s) ≡ 1
 
 -- where an attribute stands: the stage, the pass in it, the kind of that pass, and the place in its list
 pub record Spot : Type 0 where
@@ -47,10 +42,6 @@ IsOnePass x y = (x.stage ≡ y.stage) × (x.pass ≡ y.pass)
 -- the passes of one stage have numbers of their own
 abbrev pub HasOneKind : Placing → Type 0
 HasOneKind at = (a b : ℕ) → IsOnePass (at a) (at b) → (at a).kind ≡ (at b).kind
-
-abbrev pub is_listed : List ℕ → ℕ → Bool
-is_listed [] a = false
-is_listed (b ∷ bs) a = if a == b then true else is_listed bs a
 
 -- the first pass that lists the attribute; the count of passes where none does
 abbrev pub pass_of : List Pass → ℕ → ℕ

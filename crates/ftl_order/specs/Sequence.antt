@@ -1,21 +1,12 @@
 -- The sequence of an inorder pass over a tree, as a list: at a node the locals; for each child and each kid the kid's
 -- inherited attributes and the kid's sequence; the synthesized attributes. Attributes of one kind stand by key.
-use Rattle.std.specs.Prelude.{ℕ, Bool, true, false, ◌&&◌, ◌==◌, nat_le, if◌then◌else◌, List, [], ◌∷◌, ◌++◌, map, filter}
-use Rattle.ftl_model.specs.Tree.{Forest, none, tree, class_of, below_of}
-use Rattle.ftl_model.specs.Path.{Path, top, down, one_more}
-use Rattle.ftl_model.specs.AttributeGrammar.{AttributeGrammar, Sort, input, inherited, synthesized, local}
-use Rattle.ftl_model.specs.Solves.{Instance, instance_of, attributes_of}
+use Rattle.std.specs.Prelude.{ℕ, Bool, true, false, ◌&&◌, ◌==◌, List, [], ◌++◌, map, filter}
+use Rattle.ftl_lists.specs.Lists.{sorted_by}
+use Rattle.ftl_model.specs.AttributeGrammar.{AttributeGrammar, Sort, attributes_of, inherited, input, local, synthesized}
+use Rattle.ftl_model.specs.Path.{Path, at as tree_at, class_at, down, one_more, top}
+use Rattle.ftl_model.specs.Solves.{Instance, instance_of}
+use Rattle.ftl_model.specs.Tree.{Forest, below_of, none, tree}
 use Rattle.ftl_order.specs.Schedule.{Placing, Spot}
-
--- put before the first whose number is not smaller
-abbrev pub insert_by : {X : Type 0} → (X → ℕ) → X → List X → List X
-insert_by f x [] = x ∷ []
-insert_by f x (y ∷ ys) = if nat_le (f x) (f y) then x ∷ (y ∷ ys) else y ∷ insert_by f x ys
-
--- in the order of their numbers
-abbrev pub sorted_by : {X : Type 0} → (X → ℕ) → List X → List X
-sorted_by f [] = []
-sorted_by f (x ∷ xs) = insert_by f x (sorted_by f xs)
 
 abbrev pub is_same_sort : Sort → Sort → Bool
 is_same_sort input input = true
@@ -47,8 +38,12 @@ sequence_below g at x p seen (tree class child inputs below beside) =
     ++ (steps_at g at x synthesized class (down child (seen child) p)
     ++ sequence_below g at x p (one_more child seen) beside)))
 
--- the sequence of the pass of this spot
+-- the sequence of the pass of this spot at a node, over the node and all below it
+abbrev pub sequence_at : AttributeGrammar → Placing → Spot → Forest → Path → List Instance
+sequence_at g at x t p =
+    steps_at g at x local (class_at t p) p
+    ++ (sequence_below g at x p (λ c. 0) (below_of (tree_at t p)) ++ steps_at g at x synthesized (class_at t p) p)
+
+-- the sequence of the pass over the whole tree
 abbrev pub sequence : AttributeGrammar → Placing → Spot → Forest → List Instance
-sequence g at x t =
-    steps_at g at x local (class_of t) top
-    ++ (sequence_below g at x top (λ c. 0) (below_of t) ++ steps_at g at x synthesized (class_of t) top)
+sequence g at x t = sequence_at g at x t top

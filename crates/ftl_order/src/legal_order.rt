@@ -1,4 +1,4 @@
-ghost use Rattle.ftl_order.specs.OrderLaws.{UnderOrderedSchedules, WritersStandNear, WritersPrecede, WritersStandBefore, LegalOrderExists, OneTableSolves, OneListSolves, InorderStepsStandInSequence, RunsEndInTheTable};
+ghost use Rattle.ftl_order.specs.OrderLaws.{UnderOrderedSchedules, WritersStandNear, WritersPrecede, WritersStandBefore, LegalOrderExists, OneTableSolves, OneListSolves, InorderStepsStandInSequence, StepsBelowStandInSequence, RunsEndInTheTable};
 
 /// A law: under an ordered schedule what a step reads is an input, or its writer stands near before
 /// it and must precede it, on every tree.
@@ -28,4 +28,5 @@ pub fn runs_end_in_the_table()
 /// A law: the order of the steps of an inorder pass is that of its sequence.
 pub fn inorder_sequences()
     ensures sequence { UnderOrderedSchedules InorderStepsStandInSequence }
+    ensures below { UnderOrderedSchedules StepsBelowStandInSequence }
 {}

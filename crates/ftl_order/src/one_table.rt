@@ -1,22 +1,17 @@
-ghost use Rattle.ftl_order.specs.OneTable.{OneListByRank, OneStackList, OneStackTable, OneTableByRank};
+ghost use Rattle.ftl_order.specs.OneTable.{OneTableWhereReadsEnd, OneListWhereReadsEnd, ReadsEndByRank};
 
-/// A law: where a number falls along the reads of a lawful grammar's tree, some table solves, and
-/// any two that solve agree at every instance.
-pub fn one_table_by_rank()
-    ensures one_table { OneTableByRank }
+/// A law: where the chains of reads of a lawful grammar's tree end, some table solves, and any two
+/// that solve agree at every instance.
+pub fn one_table_where_reads_end()
+    ensures one_table { OneTableWhereReadsEnd }
 {}
 
 /// A law: and exactly one list of values solves, with one value for each instance.
-pub fn one_list_by_rank()
-    ensures one_list { OneListByRank }
+pub fn one_list_where_reads_end()
+    ensures one_list { OneListWhereReadsEnd }
 {}
 
-/// A law: exactly one table solves a tree of the stack grammar, of any size.
-pub fn exactly_one_stack_table()
-    ensures one_table { OneStackTable }
-{}
-
-/// A law: exactly one list of values solves a tree of the stack grammar, of any size.
-pub fn exactly_one_stack_list()
-    ensures one_list { OneStackList }
+/// A law: where a number falls along the reads, chains of reads end.
+pub fn reads_end_by_rank()
+    ensures reads_end { ReadsEndByRank }
 {}

@@ -1,7 +1,7 @@
 use Rattle.std.proofs.Common.{⊎_elim}
 use Rattle.ftl_order.specs.Schedule.{spot_of}
 use Rattle.ftl_order.proofs.Near.{reads_near}
-use Rattle.ftl_order.proofs.LegalOrders.{spot_of-one_kind, writer_precedes}
+use Rattle.ftl_order.proofs.Scheduled.{precedes_under}
 use Rattle.ftl_order.proofs.legal_order.ordered_reads.Goals as goal
 
 pub returns : goal.returns
@@ -9,6 +9,5 @@ returns c = record {
   near = λ g s t law ordered fits i j step reads computed.
       ⊎_elim (λ e. absurd (computed e)) (λ near. near)
       (reads_near g law (spot_of s) t fits ordered.pairs i j step.0 reads);
-  precede = λ g s t law ordered fits i j step reads computed.
-      (writer_precedes g (spot_of s) t (spot_of-one_kind s) law ordered.pairs fits i j step.0 reads computed).1;
+  precede = λ g s t law ordered fits i j step reads computed. precedes_under g s t law ordered.pairs fits i j step reads computed;
 }

@@ -1,4 +1,4 @@
-use Rattle.ftl_order.proofs.Instances.{number_within, instance_at_number, instance_here}
+use Rattle.ftl_order.proofs.Instances.{instance_at_number, instance_here, number_within}
 use Rattle.ftl_order.proofs.numbers.instance_numbers.Goals as goal
 
 pub returns : goal.returns

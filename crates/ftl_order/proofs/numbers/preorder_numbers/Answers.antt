@@ -1,5 +1,5 @@
-use Rattle.ftl_model.proofs.Numbering.{length-preorder, number_of-node_at, has-node_at}
-use Rattle.ftl_model.proofs.Standing.{number_of-lt, node_at-number_of}
+use Rattle.ftl_model.proofs.Numbering.{has-node_at, length-preorder, number_of-node_at}
+use Rattle.ftl_model.proofs.Standing.{node_at-number_of, number_of-lt}
 use Rattle.ftl_order.proofs.numbers.preorder_numbers.Goals as goal
 
 pub returns : goal.returns
