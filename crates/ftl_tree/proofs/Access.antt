@@ -2,10 +2,10 @@
 use Rattle.std.proofs.Common.{◌≡◌, ℕ, suc, ◌<◌, ◌≤◌, length, get_or, map, Some, refl, sym, ap, ◌∙◌, subst, arith}
 use Rattle.std.specs.Option.{option_map}
 use Rattle.std.proofs.lemmas.List.{get_or-map, length-map}
-use Rattle.ftl_model.specs.Tree.{Forest, none, tree, IsTree, below_of, size}
-use Rattle.ftl_model.specs.TreeOf.{IsTreeOf}
-use Rattle.ftl_model.specs.Path.{Path, top, down, number_of, parent_of, preorder, node_at}
+use Rattle.ftl_model.specs.Path.{Path, down, node_at, number_of, parent_of, preorder, top}
 use Rattle.ftl_model.specs.Stack.{stack}
+use Rattle.ftl_model.specs.Tree.{Forest, IsTree, below_of, none, size, tree}
+use Rattle.ftl_model.specs.TreeOf.{IsTreeOf}
 use Rattle.ftl_model.proofs.Numbering.{length-preorder, number_of-node_at}
 use Rattle.ftl_tree.specs.declared.rows.Node.{Node}
 use Rattle.ftl_tree.specs.Rows.{RowLists, rows_of, row_at, parent_number}

@@ -7,7 +7,7 @@ use Rattle.std.specs.Str.Parse.{digits_value, AllDigits}
 use Rattle.std.proofs.lemmas.Int.Digits.{digits_value_more, digits_value-lt}
 use Rattle.std.proofs.lemmas.List.{length-take-le}
 use Rattle.std.proofs.Math.Nat.{pow-le-pow_right}
-use Rattle.ftl_model.proofs.Each.{each_at}
+use Rattle.ftl_lists.proofs.Each.{each_at}
 
 -- a digit stands between 48 and 57
 pub record IsDigit (d : ℕ) : Type 0 where

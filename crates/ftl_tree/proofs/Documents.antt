@@ -3,9 +3,9 @@ use Rattle.std.proofs.Common.{◌≡◌, ℕ, ◌≤◌, ◌&&◌, Bool, true, f
 use lib.Pointwise.{pointwise}
 use Rattle.std.proofs.lemmas.Bool.{eqb-true}
 use Rattle.std.proofs.lemmas.List.{append-nil, append_cancel_left, take-append-drop, drop_at}
+use Rattle.ftl_model.specs.Stack.{stack}
 use Rattle.ftl_model.specs.Tree.{Forest}
 use Rattle.ftl_model.specs.TreeOf.{IsTreeOf}
-use Rattle.ftl_model.specs.Stack.{stack}
 use Rattle.ftl_tree.specs.declared.symbol.Symbol.{Symbol}
 use Rattle.ftl_tree.specs.Symbols.{Scans}
 use Rattle.ftl_tree.specs.Scanning.{Scanned, scanned, no_symbols}

@@ -3,11 +3,11 @@ use Rattle.std.proofs.Common.{◌≡◌, ℕ, suc, ◌+◌, List, ◌∷◌, ◌
 use Rattle.std.specs.List.{flat_map}
 use Rattle.std.proofs.lemmas.List.{map-append, append-nil}
 use Rattle.std.proofs.lemmas.Grind.{flat_map-append}
-use Rattle.ftl_model.specs.Tree.{Forest, none, tree, class_of, inputs_of, below_of, size}
-use Rattle.ftl_model.specs.TreeOf.{IsTreeOf}
-use Rattle.ftl_model.specs.Path.{Path, top, down, inputs_at, number_of, one_more, nodes_below, preorder}
+use Rattle.ftl_model.specs.Path.{Path, down, inputs_at, nodes_below, number_of, one_more, preorder, top}
 use Rattle.ftl_model.specs.Stack.{stack}
-use Rattle.ftl_model.proofs.Numbering.{Left, left_all, left_next, left_below, at-left, number-left}
+use Rattle.ftl_model.specs.Tree.{Forest, below_of, class_of, inputs_of, none, size, tree}
+use Rattle.ftl_model.specs.TreeOf.{IsTreeOf}
+use Rattle.ftl_model.proofs.Numbering.{Left, at-left, left_all, left_below, left_next, number-left}
 use Rattle.ftl_tree.specs.declared.rows.Node.{Node}
 use Rattle.ftl_tree.specs.Rows.{node_rows, input_rows, row_at}
 

@@ -1,15 +1,16 @@
 -- Where the inputs of a node stand among the inputs of all.
-use Rattle.std.proofs.Common.{◌≡◌, ℕ, zero, suc, ◌+◌, ◌-◌, ◌<◌, List, [], ◌∷◌, ◌++◌, ℤ, pos, length, get_or, take, drop, map, sum_by, refl, sym, ap, ◌∙◌, subst, arith, length-append, length-drop, ◌⊎◌, inl, inr}
+use Rattle.std.proofs.Common.{◌≡◌, ℕ, zero, suc, ◌+◌, ◌-◌, ◌<◌, List, [], ◌∷◌, ◌++◌, ℤ, pos, length, get_or, take, drop, map, sum_by, refl, sym, ap, ◌∙◌, subst, arith, length-append, length-drop, ◌⊎◌, inl, inr, ap₂}
 use Rattle.std.specs.List.{flat_map, AllByRecursion}
 use Rattle.std.proofs.lemmas.List.{drop-drop, drop_at, get_or-drop, get_or_append_left, take-map}
 use Rattle.std.proofs.lemmas.List.Sums.{sum_by-cons}
+use Rattle.ftl_model.specs.AttributeGrammar.{class_inputs, input_value}
+use Rattle.ftl_model.specs.Path.{Has, Path, at, class_at, inputs_at, node_at, preorder, top}
+use Rattle.ftl_model.specs.Stack.{stack, word, word_ih, word_iw}
 use Rattle.ftl_model.specs.Tree.{Forest, size}
 use Rattle.ftl_model.specs.TreeOf.{IsTreeOf}
-use Rattle.ftl_model.specs.Path.{Path, top, at, Has, class_at, inputs_at, preorder, node_at}
 use Rattle.ftl_model.specs.Values.{number}
-use Rattle.ftl_model.specs.Stack.{stack, word, word_iw, word_ih}
 use Rattle.ftl_model.proofs.Fits.{fits_at}
-use Rattle.ftl_model.proofs.Numbering.{length-preorder, has-node_at, has-preorder}
+use Rattle.ftl_model.proofs.Numbering.{has-node_at, has-preorder, length-preorder}
 use Rattle.ftl_tree.specs.declared.rows.Node.{Node}
 use Rattle.ftl_tree.specs.declared.tree.Offsets.{Offsets}
 use Rattle.ftl_tree.specs.Rows.{RowLists, row_at}
@@ -78,13 +79,13 @@ inputs_stand lists t n h k =
 -- the two inputs of a word
 pub record WordInput (lists : RowLists) (t : Forest) (n a at : ℕ) : Type 0 where
   pub within : at < length lists.inputs
-  pub value : stack.given (class_at t (node_at t n)) a (inputs_at t (node_at t n)) ≡ number (get_or lists.inputs at (pos 0))
+  pub value : input_value stack (class_at t (node_at t n)) a (inputs_at t (node_at t n)) ≡ number (get_or lists.inputs at (pos 0))
 
 pub word_input : (lists : RowLists) (t : Forest) (n a place : ℕ) → Kept lists t → n < size t → class_at t (node_at t n) ≡ word → ((a ≡ word_iw) × (place ≡ 0)) ⊎ ((a ≡ word_ih) × (place ≡ 1)) → WordInput lists t n a (inputs_before n lists.nodes + place)
 word_input lists t n a place h k is which = go which
   where
     two : length (inputs_at t (node_at t n)) ≡ 2
-    two = (fits_at stack t (node_at t n) h.is_tree (has-node_at t n (is_tree t h.is_tree) (omega (arith, size-one t h.is_tree, k)))).class.count ∙ ap (λ c. stack.input_count c) is
+    two = (fits_at stack t (node_at t n) h.is_tree (has-node_at t n (is_tree t h.is_tree) (omega (arith, size-one t h.is_tree, k)))).class.count ∙ ap (λ c. length (class_inputs stack c)) is
 
     inside : (i : ℕ) → i < 2 → get_or lists.inputs (inputs_before n lists.nodes + i) (pos 0) ≡ get_or (inputs_at t (node_at t n)) i (pos 0)
     inside i small = let s = inputs_stand lists t n h k in
@@ -97,10 +98,10 @@ word_input lists t n a place h k is which = go which
         omega (arith, ap length s.stand, length-drop (inputs_before n lists.nodes) lists.inputs, length-append (inputs_at t (node_at t n)) s.rest, two, small)
 
     given : (i : ℕ) → i < 2 → (a ≡ word_iw) × (i ≡ 0) → WordInput lists t n a (inputs_before n lists.nodes + i)
-    given i small w = record { within = room i small; value = ap (λ b. stack.given (class_at t (node_at t n)) b (inputs_at t (node_at t n))) w.0 ∙ ap number (ap (λ j. get_or (inputs_at t (node_at t n)) j (pos 0)) (sym w.1) ∙ sym (inside i small)) }
+    given i small w = record { within = room i small; value = ap₂ (λ k b. input_value stack k b (inputs_at t (node_at t n))) is w.0 ∙ ap number (ap (λ j. get_or (inputs_at t (node_at t n)) j (pos 0)) (sym w.1) ∙ sym (inside i small)) }
 
     given_second : (i : ℕ) → i < 2 → (a ≡ word_ih) × (i ≡ 1) → WordInput lists t n a (inputs_before n lists.nodes + i)
-    given_second i small w = record { within = room i small; value = ap (λ b. stack.given (class_at t (node_at t n)) b (inputs_at t (node_at t n))) w.0 ∙ ap number (ap (λ j. get_or (inputs_at t (node_at t n)) j (pos 0)) (sym w.1) ∙ sym (inside i small)) }
+    given_second i small w = record { within = room i small; value = ap₂ (λ k b. input_value stack k b (inputs_at t (node_at t n))) is w.0 ∙ ap number (ap (λ j. get_or (inputs_at t (node_at t n)) j (pos 0)) (sym w.1) ∙ sym (inside i small)) }
 
     go : ((a ≡ word_iw) × (place ≡ 0)) ⊎ ((a ≡ word_ih) × (place ≡ 1)) → WordInput lists t n a (inputs_before n lists.nodes + place)
     go (inl w) = given place (omega (arith, w.1)) w

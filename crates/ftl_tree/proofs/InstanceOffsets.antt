@@ -2,11 +2,12 @@
 use Rattle.std.proofs.Common.{◌≡◌, ℕ, zero, suc, ◌+◌, ◌*◌, ◌<◌, ◌≤◌, Bool, true, false, cond, eqb, List, [], ◌∷◌, ◌++◌, length, get_or, take, map, sum_by, refl, sym, ap, ◌∙◌, arith, lit≤}
 use Rattle.std.proofs.lemmas.List.{take-map}
 use Rattle.std.proofs.lemmas.List.Sums.{sum_by-cons}
-use Rattle.ftl_model.specs.Tree.{Forest, size}
-use Rattle.ftl_model.specs.Path.{Path, class_at, preorder, node_at}
-use Rattle.ftl_model.specs.Solves.{attributes_of}
-use Rattle.ftl_model.specs.Table.{place_in, width_at, first_instance, instance_count}
+use Rattle.ftl_lists.specs.Lists.{place_in}
+use Rattle.ftl_model.specs.AttributeGrammar.{attributes_of}
+use Rattle.ftl_model.specs.Path.{Path, class_at, node_at, preorder}
 use Rattle.ftl_model.specs.Stack.{stack}
+use Rattle.ftl_model.specs.Table.{first_instance, instance_count, width_at}
+use Rattle.ftl_model.specs.Tree.{Forest, size}
 use Rattle.ftl_model.proofs.Numbering.{number_of-node_at}
 use Rattle.ftl_tree.specs.declared.rows.Node.{Node}
 use Rattle.ftl_tree.specs.declared.tree.Offsets.{Offsets}

@@ -1,12 +1,12 @@
 -- The tree of a tree's rows is the tree.
 use Rattle.std.proofs.Common.{◌≡◌, ℕ, suc, ◌+◌, ◌-◌, ◌≤◌, List, [], ◌∷◌, ◌++◌, ℤ, length, drop, refl, sym, ap, ◌∙◌, subst, arith, append_assoc}
 use Rattle.std.proofs.lemmas.List.{append-nil, take_at, drop_at}
-use Rattle.ftl_model.specs.Tree.{Forest, none, tree, size}
-use Rattle.ftl_model.specs.TreeOf.{IsTreeOf, FitBelow}
 use Rattle.ftl_model.specs.Path.{one_more}
-use Rattle.ftl_model.specs.Shape.{shape, shapes, forest_of}
+use Rattle.ftl_model.specs.Shape.{forest_of, shape, shapes}
 use Rattle.ftl_model.specs.ShapeLaws.{forest_of-shapes}
 use Rattle.ftl_model.specs.Stack.{stack}
+use Rattle.ftl_model.specs.Tree.{Forest, none, size, tree}
+use Rattle.ftl_model.specs.TreeOf.{FitBelow, IsTreeOf}
 use Rattle.ftl_tree.specs.declared.rows.Node.{Node}
 use Rattle.ftl_tree.specs.Rows.{node_rows, input_rows, rows_of}
 use Rattle.ftl_tree.specs.Flat.{shapes_of, tree_of, input_width, AreRows}

@@ -1,7 +1,7 @@
 -- Reading one box behind its name.
 use Rattle.std.proofs.Common.{◌≡◌, ℕ, zero, suc, ◌-◌, ◌<◌, Bool, List, [], ◌∷◌, ◌++◌, pos, length, Option, Some, refl, sym, ap, ◌∙◌, subst, arith}
+use Rattle.ftl_model.specs.Stack.{column, word}
 use Rattle.ftl_model.specs.Tree.{none}
-use Rattle.ftl_model.specs.Stack.{word, column}
 use Rattle.ftl_tree.specs.declared.symbol.Terminal.TheVariants.{Column, Word, Kids, Iw, Ih, LeftBrace, RightBrace, LeftBracket, Equals}
 use Rattle.ftl_tree.specs.declared.symbol.Symbol.{Symbol}
 use Rattle.ftl_tree.specs.declared.symbol.Symbol.TheVariants.{Fixed, Number}

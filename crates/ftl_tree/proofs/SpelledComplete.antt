@@ -1,9 +1,9 @@
 -- What symbols spell is read.
 use Rattle.std.proofs.Common.{◌≡◌, ℕ, ◌+◌, ◌-◌, ◌<◌, ◌≤◌, Bool, List, [], ◌∷◌, ◌++◌, pos, length, Option, Some, refl, sym, ap, ◌∙◌, arith, append_assoc}
 use Rattle.std.proofs.lemmas.List.{length_push}
-use Rattle.ftl_model.specs.Tree.{Forest, none, tree, size, depth, IsTree, class_of, inputs_of, below_of, beside_of}
 use Rattle.ftl_model.specs.Path.{one_more}
-use Rattle.ftl_model.specs.Stack.{sheet, word, column, only_child}
+use Rattle.ftl_model.specs.Stack.{column, only_child, sheet, word}
+use Rattle.ftl_model.specs.Tree.{Forest, IsTree, below_of, beside_of, class_of, depth, inputs_of, none, size, tree}
 use Rattle.ftl_tree.specs.declared.symbol.Terminal.TheVariants.{Column, Word, RightBrace, RightBracket}
 use Rattle.ftl_tree.specs.declared.symbol.Symbol.{Symbol}
 use Rattle.ftl_tree.specs.declared.symbol.Symbol.TheVariants.{Fixed}

@@ -1,8 +1,8 @@
 -- What is read as a document is spelled as one.
 use Rattle.std.proofs.Common.{◌≡◌, ℕ, suc, ◌+◌, ◌≤◌, List, [], ◌∷◌, ◌++◌, ℤ, length, Some, refl, sym, ap, ◌∙◌, arith}
 use Rattle.std.proofs.lemmas.List.{append-nil}
-use Rattle.ftl_model.specs.Tree.{Forest, none, tree, size, depth}
-use Rattle.ftl_model.specs.Stack.{sheet, only_child}
+use Rattle.ftl_model.specs.Stack.{only_child, sheet}
+use Rattle.ftl_model.specs.Tree.{Forest, depth, none, size, tree}
 use Rattle.ftl_tree.specs.declared.symbol.Terminal.TheVariants.{Sheet, Body, LeftBrace, RightBrace, Equals}
 use Rattle.ftl_tree.specs.declared.symbol.Symbol.{Symbol}
 use Rattle.ftl_tree.specs.Scanning.{Scanned}

@@ -1,8 +1,8 @@
 -- Symbols spell one document at most.
 use Rattle.std.proofs.Common.{◌≡◌, List, [], ◌∷◌, ◌++◌, pos, refl, sym, ap, ◌∙◌, append_assoc}
 use Rattle.std.proofs.lemmas.List.{append_cancel_right}
+use Rattle.ftl_model.specs.Stack.{column, only_child, sheet, word}
 use Rattle.ftl_model.specs.Tree.{Forest, none, tree}
-use Rattle.ftl_model.specs.Stack.{sheet, column, word, only_child}
 use Rattle.ftl_tree.specs.declared.symbol.Terminal.TheVariants.{RightBrace, RightBracket}
 use Rattle.ftl_tree.specs.declared.symbol.Symbol.{Symbol}
 use Rattle.ftl_tree.specs.declared.symbol.Symbol.TheVariants.{Fixed}

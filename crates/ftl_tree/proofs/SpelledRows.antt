@@ -1,9 +1,9 @@
 -- The rows of trees of boxes, as they are appended tree by tree.
 use Rattle.std.proofs.Common.{◌≡◌, ℕ, suc, ◌+◌, ◌-◌, List, [], ◌∷◌, ◌++◌, ℤ, length, set, refl, sym, ap, ◌∙◌, arith, append_assoc, length-append}
 use Rattle.std.proofs.lemmas.List.{append-nil, get_or_at, set_at, length_push}
-use Rattle.ftl_model.specs.Tree.{Forest, none, tree, size}
 use Rattle.ftl_model.specs.Path.{one_more}
-use Rattle.ftl_model.specs.Stack.{sheet, only_child}
+use Rattle.ftl_model.specs.Stack.{only_child, sheet}
+use Rattle.ftl_model.specs.Tree.{Forest, none, size, tree}
 use Rattle.ftl_tree.specs.declared.rows.Node.{Node}
 use Rattle.ftl_tree.specs.Rows.{RowLists, node_rows, input_rows, new_node, closed, rows_of}
 

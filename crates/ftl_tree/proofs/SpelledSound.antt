@@ -1,9 +1,9 @@
 -- What is read is spelled.
 use Rattle.std.proofs.Common.{◌≡◌, ◌≢◌, ℕ, zero, suc, ◌+◌, ◌<◌, ◌≤◌, Bool, true, false, cond, eqb, List, [], ◌∷◌, ◌++◌, ℤ, pos, length, Option, Some, None, refl, sym, ap, ◌∙◌, subst, arith, append_assoc}
 use Rattle.std.proofs.lemmas.List.{length_push}
-use Rattle.ftl_model.specs.Tree.{Forest, none, tree, size, depth}
 use Rattle.ftl_model.specs.Path.{one_more}
-use Rattle.ftl_model.specs.Stack.{word, column, only_child}
+use Rattle.ftl_model.specs.Stack.{column, only_child, word}
+use Rattle.ftl_model.specs.Tree.{Forest, depth, none, size, tree}
 use Rattle.ftl_tree.specs.declared.symbol.Terminal.{Terminal}
 use Rattle.ftl_tree.specs.declared.symbol.Terminal.TheVariants.{Column, Word, RightBrace, RightBracket}
 use Rattle.ftl_tree.specs.declared.symbol.Symbol.{Symbol}

@@ -2,15 +2,16 @@
 use Rattle.std.proofs.Common.{◌≡◌, ℕ, zero, suc, ◌<◌, ◌≤◌, false, List, [], ◌∷◌, ◌++◌, ℤ, pos, refl, arith}
 use Rattle.std.specs.List.{AllByRecursion}
 use Rattle.std.proofs.lemmas.Int.{ints}
-use Rattle.ftl_model.specs.Tree.{Forest, none, tree, count_in}
-use Rattle.ftl_model.specs.TreeOf.{IsInput, StartsFrom, FitsClass, FitBelow, IsTreeOf}
-use Rattle.ftl_model.specs.Stack.{stack, sheet, column, word, only_child}
+use Rattle.ftl_model.specs.Stack.{column, only_child, sheet, stack, word}
+use Rattle.ftl_model.specs.Tree.{Forest, count_in, none, tree}
+use Rattle.ftl_model.specs.TreeOf.{FitBelow, FitsClass, IsInput, IsTreeOf, StartsFrom}
+use Rattle.ftl_model.specs.Values.{narrow}
 use Rattle.ftl_tree.specs.declared.symbol.Symbol.{Symbol}
 use Rattle.ftl_tree.specs.Symbols.{IsSmall}
 use Rattle.ftl_tree.specs.Spelling.{SpellsBoxes, no_box, word_box, column_box, SpellsDocument, sheet_over, column_closing, sheet_closing}
 use Rattle.ftl_tree.proofs.SpelledSmall.{small_front, small_back}
 
-small_is_input : (n : ℕ) → n ≤ 2147483647 → IsInput (pos n)
+small_is_input : (n : ℕ) → n ≤ 2147483647 → IsInput narrow (pos n)
 small_is_input n h = (omega (arith, ints), omega (arith, ints, h))
 
 word_fits : (w h : ℕ) → w ≤ 2147483647 → h ≤ 2147483647 → FitsClass stack word (pos w ∷ (pos h ∷ [])) none

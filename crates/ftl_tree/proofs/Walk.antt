@@ -2,13 +2,13 @@
 -- nodes of the kid before.
 use Rattle.std.proofs.Common.{◌≡◌, ℕ, zero, suc, ◌+◌, ◌<◌, ◌≤◌, ◌⊎◌, inl, inr, Bool, true, false, cond, eqb, Some, length, refl, sym, ap, ◌∙◌, subst, arith, length-append, length-drop}
 use Rattle.std.proofs.lemmas.Bool.{cases_lt}
-use Rattle.ftl_model.specs.Tree.{Forest, none, tree, IsTree, below_of, size, count_in, from_kid, nodes_before}
-use Rattle.ftl_model.specs.TreeOf.{IsTreeOf, FitBelow}
-use Rattle.ftl_model.specs.Path.{Path, top, down, at, Has, class_at, kids_at, size_at, number_of, parent_of, nodes_below, preorder, node_at}
-use Rattle.ftl_model.specs.Stack.{stack, sheet, word}
+use Rattle.ftl_model.specs.Path.{Has, Path, at, class_at, down, kids_at, node_at, nodes_below, number_of, parent_of, preorder, size_at, top}
+use Rattle.ftl_model.specs.Stack.{sheet, stack, word}
+use Rattle.ftl_model.specs.Tree.{Forest, IsTree, below_of, count_in, from_kid, nodes_before, none, size, tree}
+use Rattle.ftl_model.specs.TreeOf.{FitBelow, IsTreeOf}
 use Rattle.ftl_model.proofs.Fits.{fits_at, kid_stands}
-use Rattle.ftl_model.proofs.Numbering.{length-preorder, length-nodes_below, number_of-node_at, has-node_at}
-use Rattle.ftl_model.proofs.Standing.{stands, node_at-number_of}
+use Rattle.ftl_model.proofs.Numbering.{has-node_at, length-nodes_below, length-preorder, number_of-node_at}
+use Rattle.ftl_model.proofs.Standing.{node_at-number_of, stands}
 
 -- a child of the stack grammar is the first
 pub first_child : (above d : ℕ) → d < stack.child_count above → d ≡ 0

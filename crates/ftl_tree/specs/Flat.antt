@@ -1,18 +1,18 @@
 -- A tree of the stack grammar in flat rows: which tree the rows are, and what is kept beside them.
 use Rattle.std.specs.Prelude.{◌≡◌, ℕ, ◌+◌, ◌-◌, ◌≤◌, List, [], ◌∷◌, length, take, drop, ℤ, ◌⊎◌}
+use Rattle.ftl_model.specs.AttributeGrammar.{attributes_of, class_inputs}
+use Rattle.ftl_model.specs.Path.{Path, class_at}
+use Rattle.ftl_model.specs.Shape.{Shape, forest_of, shape}
+use Rattle.ftl_model.specs.Stack.{stack, word, word_ih, word_iw}
 use Rattle.ftl_model.specs.Tree.{Forest, size}
 use Rattle.ftl_model.specs.TreeOf.{IsTreeOf}
-use Rattle.ftl_model.specs.Path.{Path, class_at}
-use Rattle.ftl_model.specs.Stack.{stack, word, word_iw, word_ih}
-use Rattle.ftl_model.specs.Solves.{attributes_of}
-use Rattle.ftl_model.specs.Shape.{Shape, shape, forest_of}
 use Rattle.ftl_tree.specs.declared.rows.Node.{Node}
 use Rattle.ftl_tree.specs.declared.tree.Offsets.{Offsets}
 use Rattle.ftl_tree.specs.Rows.{RowLists, rows_of}
 
 -- how many inputs and how many attributes a node of a class has
 abbrev pub input_width : ℕ → ℕ
-input_width class = stack.input_count class
+input_width class = length (class_inputs stack class)
 
 abbrev pub attribute_width : ℕ → ℕ
 attribute_width class = length (attributes_of stack class)

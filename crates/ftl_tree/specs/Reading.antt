@@ -1,6 +1,6 @@
 -- Reading the rows of a stack document, symbol by symbol. Each step takes a state to the next, or refuses.
 use Rattle.std.specs.Prelude.{◌≡◌, ◌≢◌, ℕ, zero, suc, ◌+◌, ◌==◌, Bool, false, if◌then◌else◌, List, [], ◌∷◌, ◌++◌, length, Option, Some, None, Result, Ok, Err, pos}
-use Rattle.ftl_model.specs.Stack.{sheet, column, word}
+use Rattle.ftl_model.specs.Stack.{column, sheet, word}
 use Rattle.ftl_tree.specs.declared.symbol.Terminal.{Terminal}
 use Rattle.ftl_tree.specs.declared.symbol.Terminal.TheVariants.{Sheet, Column, Word, Body, Kids, Iw, Ih, LeftBrace, RightBrace, LeftBracket, RightBracket, Equals}
 use Rattle.ftl_tree.specs.declared.symbol.Symbol.{Symbol}

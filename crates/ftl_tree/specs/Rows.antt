@@ -1,8 +1,8 @@
 -- The rows of a tree: a row for each node, in preorder, and the inputs of all nodes.
 use Rattle.std.specs.Prelude.{ℕ, suc, ◌+◌, ◌-◌, List, [], ◌∷◌, ◌++◌, ℤ, length, slice_set, slice_index_or}
-use Rattle.ftl_model.specs.Tree.{Forest, none, tree, size}
-use Rattle.ftl_model.specs.Path.{Path, top, down, one_more, class_at, child_at, kid_at, size_at, number_of}
+use Rattle.ftl_model.specs.Path.{Path, child_at, class_at, down, kid_at, number_of, one_more, size_at, top}
 use Rattle.ftl_model.specs.Stack.{only_child}
+use Rattle.ftl_model.specs.Tree.{Forest, none, size, tree}
 use Rattle.ftl_tree.specs.declared.rows.Node.{Node}
 
 -- The rows of trees side by side below the node numbered `up`, the first of them numbered n, so many kids of each child

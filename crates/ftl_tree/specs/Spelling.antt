@@ -1,7 +1,7 @@
 -- Which symbols spell which document.
 use Rattle.std.specs.Prelude.{ℕ, List, [], ◌∷◌, ◌++◌, ℤ, pos}
+use Rattle.ftl_model.specs.Stack.{column, only_child, sheet, word}
 use Rattle.ftl_model.specs.Tree.{Forest, none, tree}
-use Rattle.ftl_model.specs.Stack.{sheet, column, word, only_child}
 use Rattle.ftl_tree.specs.declared.symbol.Terminal.TheVariants.{Sheet, Column, Word, Body, Kids, Iw, Ih, LeftBrace, RightBrace, LeftBracket, RightBracket, Equals}
 use Rattle.ftl_tree.specs.declared.symbol.Symbol.{Symbol}
 use Rattle.ftl_tree.specs.declared.symbol.Symbol.TheVariants.{Fixed, Number}

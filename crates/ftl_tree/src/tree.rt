@@ -5,8 +5,10 @@ ghost use Rattle.std.specs.Option.{option_map};
 ghost use Rattle.ftl_model.specs.TreeOf.{IsTreeOf};
 ghost use Rattle.ftl_model.specs.Stack.{stack};
 ghost use Rattle.ftl_model.specs.Values.{number};
-ghost use Rattle.ftl_model.specs.Solves.{attributes_of, instance_of};
-ghost use Rattle.ftl_model.specs.Table.{place_in, instance_count, instance_number};
+ghost use Rattle.ftl_lists.specs.Lists.{place_in};
+ghost use Rattle.ftl_model.specs.AttributeGrammar.{attributes_of, input_value};
+ghost use Rattle.ftl_model.specs.Solves.{instance_of};
+ghost use Rattle.ftl_model.specs.Table.{instance_count, instance_number};
 ghost use Rattle.ftl_tree.specs.Rows.{RowLists, row_at};
 ghost use Rattle.ftl_tree.specs.Flat.{AreRows, IsInputAt, tree_of, offsets_from, attribute_width, input_width};
 
@@ -188,7 +190,9 @@ impl Tree {
     pub fn input(&self, node: u32, attr: u32) -> i64
         requires node { node < size self.now }
         requires attr { IsInputAt self.now (node_at self.now node) attr }
-        ensures { stack.given (class_at self.now (node_at self.now node)) attr (inputs_at self.now (node_at self.now node)) ≡ number result }
+        ensures { input_value stack (class_at self.now (node_at self.now node)) attr
+            (inputs_at self.now (node_at self.now node))
+            ≡ number result }
     {
         let offsets = self.offsets[node as usize];
         let place = offsets.input as usize + (attr - FIRST_INPUT) as usize;

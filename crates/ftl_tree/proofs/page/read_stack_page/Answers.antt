@@ -1,8 +1,8 @@
 use Rattle.std.proofs.Common.{◌≡◌, arith, length, take}
 use Rattle.std.proofs.lemmas.Result.{IfOk-weaker}
+use Rattle.ftl_model.specs.Stack.{stack}
 use Rattle.ftl_model.specs.Tree.{Forest}
 use Rattle.ftl_model.specs.TreeOf.{IsTreeOf}
-use Rattle.ftl_model.specs.Stack.{stack}
 use Rattle.ftl_tree.specs.Document.{IsDocument}
 use Rattle.ftl_tree.specs.FirstForm.{IsInFirstForm, heading}
 use Rattle.ftl_tree.proofs.Documents.{page_found, page_document, one_page, document_is_tree, pointwise-true}

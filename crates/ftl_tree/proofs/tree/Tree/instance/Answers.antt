@@ -1,8 +1,9 @@
 use Rattle.std.proofs.Common.{◌+◌, ◌∙◌, ap, length, arith}
-use Rattle.ftl_model.specs.Solves.{attributes_of}
-use Rattle.ftl_model.specs.Table.{place_in, first_instance}
+use Rattle.ftl_lists.specs.Lists.{place_in}
+use Rattle.ftl_model.specs.AttributeGrammar.{attributes_of}
 use Rattle.ftl_model.specs.Path.{node_at}
 use Rattle.ftl_model.specs.Stack.{stack}
+use Rattle.ftl_model.specs.Table.{first_instance}
 use Rattle.ftl_tree.specs.FlatTree.{rows_inside}
 use Rattle.ftl_tree.proofs.Access.{kept, length-nodes}
 use Rattle.ftl_tree.proofs.Inputs.{length-offsets_from}

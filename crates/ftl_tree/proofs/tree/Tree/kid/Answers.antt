@@ -1,6 +1,6 @@
 -- Each of the kids before this one was passed, and this one stands before the node's end.
 use Rattle.std.proofs.Common.{◌≡◌, ◌+◌, ◌<◌, suc, sym, ap, ◌∙◌, subst, arith, ℕ}
-use Rattle.ftl_model.specs.Path.{node_at, kids_at, number_of, down}
+use Rattle.ftl_model.specs.Path.{down, kids_at, node_at, number_of}
 use Rattle.ftl_tree.specs.declared.rows.Node.{Node as Row}
 use Rattle.ftl_tree.proofs.Walk.{Passed, Kid, node, passed_none, kid_counted, first_child}
 use Rattle.ftl_tree.proofs.tree.Tree.kid.Goals as goal

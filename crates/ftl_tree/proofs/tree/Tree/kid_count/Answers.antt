@@ -1,6 +1,6 @@
 -- Before the node's end stands a kid; at its end all kids were passed.
 use Rattle.std.proofs.Common.{◌≡◌, ◌+◌, ◌<◌, ◌≤◌, suc, sym, ap, ◌∙◌, subst, arith, ℕ}
-use Rattle.ftl_model.specs.Path.{node_at, size_at, kids_at}
+use Rattle.ftl_model.specs.Path.{kids_at, node_at, size_at}
 use Rattle.ftl_tree.specs.declared.rows.Node.{Node as Row}
 use Rattle.ftl_tree.proofs.Walk.{Passed, node, passed_none, kid_here, all_passed, first_child}
 use Rattle.ftl_tree.proofs.tree.Tree.kid_count.Goals as goal
