@@ -1,3 +1,5 @@
 pub use Rattle.ftl_model.specs.Values
-pub mod Kept
+pub mod Held
 pub mod Stacked
+pub mod Truths
+pub mod Widths
