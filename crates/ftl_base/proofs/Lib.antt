@@ -1,2 +1,4 @@
-mod Held
 mod Exact
+mod Held
+mod RowLemmas
+mod RowsNow

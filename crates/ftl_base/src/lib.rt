@@ -6,6 +6,7 @@
 
 mod arithmetic;
 mod comparison;
+mod engine;
 mod stack;
 #[cfg(test)]
 mod tests;
@@ -16,6 +17,7 @@ mod word;
 
 pub use arithmetic::{add, div_floor, greatest, least, mul, neg, sub};
 pub use comparison::{Cmp, compare};
+pub use engine::Engine;
 pub use stack::{CodeStack, Entry};
 pub use truth::{Truth, both, choose, either, not};
 pub use val::Val;
