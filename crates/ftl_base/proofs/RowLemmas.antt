@@ -31,7 +31,7 @@ set_value k (m ∷ ms) (w ∷ vs) [] v h = absurd (omega (arith, h.truth))
 set_value zero (m ∷ ms) (w ∷ vs) (t ∷ ts) v h = refl
 set_value (suc k) (m ∷ ms) (w ∷ vs) (t ∷ ts) v h =
     ap (λ (es : List Entry). entry_of m w t ∷ es)
-        (set_value k ms vs ts v (record { mark = omega (arith, h.mark); value = omega (arith, h.value); truth = omega (arith, h.truth) }))
+    (set_value k ms vs ts v (record { mark = omega (arith, h.mark); value = omega (arith, h.value); truth = omega (arith, h.truth) }))
 
 -- the place at the height gets a truth
 pub set_truth : (k : ℕ) (ms : List Bool) (vs : List Value) (ts : List Truth) (t : Truth) → Have k ms vs ts →
@@ -42,19 +42,19 @@ set_truth k (m ∷ ms) (w ∷ vs) [] t h = absurd (omega (arith, h.truth))
 set_truth zero (m ∷ ms) (w ∷ vs) (u ∷ ts) t h = refl
 set_truth (suc k) (m ∷ ms) (w ∷ vs) (u ∷ ts) t h =
     ap (λ (es : List Entry). entry_of m w u ∷ es)
-        (set_truth k ms vs ts t (record { mark = omega (arith, h.mark); value = omega (arith, h.value); truth = omega (arith, h.truth) }))
+    (set_truth k ms vs ts t (record { mark = omega (arith, h.mark); value = omega (arith, h.value); truth = omega (arith, h.truth) }))
 
 -- the entries up to a place end in the entry there
 pub last_entry : (k : ℕ) (ms : List Bool) (vs : List Value) (ts : List Truth) (m : Bool) (v : Value) (t : Truth) →
     Have k ms vs ts → take (suc k) (entries_of ms vs ts) ≡ take k (entries_of ms vs ts)
-        ++ entry_of (get_or ms k m) (get_or vs k v) (get_or ts k t) ∷ []
+    ++ entry_of (get_or ms k m) (get_or vs k v) (get_or ts k t) ∷ []
 last_entry k [] vs ts m v t h = absurd (omega (arith, h.mark))
 last_entry k (n ∷ ms) [] ts m v t h = absurd (omega (arith, h.value))
 last_entry k (n ∷ ms) (w ∷ vs) [] m v t h = absurd (omega (arith, h.truth))
 last_entry zero (n ∷ ms) (w ∷ vs) (u ∷ ts) m v t h = refl
 last_entry (suc k) (n ∷ ms) (w ∷ vs) (u ∷ ts) m v t h =
     ap (λ (es : List Entry). entry_of n w u ∷ es)
-        (last_entry k ms vs ts m v t (record { mark = omega (arith, h.mark); value = omega (arith, h.value); truth = omega (arith, h.truth) }))
+    (last_entry k ms vs ts m v t (record { mark = omega (arith, h.mark); value = omega (arith, h.value); truth = omega (arith, h.truth) }))
 
 -- what stands last is the same in two ends of one list
 pub same_last : (xs ys : List Entry) (x y : Entry) → xs ++ x ∷ [] ≡ ys ++ y ∷ [] → x ≡ y

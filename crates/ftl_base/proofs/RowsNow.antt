@@ -31,19 +31,19 @@ have s k r h = record { mark = omega (arith, r.marks); value = omega (arith, r.v
 
 pub pushed_value : (s : Inside) (v : Stacked) (x : Value) → stacked_of s ≡ v → AreRows s → length v.entries < v.room →
     take (s.height + 1) (entries_of (slice_set s.marks.items s.height false) (slice_set s.values.items s.height x) s.truths.items)
-        ≡ v.entries ++ Number x ∷ []
+    ≡ v.entries ++ Number x ∷ []
 pushed_value s v x e r h =
     rw add-one
-        (set_value s.height _ _ _ x (have s s.height r (has_place s v e r h))
-            ∙ ap (λ (w : Stacked). w.entries ++ Number x ∷ []) e)
+    (set_value s.height _ _ _ x (have s s.height r (has_place s v e r h))
+    ∙ ap (λ (w : Stacked). w.entries ++ Number x ∷ []) e)
 
 pub pushed_truth : (s : Inside) (v : Stacked) (x : Truth) → stacked_of s ≡ v → AreRows s → length v.entries < v.room →
     take (s.height + 1) (entries_of (slice_set s.marks.items s.height true) s.values.items (slice_set s.truths.items s.height x))
-        ≡ v.entries ++ Test x ∷ []
+    ≡ v.entries ++ Test x ∷ []
 pushed_truth s v x e r h =
     rw add-one
-        (set_truth s.height _ _ _ x (have s s.height r (has_place s v e r h))
-            ∙ ap (λ (w : Stacked). w.entries ++ Test x ∷ []) e)
+    (set_truth s.height _ _ _ x (have s s.height r (has_place s v e r h))
+    ∙ ap (λ (w : Stacked). w.entries ++ Test x ∷ []) e)
 
 -- the height before a pop
 above_zero : (s : Inside) (v : Stacked) (below : List Entry) (x : Entry) → stacked_of s ≡ v → AreRows s →
@@ -53,22 +53,22 @@ above_zero s v below x e r q =
 
 pub value_popped : (s : Inside) (v : Stacked) (d : Value) → stacked_of s ≡ v → AreRows s → EndsInValue v.entries →
     v.entries ≡ take (s.height - 1) (entries_of s.marks.items s.values.items s.truths.items)
-        ++ Number (get_or s.values.items (s.height - 1) d) ∷ []
+    ++ Number (get_or s.values.items (s.height - 1) d) ∷ []
 value_popped s v d e r (below, x, q) =
     let k = s.height - 1 in
     let up = above_zero s v below (Number x) e r q in
     let now : take s.height (entries_of s.marks.items s.values.items s.truths.items) ≡ v.entries = ap (λ (w : Stacked). w.entries) e in
     let at : take (suc k) (entries_of s.marks.items s.values.items s.truths.items) ≡ v.entries =
-        ap (λ (n : ℕ). take n (entries_of s.marks.items s.values.items s.truths.items)) (sym up) ∙ now in
+    ap (λ (n : ℕ). take n (entries_of s.marks.items s.values.items s.truths.items)) (sym up) ∙ now in
     sym at ∙ popped_value k _ _ _ true d x No below (have s k r (omega (arith, r.height))) (at ∙ q)
 
 pub truth_popped : (s : Inside) (v : Stacked) (d : Truth) → stacked_of s ≡ v → AreRows s → EndsInTruth v.entries →
     v.entries ≡ take (s.height - 1) (entries_of s.marks.items s.values.items s.truths.items)
-        ++ Test (get_or s.truths.items (s.height - 1) d) ∷ []
+    ++ Test (get_or s.truths.items (s.height - 1) d) ∷ []
 truth_popped s v d e r (below, x, q) =
     let k = s.height - 1 in
     let up = above_zero s v below (Test x) e r q in
     let now : take s.height (entries_of s.marks.items s.values.items s.truths.items) ≡ v.entries = ap (λ (w : Stacked). w.entries) e in
     let at : take (suc k) (entries_of s.marks.items s.values.items s.truths.items) ≡ v.entries =
-        ap (λ (n : ℕ). take n (entries_of s.marks.items s.values.items s.truths.items)) (sym up) ∙ now in
+    ap (λ (n : ℕ). take n (entries_of s.marks.items s.values.items s.truths.items)) (sym up) ∙ now in
     sym at ∙ popped_truth k _ _ _ true overflow d x below (have s k r (omega (arith, r.height))) (at ∙ q)

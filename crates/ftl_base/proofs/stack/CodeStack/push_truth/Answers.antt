@@ -22,10 +22,10 @@ invariant_of-self c =
     let place = has_place _ _ c.self.view_is c.self.invariant c.requires.has_room in
     let rows = c.self.invariant in
     record {
-        height = omega arith;
-        values = rows.values;
-        truths = length-set _ _ _ ∙ rows.truths;
-        marks = length-set _ _ _ ∙ rows.marks;
+      height = omega arith;
+      values = rows.values;
+      truths = length-set _ _ _ ∙ rows.truths;
+      marks = length-set _ _ _ ∙ rows.marks;
     }
 
 pub returns-clause-entries : goal.returns-clause-entries
