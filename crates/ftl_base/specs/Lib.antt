@@ -1,3 +1,6 @@
 pub use Rattle.ftl_model.specs.Values
-pub mod Kept
+pub mod Held
+pub mod Rows
 pub mod Stacked
+pub mod Truths
+pub mod Widths

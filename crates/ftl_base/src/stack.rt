@@ -5,6 +5,7 @@ ghost use Rattle.ftl_base.specs.Stacked.{EndsInValue, EndsInTruth};
 #[cfg(test)]
 mod tests;
 
+use crate::engine::Engine;
 use crate::truth::Truth;
 use crate::val::Val;
 use std::alloc::{AllocError, Global};
@@ -17,22 +18,26 @@ pub enum Entry {
     Test(Truth),
 }
 
-/// A stack of values and truths. It takes all its memory when it is made.
+/// A stack of values and truths. It takes all its memory when it is made: a row of values, a row of
+/// truths, and a row that marks the places whose entry is a truth.
 #[derive(Drop)]
 pub struct CodeStack {
     depth: u32,
-    entries: Vec<Entry>,
+    height: u32,
+    values: Vec<Val>,
+    truths: Vec<Truth>,
+    marks: Vec<bool>,
 }
 
 impl Model for CodeStack {
+    ghost use Rattle.ftl_base.specs.Rows.{stacked_of, AreRows};
     ghost use Rattle.ftl_base.specs.Stacked.{Stacked};
-    ghost use Rattle.std.specs.Prelude.{◌≤◌, length, vec_capacity};
 
     ghost Value = { Stacked };
 
-    ghost view = { λ s. record { room = s.depth; entries = s.entries.items } };
+    ghost view = { stacked_of };
 
-    ghost invariant = { λ s. (length s.entries.items ≤ s.depth) × (s.depth ≤ vec_capacity s.entries) };
+    ghost invariant = { AreRows };
 }
 
 impl CodeStack {
@@ -41,13 +46,18 @@ impl CodeStack {
         ensures room { IfOk result (λ s. s.room ≡ depth) }
         ensures empty { IfOk result (λ s. s.entries ≡ []) }
     {
-        let entries = Vec::with_capacity(alloc, depth as usize)?;
-        Ok(CodeStack { depth, entries })
+        Ok(CodeStack {
+            depth,
+            height: 0,
+            values: Vec::from_elem(alloc, Val::overflow(), depth as usize)?,
+            truths: Vec::from_elem(alloc, Truth::Overflow, depth as usize)?,
+            marks: Vec::from_elem(alloc, false, depth as usize)?,
+        })
     }
 
     /// For how many entries there is room.
     pub fn room(&self) -> u32
-        ensures { result ≡ self.now.room }
+        ensures room { result ≡ self.now.room }
     {
         self.depth
     }
@@ -57,64 +67,62 @@ impl CodeStack {
         ensures empty { self.new.entries ≡ [] }
         ensures room { self.new.room ≡ self.old.room }
     {
-        self.entries.clear();
-    }
-
-    fn push(&mut self, entry: Entry)
-        requires { length self.old.entries < self.old.room }
-        ensures entries { self.new.entries ≡ self.old.entries ++ entry ∷ [] }
-        ensures room { self.new.room ≡ self.old.room }
-    {
-        self.entries.push(entry).unwrap();
+        self.height = 0;
     }
 
     /// Adds a value at the end.
     pub fn push_val(&mut self, v: Val)
-        requires { length self.old.entries < self.old.room }
+        requires has_room { length self.old.entries < self.old.room }
         ensures entries { self.new.entries ≡ self.old.entries ++ Entry.Number v ∷ [] }
         ensures room { self.new.room ≡ self.old.room }
     {
-        self.push(Entry::Number(v));
+        let place = self.height as usize;
+        self.values[place] = v;
+        self.marks[place] = false;
+        self.height += 1;
     }
 
     /// Adds a truth at the end.
     pub fn push_truth(&mut self, t: Truth)
-        requires { length self.old.entries < self.old.room }
+        requires has_room { length self.old.entries < self.old.room }
         ensures entries { self.new.entries ≡ self.old.entries ++ Entry.Test t ∷ [] }
         ensures room { self.new.room ≡ self.old.room }
     {
-        self.push(Entry::Test(t));
-    }
-
-    fn pop(&mut self) -> Entry
-        requires { 0 < length self.old.entries }
-        ensures entries { self.old.entries ≡ self.new.entries ++ result ∷ [] }
-        ensures room { self.new.room ≡ self.old.room }
-    {
-        self.entries.pop().unwrap()
+        let place = self.height as usize;
+        self.truths[place] = t;
+        self.marks[place] = true;
+        self.height += 1;
     }
 
     /// Takes off the last entry, a value.
     pub fn pop_val(&mut self) -> Val
-        requires { EndsInValue self.old.entries }
+        requires last { EndsInValue self.old.entries }
         ensures entries { self.old.entries ≡ self.new.entries ++ Entry.Number result ∷ [] }
         ensures room { self.new.room ≡ self.old.room }
     {
-        match self.pop() {
-            Entry::Number(v) => v,
-            Entry::Test(_) => unreachable!(),
-        }
+        self.height -= 1;
+        self.values[self.height as usize]
     }
 
     /// Takes off the last entry, a truth.
     pub fn pop_truth(&mut self) -> Truth
-        requires { EndsInTruth self.old.entries }
+        requires last { EndsInTruth self.old.entries }
         ensures entries { self.old.entries ≡ self.new.entries ++ Entry.Test result ∷ [] }
         ensures room { self.new.room ≡ self.old.room }
     {
-        match self.pop() {
-            Entry::Test(t) => t,
-            Entry::Number(_) => unreachable!(),
-        }
+        self.height -= 1;
+        self.truths[self.height as usize]
+    }
+
+    /// Lends both rows to an engine, each as long as the room, and is empty afterwards.
+    pub fn lend<E: Engine>(&mut self, engine: E) -> Val
+        requires room { E.may_run engine self.old.room }
+        ensures gives { E.may_give engine result }
+        ensures empty { self.new.entries ≡ [] }
+        ensures room { self.new.room ≡ self.old.room }
+    {
+        let answer = engine.run(&mut self.values, &mut self.truths);
+        self.height = 0;
+        answer
     }
 }

@@ -1,51 +1,51 @@
-ghost use Rattle.std.specs.Prelude.{◌≡◌, ℤ, ◌≤ℤ◌, ◌↔◌, MatchOption};
-ghost use Rattle.ftl_model.specs.Values.{value_of, sum_of, greatest_of, IsValue, number, overflow};
+ghost use Rattle.std.specs.Prelude.{◌≡◌, MatchOption};
+ghost use Rattle.ftl_model.specs.Values.{value_of, wide, IsValue, number, overflow};
+ghost use Rattle.ftl_base.specs.Widths.{greatest_of_width};
 
+use crate::width::Width;
 use std::marker::Model;
 
-/// A value of an attribute: a whole number from -2147483648 to 2147483647, or Overflow.
+/// The greatest number of both widths.
+const GREATEST: i64 = 140737488355327;
+
+/// A value of an attribute: a whole number from -140737488355328 to 140737488355327, or Overflow.
+/// It is held as one machine number, Overflow as the one after the greatest.
 #[derive(Clone, Copy, Debug, PartialEq, Eq)]
 pub struct Val {
-    kept: Kept,
-}
-
-#[derive(Clone, Copy, Debug, PartialEq, Eq)]
-enum Kept {
-    Number(i32),
-    Overflow,
+    pub(crate) number: i64,
 }
 
 impl Model for Val {
+    ghost use Rattle.std.specs.Prelude.{◌≡◌};
     ghost use Rattle.ftl_model.specs.Values;
+    ghost use Rattle.ftl_base.specs.Held.{IsHeld, holder_of};
+    ghost use Rattle.std.proofs.Common.{arith};
+    ghost use Rattle.std.proofs.lemmas.Int.{ints};
 
     ghost Value = { Values.Value };
 
-    ghost use Rattle.ftl_base.specs.Kept.{value_of_kept, kept_of, kept_again};
+    ghost view = { λ v. Values.value_of Values.wide v.number };
 
-    ghost view = { λ v. value_of_kept v.kept };
+    ghost invariant = { λ v. IsHeld v.number };
 
-    ghost inverse = { λ v. record { kept = kept_of v } };
+    ghost inverse = { λ v. record { number = holder_of v } };
 
-    ghost inverse_ok = { λ v h. kept_again v };
+    ghost inverse_ok = { λ v h. Prim.grind (arith, ints) };
 }
 
 impl Val {
-    /// The value of a number: itself in range, and Overflow out of range.
+    /// The value of a number: itself in the wide range, and Overflow out of it.
     pub fn num(n: i64) -> Val
-        ensures { result ≡ value_of n }
+        ensures value { result ≡ value_of wide n }
     {
-        let kept = match i32::try_from(n) {
-            Ok(number) => Kept::Number(number),
-            Err(_) => Kept::Overflow,
-        };
-        Val { kept }
+        Width::Wide.value(n)
     }
 
     pub fn overflow() -> Val
-        ensures { result ≡ overflow }
+        ensures value { result ≡ overflow }
     {
         Val {
-            kept: Kept::Overflow,
+            number: GREATEST + 1,
         }
     }
 
@@ -54,29 +54,24 @@ impl Val {
         ensures number { MatchOption result (self ≡ overflow) (λ n. self ≡ number n) }
         ensures in_range { IsValue self }
     {
-        match self.kept {
-            Kept::Number(n) => Some(n as i64),
-            Kept::Overflow => None,
+        if self.number <= GREATEST {
+            Some(self.number)
+        } else {
+            None
         }
     }
 }
 
-/// The sum. A sum out of range is Overflow, and so is a sum with Overflow.
-pub fn add(a: Val, b: Val) -> Val
-    ensures { result ≡ sum_of a b }
-{
-    match (a.get(), b.get()) {
-        (Some(m), Some(n)) => Val::num(m + n),
-        _ => Val::overflow(),
-    }
-}
-
-/// The greatest of two values, or Overflow where one of them is.
-pub fn greatest(a: Val, b: Val) -> Val
-    ensures { result ≡ greatest_of a b }
-{
-    match (a.get(), b.get()) {
-        (Some(m), Some(n)) => Val::num(m.max(n)),
-        _ => Val::overflow(),
+impl Width {
+    /// The value of an exact result: itself in the range of the width, and Overflow out of it.
+    pub(crate) fn value(self, n: i64) -> Val
+        ensures value { result ≡ value_of (greatest_of_width self) n }
+    {
+        let greatest = self.greatest_number() as i64;
+        if -greatest - 1 <= n && n <= greatest {
+            Val { number: n }
+        } else {
+            Val::overflow()
+        }
     }
 }

@@ -4,32 +4,29 @@ ghost use Rattle.ftl_model.specs.Values.{Value, IsValue, word_of_value};
 use crate::val::Val;
 
 /// The word of the number 0. The words of the other numbers stand below and above it.
-const ZERO: u64 = 2147483649;
+const ZERO: i64 = 140737488355329;
 
 /// The word of Overflow, and the greatest word of a value.
-const OVERFLOW: u64 = 4294967297;
+const OVERFLOW: u64 = 281474976710657;
 
 /// The word that stands for a value in a cell. It is never 0, which says that a cell is empty.
 pub fn word_of(v: Val) -> u64
     ensures word { result ≡ word_of_value v }
     ensures not_empty { 0 < result }
-    ensures bound { result ≤ 4294967297 }
+    ensures bound { result ≤ 281474976710657 }
 {
-    match v.get() {
-        Some(n) => (n + ZERO as i64) as u64,
-        None => OVERFLOW,
-    }
+    (v.number + ZERO) as u64
 }
 
-/// The value that a word stands for. 0 and words above 4294967297 stand for none.
+/// The value that a word stands for. 0 and words above 281474976710657 stand for none.
 pub fn val_of(word: u64) -> Option<Val>
-    ensures value { MatchOption result ((word ≡ 0) ⊎ (4294967297 < word)) (λ v. word ≡ word_of_value v) }
+    ensures value { MatchOption result ((word ≡ 0) ⊎ (281474976710657 < word)) (λ v. word ≡ word_of_value v) }
     ensures only { (v : Value) → IsValue v → word ≡ word_of_value v → result ≡ Some v }
 {
     match word {
-        0 => None,
-        OVERFLOW => Some(Val::overflow()),
-        _ if word < OVERFLOW => Some(Val::num(word as i64 - ZERO as i64)),
+        1..=OVERFLOW => Some(Val {
+            number: word as i64 - ZERO,
+        }),
         _ => None,
     }
 }

@@ -1,0 +1,4 @@
+mod Exact
+mod Held
+mod RowLemmas
+mod RowsNow
