@@ -4,14 +4,14 @@ use Rattle.std.specs.Prelude.{codes}
 use Rattle.std.specs.List.{flat_map, list_any}
 use Rattle.std.specs.Fmt.{decimal}
 use Rattle.std.proofs.lemmas.List.{take_more, flat_map_more, at_drop_more, at_drop_all, take_all, get_or_read}
-use Rattle.ftl_model.specs.Values.{overflow}
-use Rattle.ftl_model.specs.Tree.{Forest, size}
-use Rattle.ftl_model.specs.TreeOf.{IsTreeOf}
-use Rattle.ftl_model.specs.Path.{Path, top, class_at, number_of, preorder, node_at}
-use Rattle.ftl_model.specs.Boxes.{node_line, field_text, boxes, is_overflow}
+use Rattle.ftl_model.specs.Boxes.{boxes, field_text, is_overflow, node_line}
+use Rattle.ftl_model.specs.Path.{Path, class_at, node_at, number_of, preorder, top}
 use Rattle.ftl_model.specs.Solves.{instance_of}
 use Rattle.ftl_model.specs.Stack.{stack}
-use Rattle.ftl_model.specs.StackNames.{stack_names, stack_class_name, stack_shown}
+use Rattle.ftl_model.specs.StackNames.{stack_class_name, stack_names, stack_shown}
+use Rattle.ftl_model.specs.Tree.{Forest, size}
+use Rattle.ftl_model.specs.TreeOf.{IsTreeOf}
+use Rattle.ftl_model.specs.Values.{overflow}
 use Rattle.ftl_model.proofs.Numbering.{length-preorder, number_of-node_at}
 use Rattle.ftl_tree.proofs.Access.{size-one}
 use Rattle.ftl_stack.specs.declared.area.Area.{Area}

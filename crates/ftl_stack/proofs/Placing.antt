@@ -1,11 +1,11 @@
 -- Places: what the rules give for the kids of a node, and that writes at other nodes leave it.
 use Rattle.std.proofs.Common.{◌≡◌, ◌≢◌, ℕ, zero, suc, ◌+◌, ◌<◌, ◌≤◌, ◌⊎◌, inl, inr, Bool, true, false, cond, eqb, List, pos, Some, length, get_or, set, refl, sym, ap, ◌∙◌, subst, arith}
 use Rattle.std.proofs.lemmas.Bool.{cases_eq, cases_lt}
-use Rattle.ftl_model.specs.Values.{Value, value_of, sum_of}
-use Rattle.ftl_model.specs.Tree.{Forest, size}
-use Rattle.ftl_model.specs.Path.{Path, down, Has, class_at, kids_at, size_at, number_of, parent_of, node_at}
+use Rattle.ftl_model.specs.Path.{Has, Path, class_at, down, kids_at, node_at, number_of, parent_of, size_at}
 use Rattle.ftl_model.specs.Solves.{seen_from}
-use Rattle.ftl_model.specs.Stack.{stack, sheet, column, box_x, box_y, body_origin, kids_x, kids_y, kids_y_value}
+use Rattle.ftl_model.specs.Stack.{body_origin, box_x, box_y, column, kids_x, kids_y, kids_y_value, sheet, stack}
+use Rattle.ftl_model.specs.Tree.{Forest, size}
+use Rattle.ftl_model.specs.Values.{Value, narrow, sum_of, value_of, wide}
 use Rattle.ftl_stack.specs.declared.area.Area.{Area}
 use Rattle.ftl_stack.specs.TableOf.{area_at, table_of}
 use Rattle.ftl_stack.specs.Solving.{kid_x_by, kid_y_by, IsPlaced, KidsPlaced, SameSizes, OnlyKids}
@@ -23,17 +23,17 @@ kid_x_by-same t old new p k here = go (eqb (class_at t p) 0)
 
 kids_y-same : (t : Forest) (old new : List Area) (p : Path) (k : ℕ) → area_at t new p ≡ area_at t old p
     → ((j : ℕ) → k ≡ suc j → area_at t new (down 0 j p) ≡ area_at t old (down 0 j p))
-    → kids_y_value k (λ o. table_of t new (seen_from p o)) ≡ kids_y_value k (λ o. table_of t old (seen_from p o))
+    → kids_y_value narrow k (λ o. table_of t new (seen_from p o)) ≡ kids_y_value narrow k (λ o. table_of t old (seen_from p o))
 kids_y-same t old new p zero here before = ap (λ (b : Area). b.y) here
-kids_y-same t old new p (suc j) here before = ap (λ (b : Area). sum_of b.y b.h) (before j refl)
+kids_y-same t old new p (suc j) here before = ap (λ (b : Area). sum_of narrow b.y b.h) (before j refl)
 
 kid_y_by-same : (t : Forest) (old new : List Area) (p : Path) (k : ℕ) → area_at t new p ≡ area_at t old p
     → ((j : ℕ) → k ≡ suc j → area_at t new (down 0 j p) ≡ area_at t old (down 0 j p))
     → kid_y_by t new p k ≡ kid_y_by t old p k
 kid_y_by-same t old new p k here before = go (eqb (class_at t p) 0)
   where
-    go : (s : Bool) → (cond s body_origin kids_y).value (kids_at t p) k (λ o. table_of t new (seen_from p o)) ≡
-        (cond s body_origin kids_y).value (kids_at t p) k (λ o. table_of t old (seen_from p o))
+    go : (s : Bool) → (cond s body_origin (kids_y narrow)).value (kids_at t p) k (λ o. table_of t new (seen_from p o)) ≡
+        (cond s body_origin (kids_y narrow)).value (kids_at t p) k (λ o. table_of t old (seen_from p o))
     go true = refl
     go false = kids_y-same t old new p k here before
 
@@ -157,7 +157,7 @@ pub record Stacked (t : Forest) (old new : List Area) (n kid : ℕ) (y : Value) 
   pub k : ℕ
   pub placing : Placing t old new n k kid
   pub own : area_at t new (node_at t n) ≡ get_or old n no_area
-  pub below : y ≡ kids_y_value k (λ o. table_of t new (seen_from (node_at t n) o))
+  pub below : y ≡ kids_y_value narrow k (λ o. table_of t new (seen_from (node_at t n) o))
 
 pub stacked_none : (t : Forest) (old : List Area) (n : ℕ) (y : Value) → Node t n → y ≡ (get_or old n no_area).y
     → Stacked t old old n (n + 1) y
@@ -173,7 +173,7 @@ stacked_none t old n y at y_is =
 pub stacked_more : (t : Forest) (old new : List Area) (n kid step : ℕ) (a : Area) (x y y' : Value) → Node t n
     → length new ≡ size t → class_at t (node_at t n) ≡ column → (h : Stacked t old new n kid y) → Kid t n h.k kid
     → a ≡ get_or new kid no_area → x ≡ (get_or old n no_area).x → step ≡ size_at t (node_at t kid)
-    → y' ≡ sum_of y a.h → Stacked t old (set new kid (moved x y a)) n (kid + step) y'
+    → y' ≡ sum_of narrow y a.h → Stacked t old (set new kid (moved x y a)) n (kid + step) y'
 stacked_more t old new n kid step a x y y' at count class h this read x_is far y'_is =
     let p = node_at t n in
     let x_by : x ≡ kid_x_by t new p h.k = x_is ∙ sym (ap (λ (b : Area). b.x) h.own)
@@ -191,13 +191,13 @@ stacked_more t old new n kid step a x y y' at count class h this read x_is far y
       placing = subst (λ (m : ℕ). Placing t old (set new kid (moved x y a)) n (suc h.k) (kid + m)) (sym far)
           (placing_more t old new n h.k kid a x y at count h.placing this read x_by y_by);
       own = own ∙ h.own;
-      below = y'_is ∙ sym (ap (λ (b : Area). sum_of b.y b.h) here);
+      below = y'_is ∙ sym (ap (λ (b : Area). sum_of narrow b.y b.h) here);
     }
 
 -- the body of a sheet is put at 0, 0
 pub body_placed : (t : Forest) (old : List Area) (n : ℕ) (a : Area) (x y : Value) → Node t n → length old ≡ size t
-    → class_at t (node_at t n) ≡ sheet → a ≡ get_or old (n + 1) no_area → x ≡ value_of (pos 0)
-    → y ≡ value_of (pos 0) → Kid t n 0 (n + 1) → Placing t old (set old (n + 1) (moved x y a)) n 1
+    → class_at t (node_at t n) ≡ sheet → a ≡ get_or old (n + 1) no_area → x ≡ value_of wide (pos 0)
+    → y ≡ value_of wide (pos 0) → Kid t n 0 (n + 1) → Placing t old (set old (n + 1) (moved x y a)) n 1
     (n + 1 + size_at t (node_at t (n + 1)))
 body_placed t old n a x y at count class read x_is y_is this =
     let p = node_at t n in

@@ -1,15 +1,17 @@
 -- Sizes: what the rules give for a node by its kids' areas, and that later writes leave it.
-use Rattle.std.proofs.Common.{◌≡◌, ◌≢◌, ℕ, zero, suc, ◌+◌, ◌<◌, ◌≤◌, ◌⊎◌, inl, inr, Bool, true, false, cond, ◌&&◌, eqb, List, [], ◌∷◌, ℤ, pos, ◌≤ℤ◌, int_le, length, get_or, set, refl, sym, ap, ◌∙◌, subst, arith}
+use Rattle.std.proofs.Common.{◌≡◌, ◌≢◌, ℕ, zero, suc, ◌+◌, ◌<◌, ◌≤◌, ◌⊎◌, inl, inr, Bool, true, false, cond, ◌&&◌, eqb, List, [], ◌∷◌, ℤ, pos, negsuc, ◌≤ℤ◌, int_le, length, get_or, set, refl, sym, ap, ◌∙◌, subst, arith}
 use Rattle.std.proofs.lemmas.Bool.{cases_eq, cond-true, and_from}
 use Rattle.std.proofs.lemmas.Int.{ints}
 use Rattle.std.proofs.lemmas.List.{get_or-set_same, get_or-set_other}
-use Rattle.ftl_model.specs.Values.{Value, number, overflow, value_of, sum_of, greatest_of, least_number, greatest_number}
+use Rattle.ftl_lists.specs.Lists.{place_in}
+use Rattle.ftl_model.specs.AttributeGrammar.{class_inputs, input_value}
 use Rattle.ftl_model.specs.Folds.{fold_kids}
-use Rattle.ftl_model.specs.Tree.{Forest}
-use Rattle.ftl_model.specs.TreeOf.{IsInput, AreInputs}
-use Rattle.ftl_model.specs.Path.{Path, down, Has, class_at, inputs_at, kids_at, size_at, number_of, node_at}
+use Rattle.ftl_model.specs.Path.{Has, Path, class_at, down, inputs_at, kids_at, node_at, number_of, size_at}
 use Rattle.ftl_model.specs.Solves.{seen_from}
-use Rattle.ftl_model.specs.Stack.{stack, sheet, column, word, box_w, box_h, word_iw, word_ih, sheet_h, column_w, column_h, word_w, word_h}
+use Rattle.ftl_model.specs.Stack.{box_h, box_w, column, column_h, column_w, sheet, sheet_h, stack, word, word_h, word_ih, word_iw, word_w}
+use Rattle.ftl_model.specs.Tree.{Forest}
+use Rattle.ftl_model.specs.TreeOf.{AreInputs, IsInput}
+use Rattle.ftl_model.specs.Values.{Value, greatest_of, narrow, number, overflow, sum_of, value_of, wide}
 use Rattle.ftl_model.proofs.Fits.{fits_at}
 use Rattle.ftl_stack.specs.declared.area.Area.{Area}
 use Rattle.ftl_stack.specs.TableOf.{area_at, table_of}
@@ -61,14 +63,14 @@ height_by-same : (t : Forest) (old new : List Area) (p : Path) → SameKids t ol
     → height_by t new p ≡ height_by t old p
 height_by-same t old new p h = go (eqb (class_at t p) 0) (eqb (class_at t p) 1)
   where
-    go : (s c : Bool) → (cond s sheet_h (cond c column_h word_h)).value (kids_at t p) 0
-        (λ o. table_of t new (seen_from p o)) ≡ (cond s sheet_h (cond c column_h word_h)).value (kids_at t p) 0
+    go : (s c : Bool) → (cond s sheet_h (cond c (column_h narrow) word_h)).value (kids_at t p) 0
+        (λ o. table_of t new (seen_from p o)) ≡ (cond s sheet_h (cond c (column_h narrow) word_h)).value (kids_at t p) 0
         (λ o. table_of t old (seen_from p o))
     go true c = h.height 0
     go false true =
-        fold-same (kids_at t p 0) (λ acc k. sum_of acc (area_at t new (down 0 k p)).h)
-        (λ acc k. sum_of acc (area_at t old (down 0 k p)).h) (number (pos 0))
-        (λ acc k. ap (sum_of acc) (h.height k))
+        fold-same (kids_at t p 0) (λ acc k. sum_of narrow acc (area_at t new (down 0 k p)).h)
+        (λ acc k. sum_of narrow acc (area_at t old (down 0 k p)).h) (number (pos 0))
+        (λ acc k. ap (sum_of narrow acc) (h.height k))
     go false false = refl
 
 -- a node keeps its size where it and its kids have the same sizes
@@ -127,15 +129,15 @@ pub record Folded (t : Forest) (areas : List Area) (n kid : ℕ) (w h : Value) :
   pub k : ℕ
   pub passed : Passed t n k kid
   pub width : w ≡ fold_kids k (λ acc j. greatest_of acc (area_at t areas (down 0 j (node_at t n))).w) (number (pos 0))
-  pub height : h ≡ fold_kids k (λ acc j. sum_of acc (area_at t areas (down 0 j (node_at t n))).h) (number (pos 0))
+  pub height : h ≡ fold_kids k (λ acc j. sum_of narrow acc (area_at t areas (down 0 j (node_at t n))).h) (number (pos 0))
 
-pub folded_none : (t : Forest) (areas : List Area) (n : ℕ) (w h : Value) → Node t n → w ≡ value_of (pos 0)
-    → h ≡ value_of (pos 0) → Folded t areas n (n + 1) w h
+pub folded_none : (t : Forest) (areas : List Area) (n : ℕ) (w h : Value) → Node t n → w ≡ value_of wide (pos 0)
+    → h ≡ value_of wide (pos 0) → Folded t areas n (n + 1) w h
 folded_none t areas n w h at w_is h_is = record { k = 0; passed = passed_none t n at; width = w_is; height = h_is }
 
 pub folded_more : (t : Forest) (areas : List Area) (n kid step : ℕ) (w h w' h' : Value) (a : Area) → Node t n
     → Folded t areas n kid w h → kid < n + size_at t (node_at t n) → a ≡ get_or areas kid no_area
-    → step ≡ size_at t (node_at t kid) → w' ≡ greatest_of w a.w → h' ≡ sum_of h a.h
+    → step ≡ size_at t (node_at t kid) → w' ≡ greatest_of w a.w → h' ≡ sum_of narrow h a.h
     → Folded t areas n (kid + step) w' h'
 folded_more t areas n kid step w h w' h' a at f less is far w_is h_is =
     let this = kid_here t n f.k kid at f.passed less in
@@ -147,8 +149,8 @@ folded_more t areas n kid step w h w' h' a at f less is far w_is h_is =
       width = w_is ∙ ap (λ v. greatest_of v a.w) f.width ∙ ap
           (λ (b : Area). greatest_of (fold_kids f.k
           (λ acc j. greatest_of acc (area_at t areas (down 0 j (node_at t n))).w) (number (pos 0))) b.w) here;
-      height = h_is ∙ ap (λ v. sum_of v a.h) f.height ∙ ap
-          (λ (b : Area). sum_of (fold_kids f.k (λ acc j. sum_of acc (area_at t areas (down 0 j (node_at t n))).h)
+      height = h_is ∙ ap (λ v. sum_of narrow v a.h) f.height ∙ ap
+          (λ (b : Area). sum_of narrow (fold_kids f.k (λ acc j. sum_of narrow acc (area_at t areas (down 0 j (node_at t n))).h)
           (number (pos 0))) b.h) here;
     }
 
@@ -167,7 +169,7 @@ folded_all t areas n kid w h at f end class =
           (number (pos 0))) all
           ∙ sym (ap (λ c. (stack.self_rule c box_w).value (kids_at t p) 0 (λ o. table_of t areas (seen_from p o)))
           class);
-      height = f.height ∙ ap (λ m. fold_kids m (λ acc j. sum_of acc (area_at t areas (down 0 j p)).h)
+      height = f.height ∙ ap (λ m. fold_kids m (λ acc j. sum_of narrow acc (area_at t areas (down 0 j p)).h)
           (number (pos 0))) all
           ∙ sym (ap (λ c. (stack.self_rule c box_h).value (kids_at t p) 0 (λ o. table_of t areas (seen_from p o)))
           class);
@@ -184,47 +186,36 @@ sheet_height t areas n a at class is =
 le_tested : (a b : ℤ) → a ≤ℤ b → int_le a b ≡ true
 le_tested a b h = grind (arith, ints)
 
-input_value : (n : ℤ) → IsInput n → value_of n ≡ number n
-input_value n h =
-    cond-true (int_le least_number n && int_le n greatest_number) (number n) overflow
-    (and_from (int_le least_number n) (int_le n greatest_number)
-    (le_tested least_number n (omega (arith, ints, h.0))) (le_tested n greatest_number h.1))
+input_is_value : (n : ℤ) → IsInput narrow n → value_of wide n ≡ number n
+input_is_value n h =
+    cond-true (int_le (negsuc wide) n && int_le n (pos wide)) (number n) overflow
+    (and_from (int_le (negsuc wide) n) (int_le n (pos wide))
+    (le_tested (negsuc wide) n (omega (arith, ints, h.0))) (le_tested n (pos wide) (omega (arith, ints, h.1))))
 
-input_or : (ns : List ℤ) (i : ℕ) → AreInputs ns → IsInput (get_or ns i (pos 0))
+input_or : (ns : List ℤ) (i : ℕ) → AreInputs narrow ns → IsInput narrow (get_or ns i (pos 0))
 input_or [] i h = (omega (arith, ints), omega (arith, ints))
 input_or (n ∷ ns) zero h = h.0
 input_or (n ∷ ns) (suc i) h = input_or ns i h.1
 
 -- an input is in range
 pub given_value : (t : Forest) (n a : ℕ) (given : ℤ) → Node t n
-    → stack.given (class_at t (node_at t n)) a (inputs_at t (node_at t n)) ≡ number given
-    → value_of given ≡ stack.given (class_at t (node_at t n)) a (inputs_at t (node_at t n))
-given_value t n a given at is = go (eqb a 5) is
-  where
-    number-is : (m k : ℤ) → number m ≡ number k → m ≡ k
-    number-is m k e = cc
-
-    one : (i : ℕ) → number (get_or (inputs_at t (node_at t n)) i (pos 0)) ≡ number given
-        → value_of given ≡ number (get_or (inputs_at t (node_at t n)) i (pos 0))
-    one i e =
-        input_value given (subst IsInput (number-is (get_or (inputs_at t (node_at t n)) i (pos 0)) given e)
-        (input_or (inputs_at t (node_at t n)) i (fits_at stack t (node_at t n) at.is_tree at.has).class.numbers))
-        ∙ sym e
-
-    go : (first : Bool) → cond first (number (get_or (inputs_at t (node_at t n)) 0 (pos 0)))
-        (number (get_or (inputs_at t (node_at t n)) 1 (pos 0))) ≡ number given
-        → value_of given ≡ cond first (number (get_or (inputs_at t (node_at t n)) 0 (pos 0)))
-        (number (get_or (inputs_at t (node_at t n)) 1 (pos 0)))
-    go true e = one 0 e
-    go false e = one 1 e
+    → input_value stack (class_at t (node_at t n)) a (inputs_at t (node_at t n)) ≡ number given
+    → value_of wide given ≡ input_value stack (class_at t (node_at t n)) a (inputs_at t (node_at t n))
+given_value t n a given at is =
+    let numbers = inputs_at t (node_at t n) in
+    let i = place_in (class_inputs stack (class_at t (node_at t n))) a in
+    let same : get_or numbers i (pos 0) ≡ given = cc is in
+    input_is_value given
+    (subst (IsInput narrow) same (input_or numbers i (fits_at stack t (node_at t n) at.is_tree at.has).class.numbers))
+    ∙ sym is
 
 -- the size of a word is its inputs
 pub word_width : (t : Forest) (areas : List Area) (p : Path) → class_at t p ≡ word
-    → width_by t areas p ≡ stack.given (class_at t p) word_iw (inputs_at t p)
+    → width_by t areas p ≡ input_value stack (class_at t p) word_iw (inputs_at t p)
 word_width t areas p class =
     ap (λ c. (stack.self_rule c box_w).value (kids_at t p) 0 (λ o. table_of t areas (seen_from p o))) class
 
 pub word_height : (t : Forest) (areas : List Area) (p : Path) → class_at t p ≡ word
-    → height_by t areas p ≡ stack.given (class_at t p) word_ih (inputs_at t p)
+    → height_by t areas p ≡ input_value stack (class_at t p) word_ih (inputs_at t p)
 word_height t areas p class =
     ap (λ c. (stack.self_rule c box_h).value (kids_at t p) 0 (λ o. table_of t areas (seen_from p o))) class

@@ -2,11 +2,12 @@
 use Rattle.std.proofs.Common.{◌≡◌, ◌≢◌, ℕ, zero, suc, ◌<◌, Bool, true, false, cond, eqb, List, get_or, refl, sym, ap, ◌∙◌, subst, arith}
 use Rattle.std.specs.Prelude.{Contains}
 use Rattle.std.proofs.lemmas.Bool.{eqb-true}
+use Rattle.ftl_model.specs.AttributeGrammar.{attributes_of}
+use Rattle.ftl_model.specs.Path.{Has, Path, class_at, down, top}
+use Rattle.ftl_model.specs.Solves.{Solves, equation_value, instance_of, rule_value}
+use Rattle.ftl_model.specs.Stack.{box, box_h, box_w, box_x, box_y, page, page_h, sheet, stack, word_ih, word_iw}
 use Rattle.ftl_model.specs.Tree.{Forest, none, tree}
 use Rattle.ftl_model.specs.TreeOf.{IsTreeOf}
-use Rattle.ftl_model.specs.Path.{Path, top, down, Has, class_at}
-use Rattle.ftl_model.specs.Solves.{instance_of, attributes_of, Solves, equation_value, rule_value}
-use Rattle.ftl_model.specs.Stack.{stack, page, box, sheet, page_h, box_x, box_y, box_w, box_h, word_iw, word_ih}
 use Rattle.ftl_model.proofs.Fits.{fits_at, kid_stands}
 use Rattle.ftl_model.proofs.Standing.{has_parent}
 use Rattle.ftl_stack.specs.declared.area.Area.{Area}

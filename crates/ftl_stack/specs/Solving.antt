@@ -1,11 +1,11 @@
 -- What the areas of a tree have once the sizes are found, and once the boxes have their places.
 use Rattle.std.specs.Prelude.{◌≡◌, ◌≢◌, ℕ, ◌≤◌, List, length, Some}
-use Rattle.ftl_model.specs.Values.{Value}
+use Rattle.ftl_model.specs.Path.{Has, Path, class_at, down, parent_of}
+use Rattle.ftl_model.specs.Solves.{rule_value}
+use Rattle.ftl_model.specs.Stack.{box_h, box_w, box_x, box_y, only_child, sheet, stack}
 use Rattle.ftl_model.specs.Tree.{Forest, size}
 use Rattle.ftl_model.specs.TreeOf.{IsTreeOf}
-use Rattle.ftl_model.specs.Path.{Path, down, Has, class_at, parent_of}
-use Rattle.ftl_model.specs.Solves.{rule_value}
-use Rattle.ftl_model.specs.Stack.{stack, sheet, only_child, box_x, box_y, box_w, box_h}
+use Rattle.ftl_model.specs.Values.{Value}
 use Rattle.ftl_stack.specs.declared.area.Area.{Area}
 use Rattle.ftl_stack.specs.TableOf.{area_at, table_of}
 

@@ -2,10 +2,10 @@
 use Rattle.std.specs.Prelude.{ℕ, ◌==◌, if◌then◌else◌, Bool, List, ◌++◌, codes}
 use Rattle.std.specs.List.{flat_map, list_any}
 use Rattle.std.specs.Fmt.{decimal}
+use Rattle.ftl_model.specs.Boxes.{is_overflow, value_text}
+use Rattle.ftl_model.specs.Stack.{box_w, box_x, box_y}
+use Rattle.ftl_model.specs.StackNames.{stack_attribute_name, stack_class_name, stack_shown}
 use Rattle.ftl_model.specs.Values.{Value}
-use Rattle.ftl_model.specs.Boxes.{value_text, is_overflow}
-use Rattle.ftl_model.specs.Stack.{box_x, box_y, box_w}
-use Rattle.ftl_model.specs.StackNames.{stack_class_name, stack_attribute_name, stack_shown}
 use Rattle.ftl_stack.specs.declared.area.Area.{Area}
 
 -- a shown attribute in an area

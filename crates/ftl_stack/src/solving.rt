@@ -7,7 +7,7 @@ ghost use Rattle.ftl_stack.specs.TableOf.{table_of};
 ghost use Rattle.ftl_stack.specs.Solving.{AreAreas, width_by, height_by, AllSized, KidsPlaced, AllPlaced, SameSizes, OnlyKids};
 
 use crate::area::Area;
-use ftl_base::{Val, add, greatest};
+use ftl_base::{Val, Width, add, greatest};
 use ftl_tree::Tree;
 use std::alloc::{AllocError, Global};
 
@@ -99,7 +99,7 @@ fn column_extent(tree: &Tree, areas: &[Area], node: u32) -> Extent
     while kid < end {
         let area = areas[kid as usize];
         w = greatest(w, area.w);
-        h = add(h, area.h);
+        h = add(Width::Narrow, h, area.h);
         kid += tree.subtree_size(kid);
     }
     Extent { w, h }
@@ -171,7 +171,7 @@ fn stack_kids(tree: &Tree, areas: &mut [Area], node: u32)
             w: area.w,
             h: area.h,
         };
-        y = add(y, area.h);
+        y = add(Width::Narrow, y, area.h);
         kid += tree.subtree_size(kid);
     }
 }

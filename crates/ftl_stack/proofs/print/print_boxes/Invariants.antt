@@ -1,7 +1,7 @@
 use Rattle.std.proofs.Common.{◌≡◌, take}
 use Rattle.std.specs.List.{flat_map}
-use Rattle.ftl_model.specs.Path.{preorder}
 use Rattle.ftl_model.specs.Boxes.{node_line}
+use Rattle.ftl_model.specs.Path.{preorder}
 use Rattle.ftl_model.specs.StackNames.{stack_names}
 use Rattle.ftl_stack.specs.TableOf.{table_of}
 use Rattle.ftl_stack.proofs.print.print_boxes.Given as goal

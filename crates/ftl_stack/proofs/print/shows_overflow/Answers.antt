@@ -1,7 +1,7 @@
 use Rattle.std.proofs.Common.{◌||◌, ◌+◌, drop, ◌∙◌, ap, sym, arith}
 use Rattle.std.specs.List.{list_any}
-use Rattle.ftl_model.specs.Path.{preorder, class_at}
 use Rattle.ftl_model.specs.Boxes.{is_overflow}
+use Rattle.ftl_model.specs.Path.{class_at, preorder}
 use Rattle.ftl_model.specs.Solves.{instance_of}
 use Rattle.ftl_model.specs.StackNames.{stack_shown}
 use Rattle.ftl_stack.specs.TableOf.{table_of}

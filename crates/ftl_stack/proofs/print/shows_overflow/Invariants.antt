@@ -1,7 +1,7 @@
 use Rattle.std.proofs.Common.{◌≡◌, drop}
 use Rattle.std.specs.List.{list_any}
-use Rattle.ftl_model.specs.Path.{preorder, class_at}
 use Rattle.ftl_model.specs.Boxes.{is_overflow, shows_overflow}
+use Rattle.ftl_model.specs.Path.{class_at, preorder}
 use Rattle.ftl_model.specs.Solves.{instance_of}
 use Rattle.ftl_model.specs.StackNames.{stack_names, stack_shown}
 use Rattle.ftl_stack.specs.TableOf.{table_of}

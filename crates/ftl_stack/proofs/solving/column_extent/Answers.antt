@@ -14,8 +14,8 @@ overflow_add-end c =
 pub loop-kid-init : goal.loop-kid-init
 loop-kid-init c =
     let at = node c.args.tree.now c.args.node c.requires.areas.is_tree c.requires.node in
-    folded_none c.args.tree.now c.args.areas.now c.args.node c.num-w.result c.num-h.result at c.num-w.ensures
-    c.num-h.ensures
+    folded_none c.args.tree.now c.args.areas.now c.args.node c.num-w.result c.num-h.result at c.num-w.ensures.value
+    c.num-h.ensures.value
 
 pub bounds-areas-kid : goal.bounds-areas-kid
 bounds-areas-kid c =

@@ -2,9 +2,9 @@
 use Rattle.std.proofs.Common.{◌≡◌, ◌+◌, get_or, inl, inr, refl, sym, ap, ◌∙◌, arith, rules, SFits, w64}
 use Rattle.std.proofs.lemmas.Int.{to_z-of_z}
 use Rattle.std.proofs.lemmas.List.{get_or_default}
+use Rattle.ftl_model.specs.Path.{class_at, node_at}
+use Rattle.ftl_model.specs.Stack.{word, word_ih, word_iw}
 use Rattle.ftl_model.specs.Values.{value_of}
-use Rattle.ftl_model.specs.Path.{node_at, class_at}
-use Rattle.ftl_model.specs.Stack.{word, word_iw, word_ih}
 use Rattle.ftl_tree.proofs.Walk.{node, body, class_known}
 use Rattle.ftl_stack.proofs.Sizing.{no_area, sheet_height, given_value, word_width, word_height}
 use Rattle.ftl_stack.proofs.solving.extent_of.Goals as goal
@@ -60,7 +60,7 @@ returns-in_default-clause-w c _ =
     let at = node t c.args.node c.requires.areas.is_tree c.requires.node in
     let class : class_at t p ≡ word = omega (arith, class_known t c.args.node at, c.class.ensures) in
     let fits : SFits w64 c.input.result = search rules in
-    c.num-in_default.ensures ∙ ap value_of (to_z-of_z w64 c.input.result fits)
+    c.num-in_default.ensures.value ∙ ap (value_of 140737488355327) (to_z-of_z w64 c.input.result fits)
     ∙ given_value t c.args.node word_iw c.input.result at c.input.ensures
     ∙ sym (word_width t c.args.areas.now p class)
 
@@ -71,6 +71,6 @@ returns-in_default-clause-h c =
     let at = node t c.args.node c.requires.areas.is_tree c.requires.node in
     let class : class_at t p ≡ word = omega (arith, class_known t c.args.node at, c.class.ensures) in
     let fits : SFits w64 c.input-in_default.result = search rules in
-    c.num-in_default-2.ensures ∙ ap value_of (to_z-of_z w64 c.input-in_default.result fits)
+    c.num-in_default-2.ensures.value ∙ ap (value_of 140737488355327) (to_z-of_z w64 c.input-in_default.result fits)
     ∙ given_value t c.args.node word_ih c.input-in_default.result at c.input-in_default.ensures
     ∙ sym (word_height t c.args.areas.now p class)

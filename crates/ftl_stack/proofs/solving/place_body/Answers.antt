@@ -26,7 +26,7 @@ returns-clause-placed c =
     let read = get_or_read c.args.areas.now (c.args.node + 1) area
     (omega (arith, c.requires.areas.count, this.within)) c.index-areas-body.is no_area in
     let placing = body_placed t c.args.areas.now c.args.node area c.num.result c.num-2.result at
-    c.requires.areas.count c.requires.sheet read c.num.ensures c.num-2.ensures this in
+    c.requires.areas.count c.requires.sheet read c.num.ensures.value c.num-2.ensures.value this in
     placing_all t c.args.areas.now _ c.args.node 1 (c.args.node + 1 + size_at t (node_at t (c.args.node + 1))) at
     placing (sym (sheet_kids t c.args.node at c.requires.sheet))
 
@@ -39,4 +39,4 @@ returns-clause-others c =
     let read = get_or_read c.args.areas.now (c.args.node + 1) area
     (omega (arith, c.requires.areas.count, this.within)) c.index-areas-body.is no_area in
     (body_placed t c.args.areas.now c.args.node area c.num.result c.num-2.result at c.requires.areas.count
-    c.requires.sheet read c.num.ensures c.num-2.ensures this).others
+    c.requires.sheet read c.num.ensures.value c.num-2.ensures.value this).others

@@ -1,6 +1,6 @@
 -- A word has no kids.
 use Rattle.std.proofs.Common.{◌≡◌, arith}
-use Rattle.ftl_model.specs.Path.{node_at, class_at}
+use Rattle.ftl_model.specs.Path.{class_at, node_at}
 use Rattle.ftl_model.specs.Stack.{word}
 use Rattle.ftl_tree.proofs.Walk.{node, class_known, word_kids}
 use Rattle.ftl_stack.proofs.solving.place_kids.Goals as goal
