@@ -5,6 +5,7 @@ pub mod LegalOrders
 pub mod Near
 pub mod OneList
 pub mod OrderRank
+pub mod PartReads
 pub mod Ranges
 pub mod Rows
 pub mod Runs

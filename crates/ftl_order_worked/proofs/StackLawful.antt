@@ -1,181 +1,192 @@
 -- The stack grammar is lawful.
-use Rattle.std.proofs.Common.{◌≡◌, ◌≢◌, ◌⊎◌, ℕ, zero, suc, ◌-◌, ◌<◌, ◌==◌, true, false, if◌then◌else◌, refl, ap, ap₂, ◌∙◌, inl, lit<, arith, List, [], ◌∷◌, Contains}
-use Rattle.std.specs.List.{AllByRecursion}
-use Rattle.std.proofs.lemmas.List.Elements.{All-contains, All-from_recursion}
-use Rattle.ftl_model.specs.Folds.{fold_kids}
-use Rattle.ftl_model.specs.Values.{sum_of, greatest_of}
-use Rattle.ftl_model.specs.AttributeGrammar.{Read, self_read, single_read, each_read, prev_read, own, kid, reads_for, input, inherited, synthesized, local}
-use Rattle.ftl_model.specs.Solves.{attributes_of}
-use Rattle.ftl_model.specs.Stack.{stack, page, box_x, box_w, sheet_h, body_origin, column_w, column_h, kids_x, kids_y, word_w, word_h}
-use Rattle.ftl_order.specs.Lawful.{IsLawful, MayReadForSelf, MayReadForChild, IsAlone, AreDistinct}
+use Rattle.std.proofs.Common.{◌≡◌, ◌≢◌, ◌⊎◌, ℕ, zero, suc, ◌<◌, ◌==◌, true, false, if◌then◌else◌, refl, ap, ap₂, inl, inr, lit<, arith, List, [], ◌∷◌, ◌++◌, flat_map, Contains, rules}
+use Rattle.std.specs.List.{AllByRecursion, range_with_len}
+use Rattle.std.proofs.lemmas.List.Elements.{Contains-append_left, Contains-append_right}
+use Rattle.ftl_lists.specs.Lists.{AreDistinct}
+use Rattle.ftl_lists.proofs.Elements.{each_in, flat_map_has, here_in, not_among, range_has}
+use Rattle.ftl_model.specs.AttributeGrammar.{Occurrence, Read, RuleName, Sort, each_read, for_child, for_self, inherited, input, kid, local, own, prev_read, seen_by, self_read, single_read}
+use Rattle.ftl_model.specs.Boxes.{boxes}
+use Rattle.ftl_model.specs.Stack.{column_h, column_w, kids_y, stack, stack_rules, word}
+use Rattle.ftl_model.specs.Values.{greatest_of, narrow, sum_of}
+use Rattle.ftl_model.proofs.FoldLaws.{fold_kids_same}
+use Rattle.ftl_order.specs.Lawful.{IsAlone, IsLawful, IsOwnSort, IsRule, MayReadForChild, MayReadForSelf, MayReadInStep, MayReadLater, OfChild, OfClass, Owner, Owns, PartsForChild, PartsForSelf, class_owner, interface_owner}
+use Rattle.ftl_order_worked.proofs.Bounded.{each_below, one_owner_by}
 
--- each read of a rule for the node itself
-pub self_rules_have : (P : ℕ → Read → Type 0) → P 0 (single_read 0 4) → P 1 (each_read 0 3) → P 1 (each_read 0 4)
-    → P 2 (self_read 5) → P 2 (self_read 6) → (k a : ℕ) → k < 3 → (r : Read)
-    → Contains (reads_for (stack.self_rule k a) 0) r → P k r
-self_rules_have P p q r s u zero a known = each_in (P 0) (single_read 0 4 ∷ []) (p, tt)
-self_rules_have P p q r s u (suc zero) a known =
-    elim (a == box_w) as (λ b. (x : Read) → Contains (reads_for (if b then column_w else column_h) 0) x → P 1 x)
-    [ true ↦ each_in (P 1) (each_read 0 3 ∷ []) (q, tt) | false ↦ each_in (P 1) (each_read 0 4 ∷ []) (r, tt) ]
-self_rules_have P p q r s u (suc (suc zero)) a known =
-    elim (a == box_w) as (λ b. (x : Read) → Contains (reads_for (if b then word_w else word_h) 0) x → P 2 x)
-    [ true ↦ each_in (P 2) (self_read 5 ∷ []) (s, tt) | false ↦ each_in (P 2) (self_read 6 ∷ []) (u, tt) ]
-self_rules_have P p q r s u (suc (suc (suc k))) a known = absurd (let z : ⊥ = omega (arith, known) in z)
+-- each attribute of each class
+pub each_class : (P : ℕ → ℕ → Type 0) → P 0 0 → AllByRecursion (P 1) (1 ∷ 2 ∷ 3 ∷ 4 ∷ [])
+    → AllByRecursion (P 2) (1 ∷ 2 ∷ 3 ∷ 4 ∷ 5 ∷ 6 ∷ []) → (k a : ℕ) → k < 3 → OfClass stack k a → P k a
+each_class P sheet column word zero a known of = each_in (P 0) (0 ∷ []) (sheet, tt) a of
+each_class P sheet column word (suc zero) a known of = each_in (P 1) (1 ∷ 2 ∷ 3 ∷ 4 ∷ []) column a of
+each_class P sheet column word (suc (suc zero)) a known of =
+    each_in (P 2) (1 ∷ 2 ∷ 3 ∷ 4 ∷ 5 ∷ 6 ∷ []) word a of
+each_class P sheet column word (suc (suc (suc k))) a known of = absurd (let z : ⊥ = omega (arith, known) in z)
 
-kids_y_have : (P : ℕ → Read → Type 0) → P 0 (self_read 2) → ((n : ℕ) → P (suc n) (prev_read 0 2))
-    → ((n : ℕ) → P (suc n) (prev_read 0 4))
-    → (place : ℕ) (x : Read) → Contains (reads_for kids_y place) x → P place x
-kids_y_have P p q r zero = each_in (P 0) (self_read 2 ∷ []) (p, tt)
-kids_y_have P p q r (suc n) = each_in (P (suc n)) (prev_read 0 2 ∷ (prev_read 0 4 ∷ [])) (q n, (r n, tt))
+-- each attribute of the one child of a sheet, and of a column
+pub each_child : (P : ℕ → ℕ → ℕ → Type 0) → AllByRecursion (P 0 0) (1 ∷ 2 ∷ 3 ∷ 4 ∷ [])
+    → AllByRecursion (P 1 0) (1 ∷ 2 ∷ 3 ∷ 4 ∷ []) → (k c a : ℕ) → k < 3 → c < stack.child_count k
+    → OfChild stack k c a → P k c a
+each_child P sheet column zero zero a known declared of = each_in (P 0 0) (1 ∷ 2 ∷ 3 ∷ 4 ∷ []) sheet a of
+each_child P sheet column (suc zero) zero a known declared of = each_in (P 1 0) (1 ∷ 2 ∷ 3 ∷ 4 ∷ []) column a of
+each_child P sheet column zero (suc c) a known declared of = absurd (let z : ⊥ = omega (arith, declared) in z)
+each_child P sheet column (suc zero) (suc c) a known declared of = absurd (let z : ⊥ = omega (arith, declared) in z)
+each_child P sheet column (suc (suc zero)) c a known declared of = absurd (let z : ⊥ = omega (arith, declared) in z)
+each_child P sheet column (suc (suc (suc k))) c a known declared of = absurd (let z : ⊥ = omega (arith, known) in z)
 
-kids_x_have : (P : ℕ → Read → Type 0) → ((n : ℕ) → P n (self_read 1)) → (place : ℕ) (x : Read)
-    → Contains (reads_for kids_x place) x → P place x
-kids_x_have P p zero = each_in (P 0) (self_read 1 ∷ []) (p 0, tt)
-kids_x_have P p (suc n) = each_in (P (suc n)) (self_read 1 ∷ []) (p (suc n), tt)
+pub not_own : {X : Type 0} (sort : Sort) → (sort ≡ inherited) ⊎ (sort ≡ input) → IsOwnSort sort → X
+not_own sort (inl e) (inl f) = absurd (let z : ⊥ = grind arith in z)
+not_own sort (inl e) (inr f) = absurd (let z : ⊥ = grind arith in z)
+not_own sort (inr e) (inl f) = absurd (let z : ⊥ = grind arith in z)
+not_own sort (inr e) (inr f) = absurd (let z : ⊥ = grind arith in z)
 
-origin_has : (P : ℕ → Read → Type 0) → (place : ℕ) (x : Read) → Contains (reads_for body_origin place) x → P place x
-origin_has P zero = each_in (P 0) [] tt
-origin_has P (suc n) = each_in (P (suc n)) [] tt
+-- each rule
+pub each_rule : (P : RuleName → Type 0) → AllByRecursion P stack_rules → (w : RuleName) → IsRule stack w → P w
+each_rule P h (for_self k a) rule =
+    each_class (λ k a. IsOwnSort (stack.sort a) → P (for_self k a)) (λ own. h.0)
+    ((λ own. not_own inherited (inl refl) own), ( (λ own. not_own inherited (inl refl) own), ( (λ own. h.1.1.1.0), (    (λ own. h.1.1.1.1.0), tt))))
+    ((λ own. not_own inherited (inl refl) own), ( (λ own. not_own inherited (inl refl) own), (    (λ own. h.1.1.1.1.1.1.1.0), ( (λ own. h.1.1.1.1.1.1.1.1.0), ( (λ own. not_own input (inr refl) own), (    (λ own. not_own input (inr refl) own), tt))))))
+    k a rule.0 rule.1 rule.2
+each_rule P h (for_child k c a) rule =
+    each_child (λ k c a. stack.sort a ≡ inherited → P (for_child k c a))
+    ((λ e. h.1.0), ( (λ e. h.1.1.0), ( (λ e. absurd (let z : ⊥ = grind arith in z)), (    (λ e. absurd (let z : ⊥ = grind arith in z)), tt))))
+    ((λ e. h.1.1.1.1.1.0), ( (λ e. h.1.1.1.1.1.1.0), ( (λ e. absurd (let z : ⊥ = grind arith in z)), (    (λ e. absurd (let z : ⊥ = grind arith in z)), tt))))
+    k c a rule.0 rule.1 rule.2 rule.3
 
--- each read of a rule for the kids: those of a column
-pub child_rules_have : (P : ℕ → Read → Type 0) → ((n : ℕ) → P n (self_read 1)) → P 0 (self_read 2)
-    → ((n : ℕ) → P (suc n) (prev_read 0 2)) → ((n : ℕ) → P (suc n) (prev_read 0 4))
-    → (a : ℕ) → (place : ℕ) (r : Read) → Contains (reads_for (stack.child_rule 1 0 a) place) r → P place r
-child_rules_have P x y q r a =
-    elim (a == box_x) as
-    (λ b. (place : ℕ) (u : Read) → Contains (reads_for (if b then kids_x else kids_y) place) u → P place u)
-    [ true ↦ kids_x_have P x | false ↦ kids_y_have P y q r ]
+-- ---- attributes and their owners
 
-stack_self_reads : (k a : ℕ) → k < 3 → (r : Read) → Contains (reads_for (stack.self_rule k a) 0) r
-    → MayReadForSelf stack k r
-stack_self_reads =
-    self_rules_have (MayReadForSelf stack)
-    ((lit< tt, refl), (3, lit< tt, refl))
-    ((lit< tt, refl), (2, lit< tt, refl))
-    ((lit< tt, refl), (3, lit< tt, refl))
-    (4, lit< tt, refl)
-    (5, lit< tt, refl)
+abbrev owner_of : ℕ → Owner
+owner_of a = if a == 0 then interface_owner 0 else (if a == 5 then class_owner 2 else (if a == 6 then class_owner 2
+    else interface_owner 1))
 
-stack_child_reads : (k c a : ℕ) → k < 3 → c < stack.child_count k
-    → (place : ℕ) (r : Read) → Contains (reads_for (stack.child_rule k c a) place) r → MayReadForChild stack k c r
-stack_child_reads zero c a known declared place r in_it = origin_has (λ n x. MayReadForChild stack 0 c x) place r in_it
-stack_child_reads (suc zero) zero a known declared place r in_it =
-    child_rules_have (λ n x. MayReadForChild stack 1 0 x)
-    (λ n. (0, lit< tt, refl))
-    (1, lit< tt, refl)
-    (λ n. (refl, (lit< tt, refl), (1, lit< tt, refl)))
-    (λ n. (refl, (lit< tt, refl), (3, lit< tt, refl)))
-    a place r in_it
-stack_child_reads (suc zero) (suc c) a known declared place r in_it = absurd (let z : ⊥ = omega (arith, declared) in z)
-stack_child_reads (suc (suc zero)) c a known declared place r in_it = absurd (let z : ⊥ = omega (arith, declared) in z)
-stack_child_reads (suc (suc (suc k))) c a known declared place r in_it = absurd (let z : ⊥ = omega (arith, known) in z)
+-- each attribute of each owner
+each_owned : (P : Owner → ℕ → Type 0) → P (interface_owner 0) 0
+    → AllByRecursion (P (interface_owner 1)) (1 ∷ 2 ∷ 3 ∷ 4 ∷ [])
+    → AllByRecursion (P (class_owner 2)) (5 ∷ 6 ∷ []) → (x : Owner) (a : ℕ) → Owns stack x a → P x a
+each_owned P h boxes words (interface_owner i) a owns =
+    each_below (λ i. Contains (stack.shared i) a → P (interface_owner i) a) 2
+    (each_in (P (interface_owner 1)) (1 ∷ 2 ∷ 3 ∷ 4 ∷ []) boxes a,
+    (each_in (P (interface_owner 0)) (0 ∷ []) (h, tt) a, tt)) i owns.0 owns.1
+each_owned P h boxes words (class_owner k) a owns =
+    each_below (λ k. Contains (stack.private k) a → P (class_owner k) a) 3
+    (each_in (P (class_owner 2)) (5 ∷ 6 ∷ []) words a,
+    (each_in (P (class_owner 1)) [] tt a, (each_in (P (class_owner 0)) [] tt a, tt))) k owns.0 owns.1
 
-first_in : {X : Type 0} (x : X) (xs : List X) → Contains (x ∷ xs) x
-first_in x xs = (0, let z : 0 < suc 0 = omega arith in (omega arith), refl)
+tells_owner : (x : Owner) (a : ℕ) → Owns stack x a → x ≡ owner_of a
+tells_owner = each_owned (λ x a. x ≡ owner_of a) refl (refl, ( refl, ( refl, ( refl, tt)))) (refl, ( refl, tt))
 
-sheet_h_alone : (place : ℕ) → place ≡ 0 → IsAlone sheet_h 0
-sheet_h_alone place e kids s t same = same (single_read 0 4) (first_in (single_read 0 4) []) (kid 0 0 4) refl
+abbrev OwnedBy : ℕ → Type 0
+OwnedBy a = (x : Owner) × Owns stack x a
+
+each_is_owned : (a : ℕ) → a < 7 → OwnedBy a
+each_is_owned =
+    each_below OwnedBy 7
+    ((class_owner 2, (lit< tt, (1, lit< tt, refl))), ( (class_owner 2, (lit< tt, (0, lit< tt, refl))), (    (interface_owner 1, (lit< tt, (3, lit< tt, refl))), ( (interface_owner 1, (lit< tt, (2, lit< tt, refl))), (    (interface_owner 1, (lit< tt, (1, lit< tt, refl))), ( (interface_owner 1, (lit< tt, (0, lit< tt, refl))), (    (interface_owner 0, (lit< tt, (0, lit< tt, refl))), tt)))))))
+
+shared_once : (i : ℕ) → i < 2 → AreDistinct (stack.shared i)
+shared_once =
+    each_below (λ i. AreDistinct (stack.shared i)) 2
+    ((not_among 1 (2 ∷ 3 ∷ 4 ∷ []) (omega arith), ( not_among 2 (3 ∷ 4 ∷ []) (omega arith), (    not_among 3 (4 ∷ []) (omega arith), ( not_among 4 [] tt, tt)))), (    (not_among 0 [] tt, tt), tt))
+
+private_once : (k : ℕ) → k < 3 → AreDistinct (stack.private k)
+private_once =
+    each_below (λ k. AreDistinct (stack.private k)) 3
+    ((not_among 5 (6 ∷ []) (omega arith), ( not_among 6 [] tt, tt)), ( tt, ( tt, tt)))
+
+abbrev SharedSort : Owner → ℕ → Type 0
+SharedSort (interface_owner i) a = stack.sort a ≢ local
+SharedSort (class_owner k) a = (stack.sort a ≡ input) ⊎ (stack.sort a ≡ local)
+
+sorts : (x : Owner) (a : ℕ) → Owns stack x a → SharedSort x a
+sorts =
+    each_owned SharedSort (λ e. (let z : ⊥ = grind arith in z))
+    ((λ e. (let z : ⊥ = grind arith in z)), ( (λ e. (let z : ⊥ = grind arith in z)), (    (λ e. (let z : ⊥ = grind arith in z)), ( (λ e. (let z : ⊥ = grind arith in z)), tt))))
+    (inl refl, ( inl refl, tt))
+
+-- ---- rules
+
+differ : (w : RuleName) (ws : List RuleName) → AllByRecursion (λ v. v ≢ w) ws → Contains ws w → ⊥
+differ w ws h in_it = each_in (λ v. v ≢ w) ws h w in_it refl
+
+rules_once : AreDistinct stack_rules
+rules_once = search (rules, differ)
+
+rules_are : (w : RuleName) → Contains stack_rules w → IsRule stack w
+rules_are =
+    each_in (IsRule stack) stack_rules
+    ((lit< tt, (0, lit< tt, refl), inl refl), ( (lit< tt, lit< tt, (0, lit< tt, refl), refl), (    (lit< tt, lit< tt, (1, lit< tt, refl), refl), ( (lit< tt, (2, lit< tt, refl), inl refl), (    (lit< tt, (3, lit< tt, refl), inl refl), ( (lit< tt, lit< tt, (0, lit< tt, refl), refl), (    (lit< tt, lit< tt, (1, lit< tt, refl), refl), ( (lit< tt, (2, lit< tt, refl), inl refl), (    (lit< tt, (3, lit< tt, refl), inl refl), tt)))))))))
+
+rules_have : (w : RuleName) → IsRule stack w → Contains stack_rules w
+rules_have =
+    each_rule (Contains stack_rules)
+    ((0, lit< tt, refl), ( (1, lit< tt, refl), ( (2, lit< tt, refl), ( (3, lit< tt, refl), ( (4, lit< tt, refl), (    (5, lit< tt, refl), ( (6, lit< tt, refl), ( (7, lit< tt, refl), ( (8, lit< tt, refl), tt)))))))))
+
+-- what a lawful grammar asks of a rule
+abbrev PartsAllowed : RuleName → Type 0
+PartsAllowed (for_self k a) = PartsForSelf stack k (stack.self_rule k a).parts
+PartsAllowed (for_child k c a) = PartsForChild stack k c (stack.child_rule k c a).parts
+
+parts_allowed : (w : RuleName) → IsRule stack w → PartsAllowed w
+parts_allowed =
+    each_rule PartsAllowed
+    (each_in (MayReadForSelf stack 0) (single_read 0 4 ∷ []) (((lit< tt, refl), (3, lit< tt, refl)), tt), (    each_in (MayReadForChild stack 0 0) [] tt, (    each_in (MayReadForChild stack 0 0) [] tt, (    ((lit< tt, refl), each_in (MayReadForSelf stack 1) [] tt,
+    each_in (MayReadInStep stack 1 0) (each_read 0 3 ∷ []) ((refl, (2, lit< tt, refl)), tt)), (    ((lit< tt, refl), each_in (MayReadForSelf stack 1) [] tt,
+    each_in (MayReadInStep stack 1 0) (each_read 0 4 ∷ []) ((refl, (3, lit< tt, refl)), tt)), (    each_in (MayReadForChild stack 1 0) (self_read 1 ∷ []) ((0, lit< tt, refl), tt), (    ((lit< tt, refl), each_in (MayReadForChild stack 1 0) (self_read 2 ∷ []) ((1, lit< tt, refl), tt),
+    each_in (MayReadLater stack 1 0) (prev_read 0 2 ∷ prev_read 0 4 ∷ [])
+    ((refl, (lit< tt, refl), (1, lit< tt, refl)), ( (refl, (lit< tt, refl), (3, lit< tt, refl)), tt))), (    each_in (MayReadForSelf stack 2) (self_read 5 ∷ []) ((4, lit< tt, refl), tt), (    each_in (MayReadForSelf stack 2) (self_read 6 ∷ []) ((5, lit< tt, refl), tt), tt)))))))))
+
+abbrev AloneAt : RuleName → Type 0
+AloneAt (for_self k a) = IsAlone (stack.self_rule k a) 0
+AloneAt (for_child k c a) = (number : ℕ) → IsAlone (stack.child_rule k c a) number
+
+-- what a fold's step reads of each kid
+pub in_fold : (step : List Read) (kids : ℕ → ℕ) (c n : ℕ) (o : Occurrence) → n < kids c
+    → Contains (seen_by kids n step) o
+    → Contains ([] ++ flat_map (λ m. seen_by kids m step) (range_with_len 0 (kids c))) o
+in_fold step kids c n o below h =
+    flat_map_has (λ m. seen_by kids m step) (range_with_len 0 (kids c)) n o
+    (range_has 0 (kids c) n (omega arith) (omega (arith, below))) h
 
 column_w_alone : IsAlone column_w 0
 column_w_alone kids s t same =
-    fold_kids_same (kids 0) (λ acc k. greatest_of acc (s (kid 0 k 3))) (λ acc k. greatest_of acc (t (kid 0 k 3))) _
-    (λ k below acc. ap (greatest_of acc)
-    (same (each_read 0 3) (first_in (each_read 0 3) []) (kid 0 k 3) (k, below, refl)))
+    fold_kids_same (kids 0) (λ acc n. greatest_of acc (s (kid 0 n 3))) (λ acc n. greatest_of acc (t (kid 0 n 3))) _
+    (λ n below acc. ap (greatest_of acc)
+    (same (kid 0 n 3) (in_fold (each_read 0 3 ∷ []) kids 0 n (kid 0 n 3) below (here_in (kid 0 n 3) []))))
 
-column_h_alone : IsAlone column_h 0
+column_h_alone : IsAlone (column_h narrow) 0
 column_h_alone kids s t same =
-    fold_kids_same (kids 0) (λ acc k. sum_of acc (s (kid 0 k 4))) (λ acc k. sum_of acc (t (kid 0 k 4))) _
-    (λ k below acc. ap (sum_of acc) (same (each_read 0 4) (first_in (each_read 0 4) []) (kid 0 k 4) (k, below, refl)))
+    fold_kids_same (kids 0) (λ acc n. sum_of narrow acc (s (kid 0 n 4))) (λ acc n. sum_of narrow acc (t (kid 0 n 4))) _
+    (λ n below acc. ap (sum_of narrow acc)
+    (same (kid 0 n 4) (in_fold (each_read 0 4 ∷ []) kids 0 n (kid 0 n 4) below (here_in (kid 0 n 4) []))))
 
-word_w_alone : IsAlone word_w 0
-word_w_alone kids s t same = same (self_read 5) (first_in (self_read 5) []) (own 5) refl
-
-word_h_alone : IsAlone word_h 0
-word_h_alone kids s t same = same (self_read 6) (first_in (self_read 6) []) (own 6) refl
-
-stack_self_alone : (k a : ℕ) → k < 3 → IsAlone (stack.self_rule k a) 0
-stack_self_alone zero a known = sheet_h_alone 0 refl
-stack_self_alone (suc zero) a known =
-    elim (a == box_w) as
-    (λ b. IsAlone (if b then column_w else column_h) 0) [ true ↦ column_w_alone | false ↦ column_h_alone ]
-stack_self_alone (suc (suc zero)) a known =
-    elim (a == box_w) as (λ b. IsAlone (if b then word_w else word_h) 0) [ true ↦ word_w_alone | false ↦ word_h_alone ]
-stack_self_alone (suc (suc (suc k))) a known = absurd (let z : ⊥ = omega (arith, known) in z)
-
-kids_x_alone : (place : ℕ) → IsAlone kids_x place
-kids_x_alone zero kids s t same = same (self_read 1) (first_in (self_read 1) []) (own 1) refl
-kids_x_alone (suc n) kids s t same = same (self_read 1) (first_in (self_read 1) []) (own 1) refl
-
-kids_y_alone : (place : ℕ) → IsAlone kids_y place
-kids_y_alone zero kids s t same = same (self_read 2) (first_in (self_read 2) []) (own 2) refl
+kids_y_alone : (number : ℕ) → IsAlone (kids_y narrow) number
+kids_y_alone zero kids s t same = same (own 2) (here_in (own 2) [])
 kids_y_alone (suc n) kids s t same =
-    let before : n ≡ suc n - 1 = omega arith in
-    let some : 0 < suc n = omega arith in
-    ap₂ sum_of
-    (same (prev_read 0 2) (first_in (prev_read 0 2) (prev_read 0 4 ∷ [])) (kid 0 n 2)
-    (some, ap (λ m. kid 0 m 2) before))
-    (same (prev_read 0 4) (1, lit< tt, refl) (kid 0 n 4) (some, ap (λ m. kid 0 m 4) before))
+    ap₂ (sum_of narrow) (same (kid 0 n 2) (0, lit< tt, refl)) (same (kid 0 n 4) (1, lit< tt, refl))
 
-stack_child_alone : (k c a : ℕ) → k < 3 → c < stack.child_count k → (place : ℕ) → IsAlone (stack.child_rule k c a) place
-stack_child_alone zero c a known declared place = λ kids s t same. refl
-stack_child_alone (suc zero) c a known declared place =
-    elim (a == box_x) as
-    (λ b. IsAlone (if b then kids_x else kids_y) place) [ true ↦ kids_x_alone place | false ↦ kids_y_alone place ]
-stack_child_alone (suc (suc zero)) c a known declared place = absurd (let z : ⊥ = omega (arith, declared) in z)
-stack_child_alone (suc (suc (suc k))) c a known declared place = absurd (let z : ⊥ = omega (arith, known) in z)
-
-inherited≢local : inherited ≢ local
-inherited≢local = grind arith
-
-synthesized≢local : synthesized ≢ local
-synthesized≢local = grind arith
-
-synthesized≢inherited : synthesized ≢ inherited
-synthesized≢inherited = grind arith
-
-stack_shared_sorts : (i a : ℕ) → Contains (stack.shared i) a → stack.sort a ≢ local
-stack_shared_sorts i a =
-    elim (i == page) as (λ b. Contains (if b then 0 ∷ [] else 1 ∷ (2 ∷ (3 ∷ (4 ∷ [])))) a → stack.sort a ≢ local) [
-      | true ↦ each_in (λ x. stack.sort x ≢ local) (0 ∷ []) (synthesized≢local, tt) a
-      | false ↦
-          each_in (λ x. stack.sort x ≢ local) (1 ∷ (2 ∷ (3 ∷ (4 ∷ []))))
-          (inherited≢local, (inherited≢local, (synthesized≢local, (synthesized≢local, tt)))) a
-    ]
-
-stack_private_sorts : (k a : ℕ) → k < 3 → Contains (stack.private k) a → (stack.sort a ≡ input) ⊎ (stack.sort a ≡ local)
-stack_private_sorts zero a known = each_in (λ x. (stack.sort x ≡ input) ⊎ (stack.sort x ≡ local)) [] tt a
-stack_private_sorts (suc zero) a known = each_in (λ x. (stack.sort x ≡ input) ⊎ (stack.sort x ≡ local)) [] tt a
-stack_private_sorts (suc (suc zero)) a known =
-    each_in (λ x. (stack.sort x ≡ input) ⊎ (stack.sort x ≡ local)) (5 ∷ (6 ∷ [])) (inl refl, (inl refl, tt)) a
-stack_private_sorts (suc (suc (suc k))) a known = absurd (let z : ⊥ = omega (arith, known) in z)
-
-stack_distinct : (k : ℕ) → k < 3 → AreDistinct (attributes_of stack k)
-stack_distinct zero known = (not_among 0 [] tt, tt)
-stack_distinct (suc zero) known = (
-  not_among 1 (2 ∷ (3 ∷ (4 ∷ []))) (omega arith),
-  (not_among 2 (3 ∷ (4 ∷ [])) (omega arith), (not_among 3 (4 ∷ []) (omega arith), (not_among 4 [] tt, tt))),
-)
-stack_distinct (suc (suc zero)) known = (
-  not_among 1 (2 ∷ (3 ∷ (4 ∷ (5 ∷ (6 ∷ []))))) (omega arith),
-  (
-    not_among 2 (3 ∷ (4 ∷ (5 ∷ (6 ∷ [])))) (omega arith),
-    (
-      not_among 3 (4 ∷ (5 ∷ (6 ∷ []))) (omega arith),
-      (not_among 4 (5 ∷ (6 ∷ [])) (omega arith), (not_among 5 (6 ∷ []) (omega arith), (not_among 6 [] tt, tt))),
-    ),
-  ),
-)
-stack_distinct (suc (suc (suc k))) known = absurd (let z : ⊥ = omega (arith, known) in z)
+each_alone : (w : RuleName) → IsRule stack w → AloneAt w
+each_alone =
+    each_rule AloneAt
+    ((λ kids s t same. same (kid 0 0 4) (here_in (kid 0 0 4) [])), ( (λ number kids s t same. refl), (    (λ number kids s t same. refl), ( column_w_alone, ( column_h_alone, (    (λ number kids s t same. same (own 1) (here_in (own 1) [])), ( kids_y_alone, (    (λ kids s t same. same (own 5) (here_in (own 5) [])), ( (λ kids s t same. same (own 6) (here_in (own 6) [])), tt)))))))))
 
 pub stack_lawful : IsLawful stack
 stack_lawful =
     record {
-      shared_sorts = stack_shared_sorts;
-      root_sorts = each_in (λ x. stack.sort x ≢ inherited) (0 ∷ []) (synthesized≢inherited, tt);
-      private_sorts = stack_private_sorts;
-      distinct = stack_distinct;
-      self_reads = λ k a known of sort. stack_self_reads k a known;
-      self_alone = λ k a known of sort. stack_self_alone k a known;
-      child_reads = λ k c a known declared of sort. stack_child_reads k c a known declared;
-      child_alone = λ k c a known declared of sort. stack_child_alone k c a known declared;
+      root_known = lit< tt;
+      interfaces_known = each_below (λ k. stack.interface k < 2) 3 (lit< tt, ( lit< tt, ( lit< tt, tt)));
+      children_known = λ k c known declared. lit< tt;
+      attributes_known = each_owned (λ x a. a < 7) (lit< tt) (lit< tt, ( lit< tt, ( lit< tt, ( lit< tt, tt))))
+          (lit< tt, ( lit< tt, tt));
+      owned = each_is_owned;
+      one_owner = one_owner_by stack owner_of tells_owner;
+      shared_once = shared_once;
+      private_once = private_once;
+      shared_sorts = λ i a owns. sorts (interface_owner i) a owns;
+      root_sorts = each_in (λ a. stack.sort a ≢ inherited) (0 ∷ []) ((λ e. (let z : ⊥ = grind arith in z)), tt);
+      private_sorts = λ k a owns. sorts (class_owner k) a owns;
+      rules_are = rules_are;
+      rules_have = rules_have;
+      rules_once = rules_once;
+      self_parts = λ k a rule. parts_allowed (for_self k a) rule;
+      self_alone = λ k a rule. each_alone (for_self k a) rule;
+      child_parts = λ k c a rule. parts_allowed (for_child k c a) rule;
+      child_alone = λ k c a rule. each_alone (for_child k c a) rule;
     }

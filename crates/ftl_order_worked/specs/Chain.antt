@@ -2,50 +2,52 @@
 -- root R; interface R { } interface K { inh a, b; } class L : K { }
 -- class C : R { kids : [K]; kids.a := first 1 then prev.b; kids.b := first 2 then prev.a + prev.b; }
 use Rattle.std.specs.Prelude.{ℕ, zero, suc, ◌==◌, if◌then◌else◌, true, List, [], ◌∷◌, pos}
-use Rattle.ftl_model.specs.Values.{Value, number, overflow, sum_of}
-use Rattle.ftl_model.specs.Tree.{Forest, none, tree}
-use Rattle.ftl_model.specs.Path.{top, down}
-use Rattle.ftl_model.specs.AttributeGrammar.{AttributeGrammar, Rule, prev_read, Occurrence, kid, inherited}
+use Rattle.ftl_model.specs.AttributeGrammar.{AttributeGrammar, Occurrence, Rule, first_then, for_child, inherited, kid, plain, prev_read, then_part}
+use Rattle.ftl_model.specs.Path.{down, top}
 use Rattle.ftl_model.specs.Solves.{Instance, instance_of}
+use Rattle.ftl_model.specs.Tree.{Forest, none, tree}
+use Rattle.ftl_model.specs.Values.{Value, narrow, number, overflow, sum_of}
 use Rattle.ftl_model.specs.Worked.{numbers}
-use Rattle.ftl_order.specs.Schedule.{topdown, inorder, Schedule}
-use Rattle.ftl_order.specs.Pairs.{for_child, same_class, Pair}
-use Rattle.ftl_order.specs.WorkedSchedules.{stage, pair_of}
+use Rattle.ftl_order.specs.Pairs.{Pair, same_class}
+use Rattle.ftl_order.specs.Schedule.{Schedule, inorder, topdown}
+use Rattle.ftl_order_worked.specs.WorkedSchedules.{pair_of, stage}
 
 abbrev pub chain_a_value : ℕ → (Occurrence → Value) → Value
 chain_a_value zero s = number (pos 1)
 chain_a_value (suc before) s = s (kid 0 before 1)
 
 abbrev pub chain_a : Rule
-chain_a = record { first = []; later = prev_read 0 1 ∷ []; value = λ kids place s. chain_a_value place s }
+chain_a = record { parts = first_then [] (prev_read 0 1 ∷ []); value = λ kids k s. chain_a_value k s }
 
 abbrev pub chain_b_value : ℕ → (Occurrence → Value) → Value
 chain_b_value zero s = number (pos 2)
-chain_b_value (suc before) s = sum_of (s (kid 0 before 0)) (s (kid 0 before 1))
+chain_b_value (suc before) s = sum_of narrow (s (kid 0 before 0)) (s (kid 0 before 1))
 
 abbrev pub chain_b : Rule
 chain_b =
-    record { first = []; later = prev_read 0 0 ∷ (prev_read 0 1 ∷ []); value = λ kids place s. chain_b_value place s }
+    record { parts = first_then [] (prev_read 0 0 ∷ (prev_read 0 1 ∷ [])); value = λ kids k s. chain_b_value k s }
 
 -- no class has a rule for itself
 abbrev pub no_rule : Rule
-no_rule = record { first = []; later = []; value = λ kids place s. overflow }
+no_rule = record { parts = plain []; value = λ kids k s. overflow }
 
 -- interfaces R 0 and K 1; classes C 0 and L 1; attributes a 0 and b 1
 abbrev pub chain : AttributeGrammar
 chain =
     record {
+      greatest = narrow;
       root = 0;
+      interface_count = 2;
       class_count = 2;
+      attribute_count = 2;
       interface = λ class. class;
-      input_count = λ class. 0;
       child_count = λ class. if class == 0 then 1 else 0;
       child_interface = λ class child. 1;
       is_list = λ class child. true;
       shared = λ interface. if interface == 1 then 0 ∷ (1 ∷ []) else [];
       private = λ class. [];
       sort = λ a. inherited;
-      given = λ class a inputs. overflow;
+      rules = for_child 0 0 0 ∷ (for_child 0 0 1 ∷ []);
       self_rule = λ class a. no_rule;
       child_rule = λ class child a. if a == 0 then chain_a else chain_b;
     }
@@ -59,7 +61,7 @@ chain_inorder = stage inorder (0 ∷ (1 ∷ [])) ∷ []
 
 -- C kids.a reads C kids.b, by prev.b
 abbrev pub a_reads_b : Pair
-a_reads_b = pair_of (for_child 0 0 0) same_class (for_child 0 0 1) (prev_read 0 1)
+a_reads_b = pair_of (for_child 0 0 0) then_part (prev_read 0 1) same_class (for_child 0 0 1)
 
 -- C { kids = [ L { } L { } L { } ] }
 abbrev pub three_kids : Forest

@@ -1,9 +1,9 @@
 -- The rows of the table of ordered reads, each at one case, in one pass of each kind.
 use Rattle.std.specs.Prelude.{ℕ, List, [], ◌∷◌}
-use Rattle.ftl_model.specs.AttributeGrammar.{Read, self_read, single_read, each_read, this_read, prev_read}
-use Rattle.ftl_order.specs.Schedule.{PassKind, topdown, bottomup, inorder, Placing}
-use Rattle.ftl_order.specs.Pairs.{Where, same_class, parent_class, child_class}
-use Rattle.ftl_order.specs.Ordered.{VisitPlace, IsOrderedRead}
+use Rattle.ftl_model.specs.AttributeGrammar.{Read, each_read, prev_read, self_read, single_read, this_read}
+use Rattle.ftl_order.specs.Ordered.{IsOrderedRead, VisitPlace}
+use Rattle.ftl_order.specs.Pairs.{Where, child_class, parent_class, same_class}
+use Rattle.ftl_order.specs.Schedule.{PassKind, Placing, bottomup, inorder, topdown}
 
 -- one pass that lists the attributes in the order of their numbers
 abbrev pub one_pass : PassKind → Placing
@@ -20,17 +20,17 @@ for_synthesized a = record { attribute = a; block = 2; child = 0 }
 
 pub record RowCase : Type 0 where
   pub kind : PassKind
-  pub place : Where
+  pub runs_at : Where
   pub read : Read
   pub writer : VisitPlace
   pub reader : VisitPlace
 
 abbrev pub row_case : PassKind → Where → Read → VisitPlace → VisitPlace → RowCase
-row_case kind place read writer reader =
-    record { kind = kind; place = place; read = read; writer = writer; reader = reader }
+row_case kind runs_at read writer reader =
+    record { kind = kind; runs_at = runs_at; read = read; writer = writer; reader = reader }
 
 abbrev pub IsOrderedCase : RowCase → Type 0
-IsOrderedCase x = IsOrderedRead (one_pass x.kind) x.place x.read x.writer x.reader
+IsOrderedCase x = IsOrderedRead (one_pass x.kind) x.runs_at x.read x.writer x.reader
 
 abbrev pub ordered_rows : List RowCase
 ordered_rows =

@@ -1,11 +1,10 @@
 -- Worked schedules, written out by hand, to hold the definitions against.
 use Rattle.std.specs.Prelude.{ℕ, ◌==◌, if◌then◌else◌, List, [], ◌∷◌}
-use Rattle.ftl_model.specs.Values.{Value}
-use Rattle.ftl_model.specs.AttributeGrammar.{AttributeGrammar, Read, self_read, single_read, each_read, prev_read}
-use Rattle.ftl_model.specs.Stack.{stack, sheet, column, word, only_child, page_h, box_x, box_y, box_w, box_h, body_origin, kids_x}
-use Rattle.ftl_order.specs.Schedule.{PassKind, topdown, bottomup, Pass, Schedule, spot_of}
-use Rattle.ftl_order.specs.Pairs.{RuleName, for_self, for_child, Where, same_class, parent_class, child_class, Pair, IsPair}
+use Rattle.ftl_model.specs.AttributeGrammar.{AttributeGrammar, Part, Read, RuleName, each_read, first_part, for_child, for_self, plain_part, prev_read, self_read, single_read, then_part, with_part}
+use Rattle.ftl_model.specs.Stack.{body_origin, box_h, box_w, box_x, box_y, column, kids_x, only_child, page_h, sheet, stack, word}
 use Rattle.ftl_order.specs.Ordered.{IsOrderedPair}
+use Rattle.ftl_order.specs.Pairs.{IsPair, Pair, Where, child_class, parent_class, same_class}
+use Rattle.ftl_order.specs.Schedule.{Pass, PassKind, Schedule, bottomup, spot_of, topdown}
 
 abbrev pub pass : PassKind → List ℕ → Pass
 pass kind attributes = record { kind = kind; attributes = attributes }
@@ -42,53 +41,46 @@ y_missing = stage bottomup (page_h ∷ (box_w ∷ (box_h ∷ []))) ∷ (stage to
 abbrev pub places_first : Schedule
 places_first = stage topdown (box_x ∷ (box_y ∷ [])) ∷ (stage bottomup (page_h ∷ (box_w ∷ (box_h ∷ []))) ∷ [])
 
-abbrev pub pair_of : RuleName → Where → RuleName → Read → Pair
-pair_of reader place writer read = record { reader = reader; read = read; writer = writer; place = place }
+abbrev pub pair_of : RuleName → Part → Read → Where → RuleName → Pair
+pair_of reader part read runs_at writer =
+    record { reader = reader; part = part; read = read; writer = writer; runs_at = runs_at }
 
 -- Sheet self.h reads Column self.h, by body.h
 abbrev pub sheet_reads_height : RuleName → Pair
-sheet_reads_height writer = pair_of (for_self sheet page_h) child_class writer (single_read only_child box_h)
+sheet_reads_height = pair_of (for_self sheet page_h) plain_part (single_read only_child box_h) child_class
 
 -- Column self.h reads Column self.h, by this.h in the fold
 abbrev pub column_reads_height : RuleName → Pair
-column_reads_height writer = pair_of (for_self column box_h) child_class writer (each_read only_child box_h)
+column_reads_height = pair_of (for_self column box_h) with_part (each_read only_child box_h) child_class
 
 abbrev pub column_reads_width : RuleName → Pair
-column_reads_width writer = pair_of (for_self column box_w) child_class writer (each_read only_child box_w)
+column_reads_width = pair_of (for_self column box_w) with_part (each_read only_child box_w) child_class
 
 -- Column kids.x reads self.x
 abbrev pub kids_read_x : RuleName → Pair
-kids_read_x writer = pair_of (for_child column only_child box_x) parent_class writer (self_read box_x)
+kids_read_x = pair_of (for_child column only_child box_x) plain_part (self_read box_x) parent_class
 
 -- Column kids.y reads self.y, and then prev.y + prev.h
 abbrev pub kids_read_y : RuleName → Pair
-kids_read_y writer = pair_of (for_child column only_child box_y) parent_class writer (self_read box_y)
+kids_read_y = pair_of (for_child column only_child box_y) first_part (self_read box_y) parent_class
 
 abbrev pub kids_read_prev_y : Pair
 kids_read_prev_y =
-    pair_of (for_child column only_child box_y) same_class (for_child column only_child box_y)
-    (prev_read only_child box_y)
+    pair_of (for_child column only_child box_y) then_part (prev_read only_child box_y) same_class
+    (for_child column only_child box_y)
 
 abbrev pub kids_read_prev_h : RuleName → Pair
-kids_read_prev_h writer = pair_of (for_child column only_child box_y) child_class writer (prev_read only_child box_h)
+kids_read_prev_h = pair_of (for_child column only_child box_y) then_part (prev_read only_child box_h) child_class
 
 -- all pairs of the stack grammar
 abbrev pub stack_pairs : List Pair
 stack_pairs =
-    sheet_reads_height (for_self column box_h)
-    ∷ (sheet_reads_height (for_self word box_h)
-    ∷ (column_reads_width (for_self column box_w)
-    ∷ (column_reads_width (for_self word box_w)
-    ∷ (column_reads_height (for_self column box_h)
-    ∷ (column_reads_height (for_self word box_h)
-    ∷ (kids_read_x (for_child sheet only_child box_x)
-    ∷ (kids_read_x (for_child column only_child box_x)
-    ∷ (kids_read_y (for_child sheet only_child box_y)
-    ∷ (kids_read_y (for_child column only_child box_y)
-    ∷ (kids_read_prev_y
-    ∷ (kids_read_prev_h (for_self column box_h)
-    ∷ (kids_read_prev_h (for_self word box_h)
-    ∷ []))))))))))))
+    sheet_reads_height (for_self column box_h) ∷ sheet_reads_height (for_self word box_h)
+    ∷ column_reads_width (for_self column box_w) ∷ column_reads_width (for_self word box_w)
+    ∷ column_reads_height (for_self column box_h) ∷ column_reads_height (for_self word box_h)
+    ∷ kids_read_x (for_child sheet only_child box_x) ∷ kids_read_x (for_child column only_child box_x)
+    ∷ kids_read_y (for_child sheet only_child box_y) ∷ kids_read_y (for_child column only_child box_y)
+    ∷ kids_read_prev_y ∷ kids_read_prev_h (for_self column box_h) ∷ kids_read_prev_h (for_self word box_h) ∷ []
 
 -- the stack grammar with kids.y := self.x
 abbrev pub slanted : AttributeGrammar
@@ -97,7 +89,8 @@ slanted = record stack { child_rule = λ class child a. if class == sheet then b
 -- Column kids.y reads Sheet body.x
 abbrev pub slanted_pair : Pair
 slanted_pair =
-    pair_of (for_child column only_child box_y) parent_class (for_child sheet only_child box_x) (self_read box_x)
+    pair_of (for_child column only_child box_y) plain_part (self_read box_x) parent_class
+    (for_child sheet only_child box_x)
 
 -- a pair that the schedule orders, and one that it does not
 abbrev pub Orders : AttributeGrammar → Schedule → Pair → Type 0

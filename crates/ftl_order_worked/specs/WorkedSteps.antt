@@ -1,12 +1,12 @@
 -- The steps of a worked page, and which must come before which.
 use Rattle.std.specs.Prelude.{ℕ, List, [], ◌∷◌}
-use Rattle.ftl_model.specs.Path.{Path, top, down}
+use Rattle.ftl_model.specs.Path.{Path, down, top}
 use Rattle.ftl_model.specs.Solves.{Instance, instance_of}
+use Rattle.ftl_model.specs.Stack.{box_h, box_w, box_x, box_y, page_h, stack}
 use Rattle.ftl_model.specs.Values.{Value}
-use Rattle.ftl_model.specs.Worked.{numbers}
-use Rattle.ftl_model.specs.Stack.{stack, page_h, box_x, box_y, box_w, box_h}
-use Rattle.ftl_order.specs.Schedule.{Schedule, spot_of}
+use Rattle.ftl_model.specs.Worked.{numbers, two_words}
 use Rattle.ftl_order.specs.LegalOrder.{MustPrecede}
+use Rattle.ftl_order.specs.Schedule.{Schedule}
 
 -- the nodes of a sheet with a column of two words
 abbrev pub the_sheet : Path
@@ -29,13 +29,13 @@ abbrev pub steps : Path → ℕ → Path → ℕ → TwoSteps
 steps p a q b = record { earlier = instance_of p a; later = instance_of q b }
 
 abbrev pub MustBe : Schedule → TwoSteps → Type 0
-MustBe s two = MustPrecede stack (spot_of s) two.earlier two.later
+MustBe s two = MustPrecede stack two_words s two.earlier two.later
 
 -- neither must come before the other
 abbrev pub IsFree : Schedule → TwoSteps → Type 0
 IsFree s two =
-    (MustPrecede stack (spot_of s) two.earlier two.later → ⊥)
-    × (MustPrecede stack (spot_of s) two.later two.earlier → ⊥)
+    (MustPrecede stack two_words s two.earlier two.later → ⊥)
+    × (MustPrecede stack two_words s two.later two.earlier → ⊥)
 
 -- under bottomup { Page.h Box.w Box.h } ; topdown { Box.x Box.y }
 abbrev pub in_order : List TwoSteps

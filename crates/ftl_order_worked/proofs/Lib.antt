@@ -1,0 +1,4 @@
+pub mod Bounded
+pub mod StackLawful
+pub mod StackPairs
+pub mod StackSchedules

@@ -1,0 +1,4 @@
+pub mod Chain
+pub mod WorkedRows
+pub mod WorkedSchedules
+pub mod WorkedSteps
