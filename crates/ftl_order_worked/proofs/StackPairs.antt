@@ -2,11 +2,13 @@
 use Rattle.std.proofs.Common.{◌≡◌, ◌⊎◌, ℕ, zero, suc, ◌<◌, refl, sym, subst, subst₂, ⊎_elim, lit<, arith, List, [], ◌∷◌, Contains}
 use Rattle.std.specs.List.{AllByRecursion}
 use Rattle.ftl_lists.proofs.Elements.{each_in}
-use Rattle.ftl_model.specs.AttributeGrammar.{RuleName, for_self, for_child, Part, plain_part, first_part, then_part, from_part, with_part, reads_in, Read, self_read, single_read, each_read, prev_read, inherited, synthesized}
+use Rattle.ftl_lists.proofs.Listed.{listed}
+use Rattle.ftl_model.specs.AttributeGrammar.{Part, Read, RuleName, each_read, first_part, for_child, for_self, from_part, inherited, plain_part, prev_read, reads_in, self_read, single_read, synthesized, then_part, with_part}
 use Rattle.ftl_model.specs.Solves.{rule_named}
 use Rattle.ftl_model.specs.Stack.{stack, stack_rules}
-use Rattle.ftl_order.specs.Pairs.{class_of_rule, Where, parent_class, child_class, IsReader, Writes, WritesOwn, WritesKid, Pair, IsPair}
-use Rattle.ftl_order.proofs.PartReads.{plain_reads, first_then_reads, fold_reads}
+use Rattle.ftl_order.specs.Pairs.{IsPair, IsReader, Pair, Where, Writes, WritesKid, WritesOwn, child_class, class_of_rule, parent_class}
+use Rattle.ftl_order.proofs.PartReads.{first_then_reads, fold_reads, plain_reads}
+use Rattle.ftl_order.proofs.Rows.{turn}
 use Rattle.ftl_order_worked.specs.WorkedSchedules.{pair_of, stack_pairs}
 use Rattle.ftl_order_worked.proofs.StackLawful.{each_rule, stack_lawful}
 

@@ -6,11 +6,11 @@ use Rattle.ftl_model.specs.AttributeGrammar.{input}
 use Rattle.ftl_model.specs.Stack.{stack}
 use Rattle.ftl_model.specs.Tree.{Forest}
 use Rattle.ftl_model.specs.TreeOf.{IsTreeOf}
-use Rattle.ftl_order.specs.Schedule.{Schedule, spot_of, EachStandsOnce, entries}
-use Rattle.ftl_order.specs.Ordered.{IsOrderedPair, IsOrdered}
-use Rattle.ftl_order.specs.OneTable.{ExactlyOneTable, ExactlyOneList}
-use Rattle.ftl_order.proofs.Scheduled.{one_table_under, one_list_under}
-use Rattle.ftl_order_worked.specs.WorkedSchedules.{stack_pairs, sizes_then_places, places_beside}
+use Rattle.ftl_order.specs.OneTable.{ExactlyOneList, ExactlyOneTable}
+use Rattle.ftl_order.specs.Ordered.{IsOrdered, IsOrderedPair}
+use Rattle.ftl_order.specs.Schedule.{EachStandsOnce, Schedule, entries, spot_of}
+use Rattle.ftl_order.proofs.Scheduled.{one_list_under, one_table_under}
+use Rattle.ftl_order_worked.specs.WorkedSchedules.{places_beside, sizes_then_places, stack_pairs}
 use Rattle.ftl_order_worked.proofs.Bounded.{each_below}
 use Rattle.ftl_order_worked.proofs.StackLawful.{stack_lawful}
 use Rattle.ftl_order_worked.proofs.StackPairs.{pairs_listed}

@@ -5,14 +5,15 @@ use Rattle.std.specs.List.{flat_map, list_any, Contains, AllByRecursion}
 use Rattle.std.specs.Fmt.{decimal}
 use Rattle.std.proofs.lemmas.List.{get_or_at}
 use Rattle.std.proofs.lemmas.List.Elements.{Contains-append_left}
-use Rattle.ftl_model.specs.Values.{Value}
+use Rattle.ftl_model.specs.AttributeGrammar.{attributes_of}
+use Rattle.ftl_model.specs.Boxes.{boxes, field_text, is_overflow, node_line, shows_overflow, value_text}
+use Rattle.ftl_model.specs.Path.{Has, Path, class_at, number_of, preorder}
+use Rattle.ftl_model.specs.Solves.{Instance, IsInstance, instance_of}
+use Rattle.ftl_model.specs.Stack.{stack}
+use Rattle.ftl_model.specs.StackNames.{stack_class_name, stack_names, stack_shown}
 use Rattle.ftl_model.specs.Tree.{Forest}
 use Rattle.ftl_model.specs.TreeOf.{IsTreeOf}
-use Rattle.ftl_model.specs.Path.{Path, Has, class_at, number_of, preorder}
-use Rattle.ftl_model.specs.Boxes.{boxes, node_line, field_text, shows_overflow, is_overflow, value_text}
-use Rattle.ftl_model.specs.Solves.{Instance, instance_of, IsInstance, attributes_of}
-use Rattle.ftl_model.specs.Stack.{stack}
-use Rattle.ftl_model.specs.StackNames.{stack_names, stack_shown, stack_class_name}
+use Rattle.ftl_model.specs.Values.{Value}
 use Rattle.ftl_model.proofs.Numbering.{has-preorder}
 use Rattle.ftl_tree.proofs.Access.{is_tree}
 

@@ -5,14 +5,14 @@ use Rattle.std.proofs.lemmas.Bool.{cases_lt}
 use Rattle.ftl_tree.specs.Scanning.{same_bytes}
 use Rattle.ftl_tree.proofs.ScanningLemmas.{same_bytes-true}
 use Rattle.ftl_run.proofs.PageDecided.{Decided, page_decided, same_bytes_of}
-use Rattle.ftl_model.specs.Values.{Value, overflow}
+use Rattle.ftl_model.specs.Stack.{stack}
+use Rattle.ftl_model.specs.Table.{SolvesList}
 use Rattle.ftl_model.specs.Tree.{Forest}
 use Rattle.ftl_model.specs.TreeOf.{IsTreeOf}
-use Rattle.ftl_model.specs.Table.{SolvesList}
-use Rattle.ftl_model.specs.Stack.{stack}
+use Rattle.ftl_model.specs.Values.{Value}
+use Rattle.ftl_order_worked.proofs.StackSchedules.{one_stack_list}
 use Rattle.ftl_tree.specs.FirstForm.{IsInFirstForm}
 use Rattle.ftl_tree.proofs.Documents.{document_is_tree, one_page}
-use Rattle.ftl_order.proofs.StackRank.{one_stack_list}
 use Rattle.ftl_run.specs.Headline.{OfAnswer, OneTable, IsPageStatus}
 use Rattle.ftl_run.specs.Answer.{Answer, IsAnswer, bad_words, too_long, not_built, boxes_of, refused, run_words, laid_out, HasOneAnswer}
 
@@ -20,10 +20,10 @@ pub page_is_tree : (bytes : List ℕ) (t : Forest) → IsInFirstForm bytes t →
 page_is_tree bytes t p = document_is_tree p.body t p.document
 
 -- what the answer to the words that lay out a page is, beside the words
-pub one_for_page : (bytes : List ℕ) (t u : Forest) (xs ys : List Value) → IsInFirstForm bytes t → IsInFirstForm bytes u → SolvesList stack t overflow xs → SolvesList stack u overflow ys → laid_out t xs ≡ laid_out u ys
+pub one_for_page : (bytes : List ℕ) (t u : Forest) (xs ys : List Value) → IsInFirstForm bytes t → IsInFirstForm bytes u → SolvesList stack t xs → SolvesList stack u ys → laid_out t xs ≡ laid_out u ys
 one_for_page bytes t u xs ys p q h k =
     let same = one_page bytes t u p q in
-    let moved = subst (λ (f : Forest). SolvesList stack f overflow xs) same h in
+    let moved = subst (λ (f : Forest). SolvesList stack f xs) same h in
     ap (λ f. laid_out f xs) same
     ∙ ap (laid_out u) ((one_stack_list u (page_is_tree bytes u q)).any_two_equal xs ys moved k)
 

@@ -3,15 +3,15 @@ use Rattle.std.proofs.Common.{◌≡◌, ℕ, ◌<◌, ◌≤◌, Bool, true, fa
 use Rattle.std.specs.Prelude.{codes, String}
 use Rattle.std.specs.String.{string_bytes}
 use lib.Pointwise.{pointwise}
-use Rattle.ftl_model.specs.Values.{Value, overflow}
-use Rattle.ftl_model.specs.Tree.{Forest}
-use Rattle.ftl_model.specs.TreeOf.{IsTreeOf}
-use Rattle.ftl_model.specs.Table.{value_in}
 use Rattle.ftl_model.specs.Boxes.{boxes, shows_overflow}
 use Rattle.ftl_model.specs.Solves.{Instance, Solves}
 use Rattle.ftl_model.specs.Stack.{stack}
 use Rattle.ftl_model.specs.StackNames.{stack_names}
-use Rattle.ftl_order.proofs.StackRank.{one_stack_list, one_stack_table}
+use Rattle.ftl_model.specs.Table.{value_in}
+use Rattle.ftl_model.specs.Tree.{Forest}
+use Rattle.ftl_model.specs.TreeOf.{IsTreeOf}
+use Rattle.ftl_model.specs.Values.{Value}
+use Rattle.ftl_order_worked.proofs.StackSchedules.{one_stack_list, one_stack_table}
 use Rattle.ftl_run.specs.Answer.{Answer, run_words}
 use Rattle.ftl_run.specs.Headline.{texts, IsPageStatus}
 use Rattle.ftl_run.specs.Deciding.{LaysOut}
@@ -22,7 +22,7 @@ use Rattle.ftl_tree.proofs.Documents.{pointwise-true}
 pub lays_out : (t : Forest) (s : Instance → Value) (a : Answer) → IsTreeOf stack t → Solves stack t s → a.status ≡ cond (shows_overflow stack_names t s) 8 0 → a.text ≡ boxes stack_names t s → LaysOut t a
 lays_out t s a h solves status text =
     let list = (one_stack_list t h).some_solves in
-    let v = value_in stack t overflow list.0 in
+    let v = value_in stack t list.0 in
     let agree = (one_stack_table t h).any_two_agree s v solves list.1.solves in
     record {
       values = list.0;
@@ -33,7 +33,7 @@ lays_out t s a h solves status text =
     }
 
 pub laid_out_status : (t : Forest) (a : Answer) → LaysOut t a → IsPageStatus a.status
-laid_out_status t a l = subst (λ (b : Answer). IsPageStatus b.status) (sym l.answer) (go (shows_overflow stack_names t (value_in stack t overflow l.values)))
+laid_out_status t a l = subst (λ (b : Answer). IsPageStatus b.status) (sym l.answer) (go (shows_overflow stack_names t (value_in stack t l.values)))
   where
     go : (b : Bool) → IsPageStatus (cond b 8 0)
     go true = inr (inr refl)

@@ -1,11 +1,11 @@
 -- The answer to words and bytes: a status and a text.
 use Rattle.std.specs.Prelude.{◌≡◌, ◌≢◌, ℕ, ◌<◌, ◌≤◌, ◌++◌, if◌then◌else◌, List, [], ◌∷◌, length, codes}
-use Rattle.ftl_model.specs.Values.{Value, overflow}
-use Rattle.ftl_model.specs.Tree.{Forest}
-use Rattle.ftl_model.specs.Table.{SolvesList, value_in}
 use Rattle.ftl_model.specs.Boxes.{boxes, shows_overflow}
 use Rattle.ftl_model.specs.Stack.{stack}
 use Rattle.ftl_model.specs.StackNames.{stack_names}
+use Rattle.ftl_model.specs.Table.{SolvesList, value_in}
+use Rattle.ftl_model.specs.Tree.{Forest}
+use Rattle.ftl_model.specs.Values.{Value}
 use Rattle.ftl_tree.specs.FirstForm.{IsInFirstForm}
 
 pub record Answer : Type 0 where
@@ -23,7 +23,7 @@ run_words = codes "run" ∷ []
 -- the boxes of a table, with status 8 where a shown value is Overflow
 abbrev pub laid_out : Forest → List Value → Answer
 laid_out t values =
-    let s = value_in stack t overflow values in
+    let s = value_in stack t values in
     record {
       status = if shows_overflow stack_names t s then 8 else 0;
       text = boxes stack_names t s;
@@ -35,7 +35,7 @@ pub data IsAnswer : List (List ℕ) → List ℕ → Answer → Type 0 where
   bad_words : {words : List (List ℕ)} {bytes : List ℕ} → words ≢ run_words → IsAnswer words bytes (refused 2 (codes "refused words"))
   too_long : {bytes : List ℕ} → 67108864 < length bytes → IsAnswer run_words bytes (refused 4 (codes "refused page: too long"))
   not_built : {bytes : List ℕ} → length bytes ≤ 67108864 → ((t : Forest) → IsInFirstForm bytes t → ⊥) → IsAnswer run_words bytes (refused 4 (codes "refused page: form not built"))
-  boxes_of : {bytes : List ℕ} {t : Forest} {values : List Value} → IsInFirstForm bytes t → SolvesList stack t overflow values → IsAnswer run_words bytes (laid_out t values)
+  boxes_of : {bytes : List ℕ} {t : Forest} {values : List Value} → IsInFirstForm bytes t → SolvesList stack t values → IsAnswer run_words bytes (laid_out t values)
 
 -- words and bytes have one answer
 pub record HasOneAnswer (words : List (List ℕ)) (bytes : List ℕ) : Type 0 where

@@ -3,9 +3,8 @@ use Rattle.std.specs.Prelude.{◌≡◌, ◌≢◌, ℕ, ◌+◌, ◌≤◌, ◌
 use Rattle.std.specs.String.{string_bytes}
 use Rattle.ftl_edge.specs.Counts.{SourceCounts}
 use Rattle.ftl_edge.specs.Sink.{AppendsFront}
-use Rattle.ftl_model.specs.Values.{overflow}
-use Rattle.ftl_model.specs.Tree.{Forest}
 use Rattle.ftl_model.specs.Stack.{stack}
+use Rattle.ftl_model.specs.Tree.{Forest}
 use Rattle.ftl_order.specs.OneTable.{ExactlyOneList}
 use Rattle.ftl_tree.specs.FirstForm.{IsInFirstForm}
 use Rattle.ftl_run.specs.Answer.{Answer, IsAnswer, run_words, refused}
@@ -47,4 +46,4 @@ pub record ReadsInput (status : ℕ) (words : List (List ℕ)) (told left : Opti
 -- exactly one list of values solves the page's document
 abbrev pub OneTable : List (List ℕ) → Option (List ℕ) → Type 0
 OneTable words None = Unit {0}
-OneTable words (Some bytes) = words ≡ run_words → (t : Forest) → IsInFirstForm bytes t → ExactlyOneList stack t overflow
+OneTable words (Some bytes) = words ≡ run_words → (t : Forest) → IsInFirstForm bytes t → ExactlyOneList stack t

@@ -1,0 +1,157 @@
+-- The chain grammar is lawful, and its inorder schedule ordered.
+use Rattle.std.proofs.Common.{◌≡◌, ◌≢◌, ◌⊎◌, ℕ, zero, suc, ◌<◌, ◌==◌, true, false, if◌then◌else◌, refl, sym, ap, ap₂, subst, subst₂, inl, inr, ⊎_elim, lit<, arith, ne_eqb, List, [], ◌∷◌, count_by, Contains}
+use Rattle.std.specs.List.{AllByRecursion}
+use Rattle.ftl_lists.specs.Lists.{AreDistinct}
+use Rattle.ftl_lists.proofs.Elements.{each_in, not_among, nothing_in}
+use Rattle.ftl_model.specs.AttributeGrammar.{Part, Read, RuleName, first_part, for_child, for_self, inherited, input, kid, prev_read, reads_in, then_part}
+use Rattle.ftl_model.specs.Solves.{rule_named}
+use Rattle.ftl_model.specs.Values.{narrow, sum_of}
+use Rattle.ftl_order.specs.Lawful.{IsAlone, IsLawful, IsOwnSort, IsRule, MayReadForChild, MayReadLater, Owner, Owns, PartsForChild, class_owner, interface_owner}
+use Rattle.ftl_order.specs.Ordered.{IsOrdered, IsOrderedRead, place_of}
+use Rattle.ftl_order.specs.Pairs.{Where, Writes, class_of_rule, same_class}
+use Rattle.ftl_order.specs.Schedule.{EachStandsOnce, entries, spot_of}
+use Rattle.ftl_order.proofs.PartReads.{first_then_reads}
+use Rattle.ftl_order_worked.specs.Chain.{chain, chain_a, chain_b, chain_inorder}
+use Rattle.ftl_order_worked.proofs.Bounded.{each_below, one_owner_by}
+
+no_children : (k c : ℕ) → c < chain.child_count (suc k) → ⊥
+no_children k c h =
+    let none : chain.child_count (suc k) ≡ 0 = ap (λ b. if b then 1 else 0) (ne_eqb (suc k) 0 (omega arith)) in
+    omega (arith, h, none)
+
+never_own : {X : Type 0} → IsOwnSort inherited → X
+never_own (inl e) = absurd (let z : ⊥ = grind arith in z)
+never_own (inr e) = absurd (let z : ⊥ = grind arith in z)
+
+-- each rule: those of the kids
+each_rule : (P : RuleName → Type 0) → P (for_child 0 0 0) → P (for_child 0 0 1) → (w : RuleName) → IsRule chain w → P w
+each_rule P p q (for_self k a) rule = never_own rule.2
+each_rule P p q (for_child zero zero a) rule =
+    each_in (λ a. P (for_child 0 0 a)) (0 ∷ (1 ∷ [])) (p, (q, tt)) a rule.2
+each_rule P p q (for_child zero (suc c) a) rule =
+    absurd (let d = rule.1 in let z : ⊥ = omega (arith, d) in z)
+each_rule P p q (for_child (suc k) c a) rule = absurd (no_children k c rule.1)
+
+-- each attribute: those of K
+each_owned : (P : Owner → ℕ → Type 0) → P (interface_owner 1) 0 → P (interface_owner 1) 1 → (x : Owner) (a : ℕ)
+    → Owns chain x a → P x a
+each_owned P p q (interface_owner i) a owns =
+    each_below (λ i. Contains (chain.shared i) a → P (interface_owner i) a) 2
+    (each_in (P (interface_owner 1)) (0 ∷ (1 ∷ [])) (p, (q, tt)) a,
+    (each_in (P (interface_owner 0)) [] tt a, tt)) i owns.0 owns.1
+each_owned P p q (class_owner k) a owns = absurd (nothing_in a owns.1)
+
+a_allowed : PartsForChild chain 0 0 chain_a.parts
+a_allowed = (
+  (lit< tt, refl),
+  each_in (MayReadForChild chain 0 0) [] tt,
+  each_in (MayReadLater chain 0 0) (prev_read 0 1 ∷ []) ((refl, (lit< tt, refl), (1, lit< tt, refl)), tt),
+)
+
+b_allowed : PartsForChild chain 0 0 chain_b.parts
+b_allowed = (
+  (lit< tt, refl),
+  each_in (MayReadForChild chain 0 0) [] tt,
+  each_in (MayReadLater chain 0 0) (prev_read 0 0 ∷ (prev_read 0 1 ∷ []))
+      ((refl, (lit< tt, refl), (0, lit< tt, refl)), ((refl, (lit< tt, refl), (1, lit< tt, refl)), tt)),
+)
+
+chain_a_alone : (number : ℕ) → IsAlone chain_a number
+chain_a_alone zero kids s t same = refl
+chain_a_alone (suc n) kids s t same = same (kid 0 n 1) (0, lit< tt, refl)
+
+chain_b_alone : (number : ℕ) → IsAlone chain_b number
+chain_b_alone zero kids s t same = refl
+chain_b_alone (suc n) kids s t same =
+    ap₂ (sum_of narrow) (same (kid 0 n 0) (0, lit< tt, refl)) (same (kid 0 n 1) (1, lit< tt, refl))
+
+abbrev RuleAllowed : RuleName → Type 0
+RuleAllowed (for_self k a) = Unit {0}
+RuleAllowed (for_child k c a) =
+    PartsForChild chain k c (chain.child_rule k c a).parts × ((number : ℕ) → IsAlone (chain.child_rule k c a) number)
+
+rules_allowed : (w : RuleName) → IsRule chain w → RuleAllowed w
+rules_allowed w rule =
+    each_rule RuleAllowed (a_allowed, chain_a_alone) (b_allowed, chain_b_alone) w rule
+
+differ : for_child 0 0 1 ≢ for_child 0 0 0
+differ e = let z : ⊥ = grind (arith, e) in z
+
+pub chain_lawful : IsLawful chain
+chain_lawful =
+    record {
+      root_known = lit< tt;
+      interfaces_known = λ k known. known;
+      children_known = λ k c known declared. lit< tt;
+      attributes_known = each_owned (λ x a. a < 2) (lit< tt) (lit< tt);
+      owned = each_below (λ a. (x : Owner) × Owns chain x a) 2
+          ((interface_owner 1, (lit< tt, (1, lit< tt, refl))), ((interface_owner 1, (lit< tt, (0, lit< tt, refl))), tt));
+      one_owner = one_owner_by chain (λ a. interface_owner 1) (each_owned (λ x a. x ≡ interface_owner 1) refl refl);
+      shared_once = each_below (λ i. AreDistinct (chain.shared i)) 2
+          ((not_among 0 (1 ∷ []) (omega arith), (not_among 1 [] tt, tt)), (tt, tt));
+      private_once = λ k known. tt;
+      shared_sorts = λ i a owns e. (let z : ⊥ = grind arith in z);
+      root_sorts = λ a h e. nothing_in a h;
+      private_sorts = λ k a owns. absurd (nothing_in a owns.1);
+      rules_are = each_in (IsRule chain) (for_child 0 0 0 ∷ (for_child 0 0 1 ∷ []))
+          ((lit< tt, lit< tt, (0, lit< tt, refl), refl), ((lit< tt, lit< tt, (1, lit< tt, refl), refl), tt));
+      rules_have = each_rule (Contains chain.rules) (0, lit< tt, refl) (1, lit< tt, refl);
+      rules_once = ((λ h. each_in (λ v. v ≢ for_child 0 0 0) (for_child 0 0 1 ∷ []) (differ, tt) (for_child 0 0 0) h refl),
+          ((λ h. nothing_in (for_child 0 0 1) h), tt));
+      self_parts = λ k a rule. never_own rule.2;
+      self_alone = λ k a rule. never_own rule.2;
+      child_parts = λ k c a rule. (rules_allowed (for_child k c a) rule).0;
+      child_alone = λ k c a rule. (rules_allowed (for_child k c a) rule).1;
+    }
+
+chain_once : EachStandsOnce chain chain_inorder
+chain_once = each_below (λ a. chain.sort a ≢ input → count_by (λ b. b == a) (entries chain_inorder) ≡ 1) 2
+    ((λ c. refl), ((λ c. refl), tt))
+
+-- each writer is ordered for this read: both rules stand in one block, and the read is by `prev`
+abbrev WritersOrdered : ℕ → Read → Type 0
+WritersOrdered b r =
+    (runs_at : Where) (w : RuleName) → Writes chain 0 r runs_at w
+    → IsOrderedRead (spot_of chain_inorder) runs_at r (place_of chain w) (place_of chain (for_child 0 0 b))
+
+prev_ordered : (b a : ℕ)
+    → IsOrderedRead (spot_of chain_inorder) same_class (prev_read 0 a) (place_of chain (for_child 0 0 a))
+    (place_of chain (for_child 0 0 b))
+    → WritersOrdered b (prev_read 0 a)
+prev_ordered b a h runs_at w writes =
+    subst₂ (λ p x. IsOrderedRead (spot_of chain_inorder) p (prev_read 0 a) (place_of chain x)
+    (place_of chain (for_child 0 0 b)))
+    (sym writes.0) (sym writes.1) h
+
+-- the reads of the parts of a rule, none in the first
+ordered_parts : (b : ℕ) (later : List Read) → AllByRecursion (WritersOrdered b) later → (part : Part) (r : Read)
+    → ((part ≡ first_part) × Contains [] r) ⊎ ((part ≡ then_part) × Contains later r) → WritersOrdered b r
+ordered_parts b later h part r is =
+    ⊎_elim (λ first. absurd (nothing_in r first.1)) (λ rest. each_in (WritersOrdered b) later h r rest.1) is
+
+abbrev PairsOrdered : RuleName → Type 0
+PairsOrdered w =
+    (part : Part) (r : Read) → Contains (reads_in (rule_named chain w).parts part) r
+    → (runs_at : Where) (v : RuleName) → Writes chain (class_of_rule w) r runs_at v
+    → IsOrderedRead (spot_of chain_inorder) runs_at r (place_of chain v) (place_of chain w)
+
+a_ordered : PairsOrdered (for_child 0 0 0)
+a_ordered part r h =
+    ordered_parts 0 (prev_read 0 1 ∷ []) (prev_ordered 0 1 (inr ((refl, refl), inr ((refl, refl), inr refl))), tt) part r
+    (first_then_reads [] (prev_read 0 1 ∷ []) part r h)
+
+b_ordered : PairsOrdered (for_child 0 0 1)
+b_ordered part r h =
+    ordered_parts 1 (prev_read 0 0 ∷ (prev_read 0 1 ∷ []))
+    (prev_ordered 1 0 (inr ((refl, refl), inr ((refl, refl), inr refl))),
+    (prev_ordered 1 1 (inr ((refl, refl), inr ((refl, refl), inr refl))), tt)) part r
+    (first_then_reads [] (prev_read 0 0 ∷ (prev_read 0 1 ∷ [])) part r h)
+
+pub chain_inorder_ordered : IsOrdered chain chain_inorder
+chain_inorder_ordered =
+    record {
+      once = chain_once;
+      pairs = λ pair is.
+          each_rule PairsOrdered a_ordered b_ordered pair.reader is.0.0 pair.part pair.read is.0.1
+          pair.runs_at pair.writer is.1;
+    }
