@@ -2,4 +2,5 @@ pub mod Fits
 pub mod FoldLaws
 pub mod Kids
 pub mod Numbering
+pub mod SameTrees
 pub mod Standing

@@ -2,6 +2,9 @@ pub mod AttributeGrammar
 pub mod Boxes
 pub mod Folds
 pub mod ForestCode
+pub mod InputLaws
+pub mod Inputs
+pub mod Notes
 pub mod Outcome
 pub mod Path
 pub mod Shape

@@ -3,15 +3,19 @@ use Rattle.std.specs.Prelude.{◌≡◌, ℕ, List, [], ◌∷◌, ◌++◌, pos
 use Rattle.std.specs.List.{AllByRecursion}
 use Rattle.ftl_model.specs.Values.{Value, number, overflow}
 use Rattle.ftl_model.specs.Tree.{Forest, none, tree}
+use Rattle.ftl_model.specs.AttributeGrammar.{AttributeGrammar}
 use Rattle.ftl_model.specs.Solves.{equation_value}
 use Rattle.ftl_model.specs.Table.{instances, value_in}
 use Rattle.ftl_model.specs.Stack.{stack, sheet, column, word, only_child}
 
 -- the equation of each instance holds
+abbrev pub EachHoldsIn : AttributeGrammar → Forest → List Value → Type 0
+EachHoldsIn g t values =
+    let s = value_in g t values in
+    AllByRecursion (λ i. s i ≡ equation_value g t s (g.sort i.attribute) i.node i.attribute) (instances g t)
+
 abbrev pub EachHolds : Forest → List Value → Type 0
-EachHolds t values =
-    let s = value_in stack t values in
-    AllByRecursion (λ i. s i ≡ equation_value stack t s (stack.sort i.attribute) i.node i.attribute) (instances stack t)
+EachHolds t values = EachHoldsIn stack t values
 
 -- a word of this size, before the trees beside it
 abbrev pub word_of_size : ℕ → ℕ → Forest → Forest
@@ -77,3 +81,9 @@ greatest_words_values =
     ++ numbers (0 ∷ 0 ∷ 1 ∷ 2147483647 ∷ 1 ∷ 2147483647 ∷ [])
     ++ numbers (0 ∷ 2147483647 ∷ 1 ∷ 2147483647 ∷ 1 ∷ 2147483647 ∷ [])
     ++ (number (pos 0) ∷ overflow ∷ numbers (1 ∷ 5 ∷ 1 ∷ 5 ∷ []))
+
+-- the heights of tall words on a wide page add up
+abbrev pub wide_words_values : List Value
+wide_words_values =
+    numbers
+    (2147483648 ∷ 0 ∷ 0 ∷ 1 ∷ 2147483648 ∷ 0 ∷ 0 ∷ 1 ∷ 1 ∷ 1 ∷ 1 ∷ 0 ∷ 1 ∷ 1 ∷ 2147483647 ∷ 1 ∷ 2147483647 ∷ [])

@@ -3,9 +3,11 @@
 //! There is no code here but laws, which are empty functions whose contracts state them.
 #![tactic(auto)]
 
+mod inputs;
 mod worked;
 
+pub use inputs::{instances_without_inputs, nodes_without_inputs};
 pub use worked::{
-    a_column_of_two_words, an_empty_column, an_overflowing_place, columns_in_a_column,
-    overflowing_heights,
+    a_column_of_two_words, a_sheet_with_a_note, an_empty_column, an_overflowing_place,
+    columns_in_a_column, heights_of_a_wide_page, overflowing_heights, reads_of_a_sheet_with_a_note,
 };

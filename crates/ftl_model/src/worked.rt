@@ -1,11 +1,13 @@
 ghost use Rattle.std.specs.Prelude.{◌≡◌, List, [], ◌∷◌, ◌++◌, codes, IsTrue, true, false};
-ghost use Rattle.ftl_model.specs.Values.{overflow};
+ghost use Rattle.ftl_model.specs.Values.{wide};
+ghost use Rattle.ftl_model.specs.AttributeGrammar.{own, kid, read_occurrences};
 ghost use Rattle.ftl_model.specs.Boxes.{boxes, shows_overflow};
-ghost use Rattle.ftl_model.specs.Stack.{stack};
+ghost use Rattle.ftl_model.specs.Stack.{stack, stack_in};
+ghost use Rattle.ftl_model.specs.Notes.{notes, two_items, two_items_values, no_items, no_items_values, total_rule, shift_rule, x_rule};
 ghost use Rattle.ftl_model.specs.StackNames.{stack_names};
 ghost use Rattle.ftl_model.specs.Table.{value_in};
 ghost use Rattle.ftl_model.specs.TreeOf.{IsTreeOf};
-ghost use Rattle.ftl_model.specs.Worked.{EachHolds, two_words, two_words_values, empty_column, numbers, tall_words, tall_words_values, nested_columns, nested_columns_values, greatest_words, greatest_words_values};
+ghost use Rattle.ftl_model.specs.Worked.{EachHolds, EachHoldsIn, wide_words_values, two_words, two_words_values, empty_column, numbers, tall_words, tall_words_values, nested_columns, nested_columns_values, greatest_words, greatest_words_values};
 
 /// A law: the values of a column of two words hold each equation, and this is how they are printed.
 pub fn a_column_of_two_words()
@@ -51,4 +53,34 @@ pub fn an_overflowing_place()
     ensures text { boxes stack_names greatest_words (value_in stack greatest_words greatest_words_values)
         ≡ codes "0 Sheet h=overflow\n1 Column x=0 y=0 w=1 h=overflow\n2 Word x=0 y=0 w=1 h=2147483647\n3 Word x=0 y=2147483647 w=1 h=2147483647\n4 Word x=0 y=overflow w=1 h=5\n" }
     ensures out_of_range { shows_overflow stack_names greatest_words (value_in stack greatest_words greatest_words_values) ≡ true }
+{}
+
+/// A law: on a wide page the same heights add up, and are printed.
+pub fn heights_of_a_wide_page()
+    ensures tree { IsTreeOf (stack_in wide) tall_words }
+    ensures equations { EachHoldsIn (stack_in wide) tall_words wide_words_values }
+    ensures text { boxes stack_names tall_words (value_in (stack_in wide) tall_words wide_words_values)
+        ≡ codes "0 Sheet h=2147483648\n1 Column x=0 y=0 w=1 h=2147483648\n2 Word x=0 y=0 w=1 h=1\n3 Word x=0 y=1 w=1 h=2147483647\n" }
+{}
+
+/// A law: the values of a grammar with a local, two children, `this`, `prev`, `last`, a fold that
+/// reads the node itself, and a negative input; once with two kids and once with none.
+pub fn a_sheet_with_a_note()
+    ensures tree { IsTreeOf notes two_items }
+    ensures equations { EachHoldsIn notes two_items two_items_values }
+    ensures empty_tree { IsTreeOf notes no_items }
+    ensures empty_equations { EachHoldsIn notes no_items no_items_values }
+{}
+
+/// A law: what rules read, in the order of the text: a fold reads its step once for each kid, and so
+/// the node itself as often; `prev` reads nothing for the first kid, `last` nothing where there is
+/// no kid.
+pub fn reads_of_a_sheet_with_a_note()
+    ensures fold { read_occurrences total_rule.parts (λ c. 2) 0
+        ≡ kid 1 0 2 ∷ own 7 ∷ kid 1 1 2 ∷ own 7 ∷ [] }
+    ensures empty_fold { read_occurrences total_rule.parts (λ c. 0) 0 ≡ [] }
+    ensures last { read_occurrences shift_rule.parts (λ c. 3) 0 ≡ kid 1 2 2 ∷ [] }
+    ensures no_last { read_occurrences shift_rule.parts (λ c. 0) 0 ≡ [] }
+    ensures first { read_occurrences x_rule.parts (λ c. 2) 0 ≡ own 7 ∷ [] }
+    ensures later { read_occurrences x_rule.parts (λ c. 2) 1 ≡ kid 1 0 1 ∷ kid 1 0 2 ∷ kid 1 1 3 ∷ [] }
 {}
