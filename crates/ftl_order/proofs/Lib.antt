@@ -1,8 +1,11 @@
+pub mod Bounded
 pub mod EquationSystem
 pub mod Instances
 pub mod Kids
 pub mod LegalOrders
 pub mod Near
+pub mod NotesLawful
+pub mod NotesOrders
 pub mod OneList
 pub mod OrderRank
 pub mod PartReads

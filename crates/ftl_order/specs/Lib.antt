@@ -1,5 +1,6 @@
 pub mod Lawful
 pub mod LegalOrder
+pub mod NotesOrders
 pub mod Numbers
 pub mod OneTable
 pub mod OrderLaws

@@ -4,11 +4,13 @@
 #![tactic(auto)]
 
 mod legal_order;
+mod notes;
 mod numbers;
 mod one_table;
 
 pub use legal_order::{
     exactly_one_table, inorder_sequences, legal_orders, ordered_reads, runs_end_in_the_table,
 };
+pub use notes::{notes_are_lawful, orders_of_a_sheet, reads_of_a_sheet, writers_of_a_shift};
 pub use numbers::{instance_numbers, preorder_numbers, subtree_ranges};
 pub use one_table::{one_list_where_reads_end, one_table_where_reads_end, reads_end_by_rank};

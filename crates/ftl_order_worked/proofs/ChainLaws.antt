@@ -1,5 +1,5 @@
 -- The chain grammar is lawful, and its inorder schedule ordered.
-use Rattle.std.proofs.Common.{◌≡◌, ◌≢◌, ◌⊎◌, ℕ, zero, suc, ◌<◌, ◌==◌, true, false, if◌then◌else◌, refl, sym, ap, ap₂, subst, subst₂, inl, inr, ⊎_elim, lit<, arith, ne_eqb, List, [], ◌∷◌, count_by, Contains}
+use Rattle.std.proofs.Common.{◌≡◌, ◌≢◌, ◌⊎◌, ℕ, zero, suc, ◌<◌, ◌==◌, if◌then◌else◌, refl, sym, ap, ap₂, subst₂, inl, inr, ⊎_elim, lit<, arith, ne_eqb, List, [], ◌∷◌, count_by, Contains}
 use Rattle.std.specs.List.{AllByRecursion}
 use Rattle.ftl_lists.specs.Lists.{AreDistinct}
 use Rattle.ftl_lists.proofs.Elements.{each_in, not_among, nothing_in}
@@ -12,7 +12,7 @@ use Rattle.ftl_order.specs.Pairs.{Where, Writes, class_of_rule, same_class}
 use Rattle.ftl_order.specs.Schedule.{EachStandsOnce, entries, spot_of}
 use Rattle.ftl_order.proofs.PartReads.{first_then_reads}
 use Rattle.ftl_order_worked.specs.Chain.{chain, chain_a, chain_b, chain_inorder}
-use Rattle.ftl_order_worked.proofs.Bounded.{each_below, one_owner_by}
+use Rattle.ftl_order.proofs.Bounded.{each_below, one_owner_by}
 
 no_children : (k c : ℕ) → c < chain.child_count (suc k) → ⊥
 no_children k c h =
@@ -36,9 +36,10 @@ each_rule P p q (for_child (suc k) c a) rule = absurd (no_children k c rule.1)
 each_owned : (P : Owner → ℕ → Type 0) → P (interface_owner 1) 0 → P (interface_owner 1) 1 → (x : Owner) (a : ℕ)
     → Owns chain x a → P x a
 each_owned P p q (interface_owner i) a owns =
-    each_below (λ i. Contains (chain.shared i) a → P (interface_owner i) a) 2
-    (each_in (P (interface_owner 1)) (0 ∷ (1 ∷ [])) (p, (q, tt)) a,
-    (each_in (P (interface_owner 0)) [] tt a, tt)) i owns.0 owns.1
+    each_below (λ i. Contains (chain.shared i) a → P (interface_owner i) a) 2 (
+      each_in (P (interface_owner 1)) (0 ∷ (1 ∷ [])) (p, (q, tt)) a,
+      (each_in (P (interface_owner 0)) [] tt a, tt),
+    ) i owns.0 owns.1
 each_owned P p q (class_owner k) a owns = absurd (nothing_in a owns.1)
 
 a_allowed : PartsForChild chain 0 0 chain_a.parts
@@ -96,8 +97,10 @@ chain_lawful =
       rules_are = each_in (IsRule chain) (for_child 0 0 0 ∷ (for_child 0 0 1 ∷ []))
           ((lit< tt, lit< tt, (0, lit< tt, refl), refl), ((lit< tt, lit< tt, (1, lit< tt, refl), refl), tt));
       rules_have = each_rule (Contains chain.rules) (0, lit< tt, refl) (1, lit< tt, refl);
-      rules_once = ((λ h. each_in (λ v. v ≢ for_child 0 0 0) (for_child 0 0 1 ∷ []) (differ, tt) (for_child 0 0 0) h refl),
-          ((λ h. nothing_in (for_child 0 0 1) h), tt));
+      rules_once = (
+        (λ h. each_in (λ v. v ≢ for_child 0 0 0) (for_child 0 0 1 ∷ []) (differ, tt) (for_child 0 0 0) h refl),
+        ((λ h. nothing_in (for_child 0 0 1) h), tt),
+      );
       self_parts = λ k a rule. never_own rule.2;
       self_alone = λ k a rule. never_own rule.2;
       child_parts = λ k c a rule. (rules_allowed (for_child k c a) rule).0;
@@ -142,9 +145,10 @@ a_ordered part r h =
 
 b_ordered : PairsOrdered (for_child 0 0 1)
 b_ordered part r h =
-    ordered_parts 1 (prev_read 0 0 ∷ (prev_read 0 1 ∷ []))
-    (prev_ordered 1 0 (inr ((refl, refl), inr ((refl, refl), inr refl))),
-    (prev_ordered 1 1 (inr ((refl, refl), inr ((refl, refl), inr refl))), tt)) part r
+    ordered_parts 1 (prev_read 0 0 ∷ (prev_read 0 1 ∷ [])) (
+      prev_ordered 1 0 (inr ((refl, refl), inr ((refl, refl), inr refl))),
+      (prev_ordered 1 1 (inr ((refl, refl), inr ((refl, refl), inr refl))), tt),
+    ) part r
     (first_then_reads [] (prev_read 0 0 ∷ (prev_read 0 1 ∷ [])) part r h)
 
 pub chain_inorder_ordered : IsOrdered chain chain_inorder

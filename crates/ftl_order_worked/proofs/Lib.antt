@@ -1,4 +1,3 @@
-pub mod Bounded
 pub mod ChainLaws
 pub mod StackLawful
 pub mod StackPairs

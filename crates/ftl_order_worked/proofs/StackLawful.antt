@@ -1,7 +1,6 @@
 -- The stack grammar is lawful.
-use Rattle.std.proofs.Common.{◌≡◌, ◌≢◌, ◌⊎◌, ℕ, zero, suc, ◌<◌, ◌==◌, true, false, if◌then◌else◌, refl, ap, ap₂, inl, inr, lit<, arith, List, [], ◌∷◌, ◌++◌, flat_map, Contains, rules}
+use Rattle.std.proofs.Common.{◌≡◌, ◌≢◌, ◌⊎◌, ℕ, zero, suc, ◌<◌, ◌==◌, if◌then◌else◌, refl, ap, ap₂, inl, inr, lit<, arith, List, [], ◌∷◌, ◌++◌, flat_map, Contains, rules}
 use Rattle.std.specs.List.{AllByRecursion, range_with_len}
-use Rattle.std.proofs.lemmas.List.Elements.{Contains-append_left, Contains-append_right}
 use Rattle.ftl_lists.specs.Lists.{AreDistinct}
 use Rattle.ftl_lists.proofs.Elements.{each_in, flat_map_has, here_in, not_among, range_has}
 use Rattle.ftl_model.specs.AttributeGrammar.{Occurrence, Read, RuleName, Sort, each_read, for_child, for_self, inherited, input, kid, local, own, prev_read, seen_by, self_read, single_read}
@@ -10,7 +9,7 @@ use Rattle.ftl_model.specs.Stack.{column_h, column_w, kids_y, stack, stack_rules
 use Rattle.ftl_model.specs.Values.{greatest_of, narrow, sum_of}
 use Rattle.ftl_model.proofs.FoldLaws.{fold_kids_same}
 use Rattle.ftl_order.specs.Lawful.{IsAlone, IsLawful, IsOwnSort, IsRule, MayReadForChild, MayReadForSelf, MayReadInStep, MayReadLater, OfChild, OfClass, Owner, Owns, PartsForChild, PartsForSelf, class_owner, interface_owner}
-use Rattle.ftl_order_worked.proofs.Bounded.{each_below, one_owner_by}
+use Rattle.ftl_order.proofs.Bounded.{each_below, one_owner_by}
 
 -- each attribute of each class
 pub each_class : (P : ℕ → ℕ → Type 0) → P 0 0 → AllByRecursion (P 1) (1 ∷ 2 ∷ 3 ∷ 4 ∷ [])
@@ -42,13 +41,13 @@ not_own sort (inr e) (inr f) = absurd (let z : ⊥ = grind arith in z)
 pub each_rule : (P : RuleName → Type 0) → AllByRecursion P stack_rules → (w : RuleName) → IsRule stack w → P w
 each_rule P h (for_self k a) rule =
     each_class (λ k a. IsOwnSort (stack.sort a) → P (for_self k a)) (λ own. h.0)
-    ((λ own. not_own inherited (inl refl) own), ( (λ own. not_own inherited (inl refl) own), ( (λ own. h.1.1.1.0), (    (λ own. h.1.1.1.1.0), tt))))
-    ((λ own. not_own inherited (inl refl) own), ( (λ own. not_own inherited (inl refl) own), (    (λ own. h.1.1.1.1.1.1.1.0), ( (λ own. h.1.1.1.1.1.1.1.1.0), ( (λ own. not_own input (inr refl) own), (    (λ own. not_own input (inr refl) own), tt))))))
+    ((λ own. not_own inherited (inl refl) own), ((λ own. not_own inherited (inl refl) own), ((λ own. h.1.1.1.0), ((λ own. h.1.1.1.1.0), tt))))
+    ((λ own. not_own inherited (inl refl) own), ((λ own. not_own inherited (inl refl) own), ((λ own. h.1.1.1.1.1.1.1.0), ((λ own. h.1.1.1.1.1.1.1.1.0), ((λ own. not_own input (inr refl) own), ((λ own. not_own input (inr refl) own), tt))))))
     k a rule.0 rule.1 rule.2
 each_rule P h (for_child k c a) rule =
     each_child (λ k c a. stack.sort a ≡ inherited → P (for_child k c a))
-    ((λ e. h.1.0), ( (λ e. h.1.1.0), ( (λ e. absurd (let z : ⊥ = grind arith in z)), (    (λ e. absurd (let z : ⊥ = grind arith in z)), tt))))
-    ((λ e. h.1.1.1.1.1.0), ( (λ e. h.1.1.1.1.1.1.0), ( (λ e. absurd (let z : ⊥ = grind arith in z)), (    (λ e. absurd (let z : ⊥ = grind arith in z)), tt))))
+    ((λ e. h.1.0), ((λ e. h.1.1.0), ((λ e. absurd (let z : ⊥ = grind arith in z)), ((λ e. absurd (let z : ⊥ = grind arith in z)), tt))))
+    ((λ e. h.1.1.1.1.1.0), ((λ e. h.1.1.1.1.1.1.0), ((λ e. absurd (let z : ⊥ = grind arith in z)), ((λ e. absurd (let z : ⊥ = grind arith in z)), tt))))
     k c a rule.0 rule.1 rule.2 rule.3
 
 -- ---- attributes and their owners
@@ -62,16 +61,18 @@ each_owned : (P : Owner → ℕ → Type 0) → P (interface_owner 0) 0
     → AllByRecursion (P (interface_owner 1)) (1 ∷ 2 ∷ 3 ∷ 4 ∷ [])
     → AllByRecursion (P (class_owner 2)) (5 ∷ 6 ∷ []) → (x : Owner) (a : ℕ) → Owns stack x a → P x a
 each_owned P h boxes words (interface_owner i) a owns =
-    each_below (λ i. Contains (stack.shared i) a → P (interface_owner i) a) 2
-    (each_in (P (interface_owner 1)) (1 ∷ 2 ∷ 3 ∷ 4 ∷ []) boxes a,
-    (each_in (P (interface_owner 0)) (0 ∷ []) (h, tt) a, tt)) i owns.0 owns.1
+    each_below (λ i. Contains (stack.shared i) a → P (interface_owner i) a) 2 (
+      each_in (P (interface_owner 1)) (1 ∷ 2 ∷ 3 ∷ 4 ∷ []) boxes a,
+      (each_in (P (interface_owner 0)) (0 ∷ []) (h, tt) a, tt),
+    ) i owns.0 owns.1
 each_owned P h boxes words (class_owner k) a owns =
-    each_below (λ k. Contains (stack.private k) a → P (class_owner k) a) 3
-    (each_in (P (class_owner 2)) (5 ∷ 6 ∷ []) words a,
-    (each_in (P (class_owner 1)) [] tt a, (each_in (P (class_owner 0)) [] tt a, tt))) k owns.0 owns.1
+    each_below (λ k. Contains (stack.private k) a → P (class_owner k) a) 3 (
+      each_in (P (class_owner 2)) (5 ∷ 6 ∷ []) words a,
+      (each_in (P (class_owner 1)) [] tt a, (each_in (P (class_owner 0)) [] tt a, tt)),
+    ) k owns.0 owns.1
 
 tells_owner : (x : Owner) (a : ℕ) → Owns stack x a → x ≡ owner_of a
-tells_owner = each_owned (λ x a. x ≡ owner_of a) refl (refl, ( refl, ( refl, ( refl, tt)))) (refl, ( refl, tt))
+tells_owner = each_owned (λ x a. x ≡ owner_of a) refl (refl, (refl, (refl, (refl, tt)))) (refl, (refl, tt))
 
 abbrev OwnedBy : ℕ → Type 0
 OwnedBy a = (x : Owner) × Owns stack x a
@@ -79,17 +80,17 @@ OwnedBy a = (x : Owner) × Owns stack x a
 each_is_owned : (a : ℕ) → a < 7 → OwnedBy a
 each_is_owned =
     each_below OwnedBy 7
-    ((class_owner 2, (lit< tt, (1, lit< tt, refl))), ( (class_owner 2, (lit< tt, (0, lit< tt, refl))), (    (interface_owner 1, (lit< tt, (3, lit< tt, refl))), ( (interface_owner 1, (lit< tt, (2, lit< tt, refl))), (    (interface_owner 1, (lit< tt, (1, lit< tt, refl))), ( (interface_owner 1, (lit< tt, (0, lit< tt, refl))), (    (interface_owner 0, (lit< tt, (0, lit< tt, refl))), tt)))))))
+    ((class_owner 2, (lit< tt, (1, lit< tt, refl))), ((class_owner 2, (lit< tt, (0, lit< tt, refl))), ((interface_owner 1, (lit< tt, (3, lit< tt, refl))), ((interface_owner 1, (lit< tt, (2, lit< tt, refl))), ((interface_owner 1, (lit< tt, (1, lit< tt, refl))), ((interface_owner 1, (lit< tt, (0, lit< tt, refl))), ((interface_owner 0, (lit< tt, (0, lit< tt, refl))), tt)))))))
 
 shared_once : (i : ℕ) → i < 2 → AreDistinct (stack.shared i)
 shared_once =
     each_below (λ i. AreDistinct (stack.shared i)) 2
-    ((not_among 1 (2 ∷ 3 ∷ 4 ∷ []) (omega arith), ( not_among 2 (3 ∷ 4 ∷ []) (omega arith), (    not_among 3 (4 ∷ []) (omega arith), ( not_among 4 [] tt, tt)))), (    (not_among 0 [] tt, tt), tt))
+    ((not_among 1 (2 ∷ 3 ∷ 4 ∷ []) (omega arith), (not_among 2 (3 ∷ 4 ∷ []) (omega arith), (not_among 3 (4 ∷ []) (omega arith), (not_among 4 [] tt, tt)))), ((not_among 0 [] tt, tt), tt))
 
 private_once : (k : ℕ) → k < 3 → AreDistinct (stack.private k)
 private_once =
     each_below (λ k. AreDistinct (stack.private k)) 3
-    ((not_among 5 (6 ∷ []) (omega arith), ( not_among 6 [] tt, tt)), ( tt, ( tt, tt)))
+    ((not_among 5 (6 ∷ []) (omega arith), (not_among 6 [] tt, tt)), (tt, (tt, tt)))
 
 abbrev SharedSort : Owner → ℕ → Type 0
 SharedSort (interface_owner i) a = stack.sort a ≢ local
@@ -98,8 +99,8 @@ SharedSort (class_owner k) a = (stack.sort a ≡ input) ⊎ (stack.sort a ≡ lo
 sorts : (x : Owner) (a : ℕ) → Owns stack x a → SharedSort x a
 sorts =
     each_owned SharedSort (λ e. (let z : ⊥ = grind arith in z))
-    ((λ e. (let z : ⊥ = grind arith in z)), ( (λ e. (let z : ⊥ = grind arith in z)), (    (λ e. (let z : ⊥ = grind arith in z)), ( (λ e. (let z : ⊥ = grind arith in z)), tt))))
-    (inl refl, ( inl refl, tt))
+    ((λ e. (let z : ⊥ = grind arith in z)), ((λ e. (let z : ⊥ = grind arith in z)), ((λ e. (let z : ⊥ = grind arith in z)), ((λ e. (let z : ⊥ = grind arith in z)), tt))))
+    (inl refl, (inl refl, tt))
 
 -- ---- rules
 
@@ -112,12 +113,12 @@ rules_once = search (rules, differ)
 rules_are : (w : RuleName) → Contains stack_rules w → IsRule stack w
 rules_are =
     each_in (IsRule stack) stack_rules
-    ((lit< tt, (0, lit< tt, refl), inl refl), ( (lit< tt, lit< tt, (0, lit< tt, refl), refl), (    (lit< tt, lit< tt, (1, lit< tt, refl), refl), ( (lit< tt, (2, lit< tt, refl), inl refl), (    (lit< tt, (3, lit< tt, refl), inl refl), ( (lit< tt, lit< tt, (0, lit< tt, refl), refl), (    (lit< tt, lit< tt, (1, lit< tt, refl), refl), ( (lit< tt, (2, lit< tt, refl), inl refl), (    (lit< tt, (3, lit< tt, refl), inl refl), tt)))))))))
+    ((lit< tt, (0, lit< tt, refl), inl refl), ((lit< tt, lit< tt, (0, lit< tt, refl), refl), ((lit< tt, lit< tt, (1, lit< tt, refl), refl), ((lit< tt, (2, lit< tt, refl), inl refl), ((lit< tt, (3, lit< tt, refl), inl refl), ((lit< tt, lit< tt, (0, lit< tt, refl), refl), ((lit< tt, lit< tt, (1, lit< tt, refl), refl), ((lit< tt, (2, lit< tt, refl), inl refl), ((lit< tt, (3, lit< tt, refl), inl refl), tt)))))))))
 
 rules_have : (w : RuleName) → IsRule stack w → Contains stack_rules w
 rules_have =
     each_rule (Contains stack_rules)
-    ((0, lit< tt, refl), ( (1, lit< tt, refl), ( (2, lit< tt, refl), ( (3, lit< tt, refl), ( (4, lit< tt, refl), (    (5, lit< tt, refl), ( (6, lit< tt, refl), ( (7, lit< tt, refl), ( (8, lit< tt, refl), tt)))))))))
+    ((0, lit< tt, refl), ((1, lit< tt, refl), ((2, lit< tt, refl), ((3, lit< tt, refl), ((4, lit< tt, refl), ((5, lit< tt, refl), ((6, lit< tt, refl), ((7, lit< tt, refl), ((8, lit< tt, refl), tt)))))))))
 
 -- what a lawful grammar asks of a rule
 abbrev PartsAllowed : RuleName → Type 0
@@ -126,12 +127,41 @@ PartsAllowed (for_child k c a) = PartsForChild stack k c (stack.child_rule k c a
 
 parts_allowed : (w : RuleName) → IsRule stack w → PartsAllowed w
 parts_allowed =
-    each_rule PartsAllowed
-    (each_in (MayReadForSelf stack 0) (single_read 0 4 ∷ []) (((lit< tt, refl), (3, lit< tt, refl)), tt), (    each_in (MayReadForChild stack 0 0) [] tt, (    each_in (MayReadForChild stack 0 0) [] tt, (    ((lit< tt, refl), each_in (MayReadForSelf stack 1) [] tt,
-    each_in (MayReadInStep stack 1 0) (each_read 0 3 ∷ []) ((refl, (2, lit< tt, refl)), tt)), (    ((lit< tt, refl), each_in (MayReadForSelf stack 1) [] tt,
-    each_in (MayReadInStep stack 1 0) (each_read 0 4 ∷ []) ((refl, (3, lit< tt, refl)), tt)), (    each_in (MayReadForChild stack 1 0) (self_read 1 ∷ []) ((0, lit< tt, refl), tt), (    ((lit< tt, refl), each_in (MayReadForChild stack 1 0) (self_read 2 ∷ []) ((1, lit< tt, refl), tt),
-    each_in (MayReadLater stack 1 0) (prev_read 0 2 ∷ prev_read 0 4 ∷ [])
-    ((refl, (lit< tt, refl), (1, lit< tt, refl)), ( (refl, (lit< tt, refl), (3, lit< tt, refl)), tt))), (    each_in (MayReadForSelf stack 2) (self_read 5 ∷ []) ((4, lit< tt, refl), tt), (    each_in (MayReadForSelf stack 2) (self_read 6 ∷ []) ((5, lit< tt, refl), tt), tt)))))))))
+    each_rule PartsAllowed (
+      each_in (MayReadForSelf stack 0) (single_read 0 4 ∷ []) (((lit< tt, refl), (3, lit< tt, refl)), tt),
+      (
+        each_in (MayReadForChild stack 0 0) [] tt,
+        (
+          each_in (MayReadForChild stack 0 0) [] tt,
+          (
+            (
+              (lit< tt, refl),
+              each_in (MayReadForSelf stack 1) [] tt,
+              each_in (MayReadInStep stack 1 0) (each_read 0 3 ∷ []) ((refl, (2, lit< tt, refl)), tt),
+            ),
+            (
+              (
+                (lit< tt, refl),
+                each_in (MayReadForSelf stack 1) [] tt,
+                each_in (MayReadInStep stack 1 0) (each_read 0 4 ∷ []) ((refl, (3, lit< tt, refl)), tt),
+              ),
+              (
+                each_in (MayReadForChild stack 1 0) (self_read 1 ∷ []) ((0, lit< tt, refl), tt),
+                (
+                  (
+                    (lit< tt, refl),
+                    each_in (MayReadForChild stack 1 0) (self_read 2 ∷ []) ((1, lit< tt, refl), tt),
+                    each_in (MayReadLater stack 1 0) (prev_read 0 2 ∷ prev_read 0 4 ∷ [])
+                        ((refl, (lit< tt, refl), (1, lit< tt, refl)), ((refl, (lit< tt, refl), (3, lit< tt, refl)), tt)),
+                  ),
+                  (each_in (MayReadForSelf stack 2) (self_read 5 ∷ []) ((4, lit< tt, refl), tt), (each_in (MayReadForSelf stack 2) (self_read 6 ∷ []) ((5, lit< tt, refl), tt), tt)),
+                ),
+              ),
+            ),
+          ),
+        ),
+      ),
+    )
 
 abbrev AloneAt : RuleName → Type 0
 AloneAt (for_self k a) = IsAlone (stack.self_rule k a) 0
@@ -165,16 +195,16 @@ kids_y_alone (suc n) kids s t same =
 each_alone : (w : RuleName) → IsRule stack w → AloneAt w
 each_alone =
     each_rule AloneAt
-    ((λ kids s t same. same (kid 0 0 4) (here_in (kid 0 0 4) [])), ( (λ number kids s t same. refl), (    (λ number kids s t same. refl), ( column_w_alone, ( column_h_alone, (    (λ number kids s t same. same (own 1) (here_in (own 1) [])), ( kids_y_alone, (    (λ kids s t same. same (own 5) (here_in (own 5) [])), ( (λ kids s t same. same (own 6) (here_in (own 6) [])), tt)))))))))
+    ((λ kids s t same. same (kid 0 0 4) (here_in (kid 0 0 4) [])), ((λ number kids s t same. refl), ((λ number kids s t same. refl), (column_w_alone, (column_h_alone, ((λ number kids s t same. same (own 1) (here_in (own 1) [])), (kids_y_alone, ((λ kids s t same. same (own 5) (here_in (own 5) [])), ((λ kids s t same. same (own 6) (here_in (own 6) [])), tt)))))))))
 
 pub stack_lawful : IsLawful stack
 stack_lawful =
     record {
       root_known = lit< tt;
-      interfaces_known = each_below (λ k. stack.interface k < 2) 3 (lit< tt, ( lit< tt, ( lit< tt, tt)));
+      interfaces_known = each_below (λ k. stack.interface k < 2) 3 (lit< tt, (lit< tt, (lit< tt, tt)));
       children_known = λ k c known declared. lit< tt;
-      attributes_known = each_owned (λ x a. a < 7) (lit< tt) (lit< tt, ( lit< tt, ( lit< tt, ( lit< tt, tt))))
-          (lit< tt, ( lit< tt, tt));
+      attributes_known = each_owned (λ x a. a < 7) (lit< tt) (lit< tt, (lit< tt, (lit< tt, (lit< tt, tt))))
+          (lit< tt, (lit< tt, tt));
       owned = each_is_owned;
       one_owner = one_owner_by stack owner_of tells_owner;
       shared_once = shared_once;

@@ -8,7 +8,6 @@ use Rattle.ftl_model.specs.Solves.{rule_named}
 use Rattle.ftl_model.specs.Stack.{stack, stack_rules}
 use Rattle.ftl_order.specs.Pairs.{IsPair, IsReader, Pair, Where, Writes, WritesKid, WritesOwn, child_class, class_of_rule, parent_class}
 use Rattle.ftl_order.proofs.PartReads.{first_then_reads, fold_reads, plain_reads}
-use Rattle.ftl_order.proofs.Rows.{turn}
 use Rattle.ftl_order_worked.specs.WorkedSchedules.{pair_of, stack_pairs}
 use Rattle.ftl_order_worked.proofs.StackLawful.{each_rule, stack_lawful}
 
@@ -64,30 +63,70 @@ y_listed : PairsListed (for_child 1 0 2)
 y_listed part r h =
     ⊎_elim
     (λ first. subst (λ p. Listed (for_child 1 0 2) p r) (sym first.0)
-    (each_in (Listed (for_child 1 0 2) first_part) (self_read 2 ∷ [])
-    (above_writers (λ p w. Contains stack_pairs (pair_of (for_child 1 0 2) first_part (self_read 2) p w)) 2
-    (8, lit< tt, refl) (9, lit< tt, refl), tt) r first.1))
+    (each_in (Listed (for_child 1 0 2) first_part) (self_read 2 ∷ []) (
+      above_writers (λ p w. Contains stack_pairs (pair_of (for_child 1 0 2) first_part (self_read 2) p w)) 2
+          (8, lit< tt, refl) (9, lit< tt, refl),
+      tt,
+    ) r first.1))
     (λ later. subst (λ p. Listed (for_child 1 0 2) p r) (sym later.0)
-    (each_in (Listed (for_child 1 0 2) then_part) (prev_read 0 2 ∷ (prev_read 0 4 ∷ []))
-    ((λ p w h. subst₂ (λ q x. Contains stack_pairs (pair_of (for_child 1 0 2) then_part (prev_read 0 2) q x))
-    (sym h.0) (sym h.1) (10, lit< tt, refl)),
-    (box_writers (λ p w. Contains stack_pairs (pair_of (for_child 1 0 2) then_part (prev_read 0 4) p w)) 1 4
-    (11, lit< tt, refl) (12, lit< tt, refl), tt)) r later.1))
+    (each_in (Listed (for_child 1 0 2) then_part) (prev_read 0 2 ∷ (prev_read 0 4 ∷ [])) (
+      (λ p w h. subst₂ (λ q x. Contains stack_pairs (pair_of (for_child 1 0 2) then_part (prev_read 0 2) q x))
+          (sym h.0) (sym h.1) (10, lit< tt, refl)),
+      (
+        box_writers (λ p w. Contains stack_pairs (pair_of (for_child 1 0 2) then_part (prev_read 0 4) p w)) 1 4
+            (11, lit< tt, refl) (12, lit< tt, refl),
+        tt,
+      ),
+    ) r later.1))
     (first_then_reads (self_read 2 ∷ []) (prev_read 0 2 ∷ (prev_read 0 4 ∷ [])) part r h)
 
 rules_listed : AllByRecursion PairsListed stack_rules
-rules_listed =
-    ((λ part r h. plain_listed (for_self 0 0) (single_read 0 4 ∷ [])
-    (box_writers (λ p w. Contains stack_pairs (pair_of (for_self 0 0) plain_part (single_read 0 4) p w)) 0 4
-    (0, lit< tt, refl) (1, lit< tt, refl), tt) part r (plain_reads (single_read 0 4 ∷ []) part r h)), (    (λ part r h. plain_listed (for_child 0 0 1) [] tt part r (plain_reads [] part r h)), (    (λ part r h. plain_listed (for_child 0 0 2) [] tt part r (plain_reads [] part r h)), (    (λ part r h. fold_listed (for_self 1 3) (each_read 0 3 ∷ [])
-    (box_writers (λ p w. Contains stack_pairs (pair_of (for_self 1 3) with_part (each_read 0 3) p w)) 1 3
-    (2, lit< tt, refl) (3, lit< tt, refl), tt) part r (fold_reads 0 [] (each_read 0 3 ∷ []) part r h)), (    (λ part r h. fold_listed (for_self 1 4) (each_read 0 4 ∷ [])
-    (box_writers (λ p w. Contains stack_pairs (pair_of (for_self 1 4) with_part (each_read 0 4) p w)) 1 4
-    (4, lit< tt, refl) (5, lit< tt, refl), tt) part r (fold_reads 0 [] (each_read 0 4 ∷ []) part r h)), (    (λ part r h. plain_listed (for_child 1 0 1) (self_read 1 ∷ [])
-    (above_writers (λ p w. Contains stack_pairs (pair_of (for_child 1 0 1) plain_part (self_read 1) p w)) 1
-    (6, lit< tt, refl) (7, lit< tt, refl), tt) part r (plain_reads (self_read 1 ∷ []) part r h)), (    y_listed, (    (λ part r h. plain_listed (for_self 2 3) (self_read 5 ∷ []) ((λ p w h. absurd h), tt) part r
-    (plain_reads (self_read 5 ∷ []) part r h)), (    (λ part r h. plain_listed (for_self 2 4) (self_read 6 ∷ []) ((λ p w h. absurd h), tt) part r
-    (plain_reads (self_read 6 ∷ []) part r h)), tt)))))))))
+rules_listed = (
+  (λ part r h. plain_listed (for_self 0 0) (single_read 0 4 ∷ []) (
+    box_writers (λ p w. Contains stack_pairs (pair_of (for_self 0 0) plain_part (single_read 0 4) p w)) 0 4
+        (0, lit< tt, refl) (1, lit< tt, refl),
+    tt,
+  ) part r (plain_reads (single_read 0 4 ∷ []) part r h)),
+  (
+    (λ part r h. plain_listed (for_child 0 0 1) [] tt part r (plain_reads [] part r h)),
+    (
+      (λ part r h. plain_listed (for_child 0 0 2) [] tt part r (plain_reads [] part r h)),
+      (
+        (λ part r h. fold_listed (for_self 1 3) (each_read 0 3 ∷ []) (
+          box_writers (λ p w. Contains stack_pairs (pair_of (for_self 1 3) with_part (each_read 0 3) p w)) 1 3
+              (2, lit< tt, refl) (3, lit< tt, refl),
+          tt,
+        ) part r (fold_reads 0 [] (each_read 0 3 ∷ []) part r h)),
+        (
+          (λ part r h. fold_listed (for_self 1 4) (each_read 0 4 ∷ []) (
+            box_writers (λ p w. Contains stack_pairs (pair_of (for_self 1 4) with_part (each_read 0 4) p w)) 1 4
+                (4, lit< tt, refl) (5, lit< tt, refl),
+            tt,
+          ) part r (fold_reads 0 [] (each_read 0 4 ∷ []) part r h)),
+          (
+            (λ part r h. plain_listed (for_child 1 0 1) (self_read 1 ∷ []) (
+              above_writers (λ p w. Contains stack_pairs (pair_of (for_child 1 0 1) plain_part (self_read 1) p w)) 1
+                  (6, lit< tt, refl) (7, lit< tt, refl),
+              tt,
+            ) part r (plain_reads (self_read 1 ∷ []) part r h)),
+            (
+              y_listed,
+              (
+                (λ part r h. plain_listed (for_self 2 3) (self_read 5 ∷ []) ((λ p w h. absurd h), tt) part r
+                    (plain_reads (self_read 5 ∷ []) part r h)),
+                (
+                  (λ part r h. plain_listed (for_self 2 4) (self_read 6 ∷ []) ((λ p w h. absurd h), tt) part r
+                      (plain_reads (self_read 6 ∷ []) part r h)),
+                  tt,
+                ),
+              ),
+            ),
+          ),
+        ),
+      ),
+    ),
+  ),
+)
 
 pub pairs_listed : (pair : Pair) → IsPair stack pair → Contains stack_pairs pair
 pairs_listed pair h =
@@ -122,4 +161,4 @@ prev_h_is_read = is_read (for_child 1 0 2) then_part (prev_read 0 4) (6, lit< tt
 pub listed_pairs : (pair : Pair) → Contains stack_pairs pair → IsPair stack pair
 listed_pairs =
     each_in (IsPair stack) stack_pairs
-    ((sheet_h_is_read, (1, lit< tt, refl, refl, refl)), ( (sheet_h_is_read, (2, lit< tt, refl, refl, refl)), (    (column_w_is_read, (1, lit< tt, refl, refl, refl)), ( (column_w_is_read, (2, lit< tt, refl, refl, refl)), (    (column_h_is_read, (1, lit< tt, refl, refl, refl)), ( (column_h_is_read, (2, lit< tt, refl, refl, refl)), (    (x_is_read, (0, 0, lit< tt, lit< tt, refl, refl, refl)), ( (x_is_read, (1, 0, lit< tt, lit< tt, refl, refl, refl)), (    (y_is_read, (0, 0, lit< tt, lit< tt, refl, refl, refl)), ( (y_is_read, (1, 0, lit< tt, lit< tt, refl, refl, refl)), (    (prev_y_is_read, (refl, refl)), ( (prev_h_is_read, (1, lit< tt, refl, refl, refl)), (    (prev_h_is_read, (2, lit< tt, refl, refl, refl)), tt)))))))))))))
+    ((sheet_h_is_read, (1, lit< tt, refl, refl, refl)), ((sheet_h_is_read, (2, lit< tt, refl, refl, refl)), ((column_w_is_read, (1, lit< tt, refl, refl, refl)), ((column_w_is_read, (2, lit< tt, refl, refl, refl)), ((column_h_is_read, (1, lit< tt, refl, refl, refl)), ((column_h_is_read, (2, lit< tt, refl, refl, refl)), ((x_is_read, (0, 0, lit< tt, lit< tt, refl, refl, refl)), ((x_is_read, (1, 0, lit< tt, lit< tt, refl, refl, refl)), ((y_is_read, (0, 0, lit< tt, lit< tt, refl, refl, refl)), ((y_is_read, (1, 0, lit< tt, lit< tt, refl, refl, refl)), ((prev_y_is_read, (refl, refl)), ((prev_h_is_read, (1, lit< tt, refl, refl, refl)), ((prev_h_is_read, (2, lit< tt, refl, refl, refl)), tt)))))))))))))

@@ -1,5 +1,5 @@
 -- The worked schedules of the stack grammar that are accepted, and that each of its trees has one table.
-use Rattle.std.proofs.Common.{◌≡◌, ◌≢◌, ℕ, ◌<◌, ◌==◌, refl, inl, inr, lit<, [], ◌∷◌, count_by}
+use Rattle.std.proofs.Common.{◌≡◌, ◌≢◌, ℕ, ◌==◌, refl, inl, inr, lit<, [], ◌∷◌, count_by}
 use Rattle.std.specs.List.{AllByRecursion}
 use Rattle.ftl_lists.proofs.Elements.{each_in}
 use Rattle.ftl_model.specs.AttributeGrammar.{input}
@@ -11,7 +11,7 @@ use Rattle.ftl_order.specs.Ordered.{IsOrdered, IsOrderedPair}
 use Rattle.ftl_order.specs.Schedule.{EachStandsOnce, Schedule, entries, spot_of}
 use Rattle.ftl_order.proofs.Scheduled.{one_list_under, one_table_under}
 use Rattle.ftl_order_worked.specs.WorkedSchedules.{places_beside, sizes_then_places, stack_pairs}
-use Rattle.ftl_order_worked.proofs.Bounded.{each_below}
+use Rattle.ftl_order.proofs.Bounded.{each_below}
 use Rattle.ftl_order_worked.proofs.StackLawful.{stack_lawful}
 use Rattle.ftl_order_worked.proofs.StackPairs.{pairs_listed}
 
@@ -23,25 +23,25 @@ stack_once : (s : Schedule) → AllByRecursion (λ a. count_by (λ b. b == a) (e
     → EachStandsOnce stack s
 stack_once s h =
     each_below (StandsOnce s) 7
-    ((λ c. absurd (c refl)), ( (λ c. absurd (c refl)), ( (λ c. h.0), ( (λ c. h.1.0), ( (λ c. h.1.1.0), ( (λ c. h.1.1.1.0), (    (λ c. h.1.1.1.1.0), tt)))))))
+    ((λ c. absurd (c refl)), ((λ c. absurd (c refl)), ((λ c. h.0), ((λ c. h.1.0), ((λ c. h.1.1.0), ((λ c. h.1.1.1.0), ((λ c. h.1.1.1.1.0), tt)))))))
 
 pub sizes_then_places_ordered : IsOrdered stack sizes_then_places
 sizes_then_places_ordered =
     record {
-      once = stack_once sizes_then_places (refl, ( refl, ( refl, ( refl, ( refl, tt)))));
+      once = stack_once sizes_then_places (refl, (refl, (refl, (refl, (refl, tt)))));
       pairs = λ pair is.
           each_in (IsOrderedPair stack (spot_of sizes_then_places)) stack_pairs
-          (inr ((refl, refl), tt), ( inr ((refl, refl), tt), ( inr ((refl, refl), tt), ( inr ((refl, refl), tt), (          inr ((refl, refl), tt), ( inr ((refl, refl), tt), ( inr ((refl, refl), tt), ( inr ((refl, refl), tt), (          inr ((refl, refl), tt), ( inr ((refl, refl), tt), ( inr ((refl, refl), inr (refl, (refl, refl))), (          inl (lit< tt), ( inl (lit< tt), tt)))))))))))))
+          (inr ((refl, refl), tt), (inr ((refl, refl), tt), (inr ((refl, refl), tt), (inr ((refl, refl), tt), (inr ((refl, refl), tt), (inr ((refl, refl), tt), (inr ((refl, refl), tt), (inr ((refl, refl), tt), (inr ((refl, refl), tt), (inr ((refl, refl), tt), (inr ((refl, refl), inr (refl, (refl, refl))), (inl (lit< tt), (inl (lit< tt), tt)))))))))))))
           pair (pairs_listed pair is);
     }
 
 pub places_beside_ordered : IsOrdered stack places_beside
 places_beside_ordered =
     record {
-      once = stack_once places_beside (refl, ( refl, ( refl, ( refl, ( refl, tt)))));
+      once = stack_once places_beside (refl, (refl, (refl, (refl, (refl, tt)))));
       pairs = λ pair is.
           each_in (IsOrderedPair stack (spot_of places_beside)) stack_pairs
-          (inr ((refl, refl), tt), ( inr ((refl, refl), tt), ( inr ((refl, refl), tt), ( inr ((refl, refl), tt), (          inr ((refl, refl), tt), ( inr ((refl, refl), tt), ( inr ((refl, refl), tt), ( inr ((refl, refl), tt), (          inr ((refl, refl), tt), ( inr ((refl, refl), tt), ( inr ((refl, refl), inr (refl, (refl, refl))), (          inl (lit< tt), ( inl (lit< tt), tt)))))))))))))
+          (inr ((refl, refl), tt), (inr ((refl, refl), tt), (inr ((refl, refl), tt), (inr ((refl, refl), tt), (inr ((refl, refl), tt), (inr ((refl, refl), tt), (inr ((refl, refl), tt), (inr ((refl, refl), tt), (inr ((refl, refl), tt), (inr ((refl, refl), tt), (inr ((refl, refl), inr (refl, (refl, refl))), (inl (lit< tt), (inl (lit< tt), tt)))))))))))))
           pair (pairs_listed pair is);
     }
 

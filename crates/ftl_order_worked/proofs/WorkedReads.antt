@@ -1,5 +1,5 @@
 -- What steps of a column of two words read: two occurrences each.
-use Rattle.std.proofs.Common.{◌≡◌, ◌⊎◌, ◌↔◌, refl, sym, subst, inl, inr, ⊎_elim, lit<, arith, List, [], ◌∷◌, Contains}
+use Rattle.std.proofs.Common.{◌≡◌, ◌⊎◌, ◌↔◌, refl, sym, subst, inl, inr, ⊎_elim, lit<, [], ◌∷◌, Contains}
 use Rattle.ftl_lists.proofs.Elements.{in_cases, nothing_in}
 use Rattle.ftl_model.specs.Solves.{Instance, instance_of}
 use Rattle.ftl_model.specs.Stack.{box_h, box_y, stack}
