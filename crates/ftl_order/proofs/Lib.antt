@@ -10,6 +10,7 @@ pub mod OneList
 pub mod OrderRank
 pub mod PartReads
 pub mod Ranges
+pub mod ReadPairs
 pub mod Rows
 pub mod Runs
 pub mod Scheduled

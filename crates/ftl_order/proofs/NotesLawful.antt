@@ -2,12 +2,12 @@
 use Rattle.std.proofs.Common.{◌≡◌, ◌≢◌, ◌⊎◌, ℕ, zero, suc, ◌<◌, ◌==◌, true, false, if◌then◌else◌, refl, ap, ap₂, inl, inr, lit<, arith, rules, List, [], ◌∷◌, ◌++◌, flat_map, Contains, ne_eqb, pos}
 use Rattle.std.specs.List.{AllByRecursion, range_with_len}
 use Rattle.ftl_lists.specs.Lists.{AreDistinct}
-use Rattle.ftl_lists.proofs.Elements.{each_in, here_in, not_among, flat_map_has, range_has}
-use Rattle.ftl_model.specs.AttributeGrammar.{RuleName, for_self, for_child, self_read, single_read, each_read, this_read, prev_read, last_read, Occurrence, own, kid, kid_before, seen_by, Sort, input, inherited, synthesized, local}
+use Rattle.ftl_lists.proofs.Elements.{each_in, flat_map_has, here_in, not_among, range_has}
+use Rattle.ftl_model.specs.AttributeGrammar.{Occurrence, RuleName, Sort, each_read, for_child, for_self, inherited, input, kid, kid_before, last_read, local, own, prev_read, seen_by, self_read, single_read, synthesized, this_read}
+use Rattle.ftl_model.specs.Notes.{last_width, notes, notes_rules, plus, shift_rule, total_rule, x_rule}
 use Rattle.ftl_model.specs.Values.{number}
-use Rattle.ftl_model.specs.Notes.{notes, notes_rules, plus, shift_rule, x_rule, total_rule, last_width}
 use Rattle.ftl_model.proofs.FoldLaws.{fold_kids_same}
-use Rattle.ftl_order.specs.Lawful.{Owner, interface_owner, class_owner, Owns, OfClass, OfChild, IsOwnSort, IsRule, MayReadForSelf, MayReadInStep, MayReadForChild, MayReadLater, PartsForSelf, PartsForChild, IsAlone, IsLawful}
+use Rattle.ftl_order.specs.Lawful.{IsAlone, IsLawful, IsOwnSort, IsRule, MayReadForChild, MayReadForSelf, MayReadInStep, MayReadLater, OfChild, OfClass, Owner, Owns, PartsForChild, PartsForSelf, class_owner, interface_owner}
 use Rattle.ftl_order.proofs.Bounded.{each_below, one_owner_by}
 
 -- each attribute of each class

@@ -3,20 +3,20 @@ use Rattle.std.proofs.Common.{◌≡◌, ◌≢◌, ℕ, zero, suc, ◌<◌, ◌
 use Rattle.std.specs.List.{AllByRecursion}
 use Rattle.ftl_lists.specs.Lists.{AreDistinct}
 use Rattle.ftl_lists.proofs.Elements.{each_in, not_among}
-use Rattle.ftl_lists.proofs.Rising.{Rising, rising_at, map_has}
-use Rattle.ftl_model.specs.AttributeGrammar.{RuleName, for_self, for_child, Part, reads_in, plain, first_then, fold_over, Read, self_read, single_read, each_read, this_read, prev_read, last_read, input}
+use Rattle.ftl_lists.proofs.Rising.{Rising, map_has, rising_at}
+use Rattle.ftl_model.specs.AttributeGrammar.{Part, Read, RuleName, each_read, first_then, fold_over, for_child, for_self, input, last_read, plain, prev_read, reads_in, self_read, single_read, this_read}
+use Rattle.ftl_model.specs.Notes.{no_items, notes, notes_rules}
 use Rattle.ftl_model.specs.Solves.{Instance, rule_named}
-use Rattle.ftl_model.specs.Table.{instances, instance_number}
-use Rattle.ftl_model.specs.Notes.{notes, notes_rules, no_items}
-use Rattle.ftl_order.specs.Schedule.{spot_of, EachStandsOnce, entries}
-use Rattle.ftl_order.specs.Pairs.{class_of_rule, Where, same_class, parent_class, child_class, Writes}
-use Rattle.ftl_order.specs.Ordered.{place_of, IsOrderedRead, IsOrdered}
-use Rattle.ftl_order.specs.LegalOrder.{IsStep, MustPrecede, IsLegalOrder}
-use Rattle.ftl_order.specs.NotesOrders.{notes_schedule, notes_order, size_twice}
+use Rattle.ftl_model.specs.Table.{instance_number, instances}
+use Rattle.ftl_order.specs.LegalOrder.{IsLegalOrder, IsStep, MustPrecede}
+use Rattle.ftl_order.specs.NotesOrders.{notes_order, notes_schedule, size_twice}
+use Rattle.ftl_order.specs.Ordered.{IsOrdered, IsOrderedRead, place_of}
+use Rattle.ftl_order.specs.Pairs.{Where, Writes, child_class, class_of_rule, parent_class, same_class}
+use Rattle.ftl_order.specs.Schedule.{EachStandsOnce, entries, spot_of}
 use Rattle.ftl_order.proofs.Bounded.{each_below}
 use Rattle.ftl_order.proofs.Instances.{is_listed_instance}
 use Rattle.ftl_order.proofs.NotesLawful.{each_rule}
-use Rattle.ftl_order.proofs.PartReads.{plain_reads, first_then_reads, fold_reads}
+use Rattle.ftl_order.proofs.PartReads.{first_then_reads, fold_reads, plain_reads}
 
 -- the writers of an inherited attribute of a note, and of a box
 pub shift_writer : (runs_at : Where) (w : RuleName) → Writes notes 2 (self_read 4) runs_at w

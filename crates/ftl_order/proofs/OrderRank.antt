@@ -2,6 +2,7 @@
 use Rattle.std.proofs.Common.{◌≡◌, ◌⊎◌, ℕ, suc, ◌+◌, ◌-◌, ◌<◌, ◌≤◌, refl, sym, ap, subst, inl, inr, ⊎_elim, arith, List, [], ◌∷◌, length, Contains}
 use Rattle.ftl_lists.specs.Lists.{Before}
 use Rattle.ftl_lists.proofs.Elements.{nothing_in}
+use Rattle.ftl_lists.proofs.Listed.{listed}
 use Rattle.ftl_lists.proofs.Weights.{all_below, at_most_total_of, before_weight, sum_of_all, total_by, weight}
 use Rattle.ftl_model.specs.AttributeGrammar.{AttributeGrammar, Sort, inherited, input, local, synthesized}
 use Rattle.ftl_model.specs.Path.{Above, Has, Path, at as tree_at, down, top}

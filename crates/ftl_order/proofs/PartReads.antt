@@ -1,7 +1,7 @@
 -- The reads of the parts of a rule, part by part.
 use Rattle.std.proofs.Common.{◌≡◌, ◌⊎◌, refl, inl, inr, List, Contains}
 use Rattle.ftl_lists.proofs.Elements.{nothing_in}
-use Rattle.ftl_model.specs.AttributeGrammar.{Read, plain, first_then, fold_over, Part, plain_part, first_part, then_part, from_part, with_part, reads_in}
+use Rattle.ftl_model.specs.AttributeGrammar.{Part, Read, first_part, first_then, fold_over, from_part, plain, plain_part, reads_in, then_part, with_part}
 
 pub plain_reads : (reads : List Read) (part : Part) (r : Read) → Contains (reads_in (plain reads) part) r
     → (part ≡ plain_part) × Contains reads r

@@ -5,6 +5,7 @@ use Rattle.std.proofs.lemmas.List.Elements.{Contains-append_cases}
 use Rattle.ftl_lists.proofs.Elements.{in_cases, in_flat_map, in_range_from, nothing_in}
 use Rattle.ftl_model.specs.AttributeGrammar.{AttributeGrammar, Occurrence, Part, Parts, Read, each_read, first_part, first_then, fold_over, from_part, kid, kid_before, last_read, occurrences, own, plain, plain_part, prev_read, read_occurrences, reads_in, seen_by, self_read, single_read, then_part, this_read, with_part}
 use Rattle.ftl_order.specs.Lawful.{IsListChild, IsSingle, MayReadForChild, MayReadForSelf, MayReadInStep, MayReadLater, OfChild, OfClass, PartsForChild, PartsForSelf}
+use Rattle.ftl_order.proofs.Rows.{turn}
 
 -- the occurrences that a read is of, where there are so many kids in each child and the rule is for this kid; `this` in a
 -- fold is of each kid

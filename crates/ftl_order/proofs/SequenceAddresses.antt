@@ -8,6 +8,7 @@ use Rattle.ftl_lists.proofs.Sorted.{in_sorted}
 use Rattle.ftl_model.specs.AttributeGrammar.{AttributeGrammar, Sort, attributes_of, inherited, input, local, synthesized}
 use Rattle.ftl_model.specs.Path.{Path, down, one_more, top}
 use Rattle.ftl_model.specs.Solves.{Instance, instance_of}
+use Rattle.ftl_model.specs.Worked.{numbers}
 use Rattle.ftl_order.specs.LegalOrder.{address, turn_by, turn_of, way_to}
 use Rattle.ftl_order.specs.Schedule.{IsOnePass, Placing, Spot}
 use Rattle.ftl_order.specs.Sequence.{is_in_pass, is_same_sort, keyed, steps_at}

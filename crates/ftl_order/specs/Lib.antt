@@ -6,6 +6,7 @@ pub mod OneTable
 pub mod OrderLaws
 pub mod Ordered
 pub mod Pairs
+pub mod ReadPairs
 pub mod Reads
 pub mod Schedule
 pub mod Sequence

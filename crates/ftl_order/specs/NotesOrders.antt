@@ -1,8 +1,8 @@
 -- A schedule of the worked grammar of notes, and orders of the steps of a sheet without items.
 use Rattle.std.specs.Prelude.{List, [], ◌∷◌}
-use Rattle.ftl_model.specs.Path.{top, down}
+use Rattle.ftl_model.specs.Path.{down, top}
 use Rattle.ftl_model.specs.Solves.{Instance, instance_of}
-use Rattle.ftl_order.specs.Schedule.{topdown, bottomup, Schedule}
+use Rattle.ftl_order.specs.Schedule.{Schedule, bottomup, topdown}
 
 -- bottomup { Note.size Box.w Sheet.base Page.total } ; topdown { Note.shift Note.foot Box.x }
 abbrev pub notes_schedule : Schedule

@@ -1,4 +1,11 @@
+ghost use Rattle.ftl_order.specs.ReadPairs.{ReadsArePairs};
 ghost use Rattle.ftl_order.specs.OrderLaws.{UnderOrderedSchedules, WritersStandNear, WritersPrecede, WritersStandBefore, LegalOrderExists, OneTableSolves, OneListSolves, InorderStepsStandInSequence, StepsBelowStandInSequence, RunsEndInTheTable};
+
+/// A law: what a step reads is an input, or the rules of the two are a pair, and they stand on the
+/// tree as the pair says. It speaks of no schedule.
+pub fn reads_are_pairs()
+    ensures pairs { ReadsArePairs }
+{}
 
 /// A law: under an ordered schedule what a step reads is an input, or its writer stands near before
 /// it and must precede it, on every tree.

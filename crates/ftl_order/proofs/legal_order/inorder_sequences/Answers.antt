@@ -1,5 +1,6 @@
 use Rattle.ftl_model.specs.Path.{top}
 use Rattle.ftl_order.specs.LegalOrder.{turn_of}
+use Rattle.ftl_order.specs.Sequence.{sequence}
 use Rattle.ftl_order.proofs.Kids.{root_there}
 use Rattle.ftl_order.proofs.SequenceOrder.{precede_stands, stands_precede, top_above}
 use Rattle.ftl_order.proofs.legal_order.inorder_sequences.Goals as goal

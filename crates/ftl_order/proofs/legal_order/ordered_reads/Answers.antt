@@ -1,5 +1,6 @@
 use Rattle.std.proofs.Common.{⊎_elim}
 use Rattle.ftl_order.specs.Schedule.{spot_of}
+use Rattle.ftl_order.proofs.LegalOrders.{computed}
 use Rattle.ftl_order.proofs.Near.{reads_near}
 use Rattle.ftl_order.proofs.Scheduled.{precedes_under}
 use Rattle.ftl_order.proofs.legal_order.ordered_reads.Goals as goal

@@ -1,3 +1,5 @@
+use Rattle.ftl_model.specs.Table.{instances}
+use Rattle.ftl_model.specs.Worked.{numbers}
 use Rattle.ftl_order.proofs.Instances.{instance_at_number, instance_here, number_within}
 use Rattle.ftl_order.proofs.numbers.instance_numbers.Goals as goal
 

@@ -1,3 +1,4 @@
+use Rattle.ftl_model.specs.Worked.{numbers}
 use Rattle.ftl_model.proofs.Numbering.{has-node_at, length-preorder, number_of-node_at}
 use Rattle.ftl_model.proofs.Standing.{node_at-number_of, number_of-lt}
 use Rattle.ftl_order.proofs.numbers.preorder_numbers.Goals as goal

@@ -1,4 +1,5 @@
 use Rattle.std.proofs.Common.{arith}
+use Rattle.ftl_model.specs.Worked.{numbers}
 use Rattle.ftl_order.proofs.Ranges.{above_range, range_above}
 use Rattle.ftl_order.proofs.numbers.subtree_ranges.Goals as goal
 
