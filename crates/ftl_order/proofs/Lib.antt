@@ -9,6 +9,7 @@ pub mod NotesOrders
 pub mod OneList
 pub mod OrderRank
 pub mod PartReads
+pub mod Precedence
 pub mod Ranges
 pub mod ReadPairs
 pub mod Rows

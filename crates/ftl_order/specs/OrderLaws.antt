@@ -1,6 +1,6 @@
 -- What an ordered schedule gives: the writer of each read stands before the reader, a legal order exists, exactly one
 -- table solves, and a run along any legal order ends in it. It speaks of the project's values.
-use Rattle.std.specs.Prelude.{◌≡◌, ◌≢◌, ◌↔◌, List, length}
+use Rattle.std.specs.Prelude.{◌≡◌, ◌≢◌, ◌⊎◌, ◌↔◌, List, length}
 use Rattle.ftl_lists.specs.Lists.{StandsBefore}
 use Rattle.ftl_model.specs.AttributeGrammar.{AttributeGrammar, input}
 use Rattle.ftl_model.specs.Path.{AtOrAbove, Has, Path}
@@ -69,3 +69,15 @@ StepsBelowStandInSequence g s t =
     → AtOrAbove p (turn_of g i).visit → AtOrAbove p (turn_of g j).visit
     → IsOnePass (spot_of s i.attribute) (spot_of s j.attribute) → (spot_of s j.attribute).kind ≡ inorder
     → MustPrecede g t s i j ↔ StandsBefore (sequence_at g (spot_of s) (spot_of s j.attribute) t p) i j
+
+-- what must precede a step that must precede a third must precede that one
+abbrev pub PrecedenceIsTransitive : Type 0
+PrecedenceIsTransitive =
+    (g : AttributeGrammar) (t : Forest) (s : Schedule) (i j k : Instance)
+    → MustPrecede g t s i j → MustPrecede g t s j k → MustPrecede g t s i k
+
+-- of any two steps the first must precede the other, or need not
+abbrev pub PrecedenceIsDecided : Type 0
+PrecedenceIsDecided =
+    (g : AttributeGrammar) (t : Forest) (s : Schedule) (i j : Instance)
+    → MustPrecede g t s i j ⊎ (MustPrecede g t s i j → ⊥)

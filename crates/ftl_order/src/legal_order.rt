@@ -1,5 +1,5 @@
 ghost use Rattle.ftl_order.specs.ReadPairs.{ReadsArePairs};
-ghost use Rattle.ftl_order.specs.OrderLaws.{UnderOrderedSchedules, WritersStandNear, WritersPrecede, WritersStandBefore, LegalOrderExists, OneTableSolves, OneListSolves, InorderStepsStandInSequence, StepsBelowStandInSequence, RunsEndInTheTable};
+ghost use Rattle.ftl_order.specs.OrderLaws.{PrecedenceIsTransitive, PrecedenceIsDecided, UnderOrderedSchedules, WritersStandNear, WritersPrecede, WritersStandBefore, LegalOrderExists, OneTableSolves, OneListSolves, InorderStepsStandInSequence, StepsBelowStandInSequence, RunsEndInTheTable};
 
 /// A law: what a step reads is an input, or the rules of the two are a pair, and they stand on the
 /// tree as the pair says. It speaks of no schedule.
@@ -12,6 +12,12 @@ pub fn reads_are_pairs()
 pub fn ordered_reads()
     ensures near { UnderOrderedSchedules WritersStandNear }
     ensures precede { UnderOrderedSchedules WritersPrecede }
+{}
+
+/// A law: must precede is transitive, and decided.
+pub fn steps_that_must_precede()
+    ensures transitive { PrecedenceIsTransitive }
+    ensures decided { PrecedenceIsDecided }
 {}
 
 /// A law: a legal order exists, and in every legal order the writer of each read stands before the

@@ -10,7 +10,7 @@ mod one_table;
 
 pub use legal_order::{
     exactly_one_table, inorder_sequences, legal_orders, ordered_reads, reads_are_pairs,
-    runs_end_in_the_table,
+    runs_end_in_the_table, steps_that_must_precede,
 };
 pub use notes::{notes_are_lawful, orders_of_a_sheet, reads_of_a_sheet, writers_of_a_shift};
 pub use numbers::{instance_numbers, preorder_numbers, subtree_ranges};
