@@ -44,6 +44,7 @@ pub data Parts : Type 0 where
   first_then : (first later : List Read) → Parts
   fold_over : (child : ℕ) (start step : List Read) → Parts
 
+-- a part of a rule
 pub data Part : Type 0 where
   plain_part : Part
   first_part : Part
@@ -117,6 +118,7 @@ pub record AttributeGrammar : Type 0 where
 abbrev pub attributes_of : AttributeGrammar → (class : ℕ) → List ℕ
 attributes_of g class = g.shared (g.interface class) ++ g.private class
 
+-- whether an attribute is the document's to give
 abbrev pub is_input : Sort → Bool
 is_input input = true
 is_input inherited = false

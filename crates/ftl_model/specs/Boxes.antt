@@ -29,6 +29,7 @@ node_line names t s p =
     decimal (number_of t p) ++ codes " " ++ names.class_name (class_at t p)
     ++ flat_map (field_text names s p) (names.shown (class_at t p)) ++ codes "\n"
 
+-- the lines of all nodes
 abbrev pub boxes : Names → Forest → (Instance → Value) → List ℕ
 boxes names t s = flat_map (node_line names t s) (preorder t)
 

@@ -5,6 +5,7 @@ use Rattle.ftl_model.specs.Tree.{Forest}
 use Rattle.ftl_model.specs.Shape.{Shape, shape, shapes, forest_of}
 use Rattle.ftl_model.specs.ShapeLaws.{forest_of-shapes}
 
+-- a node, as its four parts
 abbrev pub shape_code : Coded Shape
 shape_code =
     code_by (ℕ × (ℕ × (List ℤ × ℕ)))
@@ -13,5 +14,6 @@ shape_code =
     (λ p. shape p.0 p.1.0 p.1.1.0 p.1.1.1)
     (λ _. refl)
 
+-- a family of trees, as the list of its nodes
 abbrev pub forest_code : Coded Forest
 forest_code = code_by (List Shape) (coded_list shape_code) shapes forest_of forest_of-shapes

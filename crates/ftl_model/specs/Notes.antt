@@ -24,20 +24,25 @@ use Rattle.ftl_model.specs.Worked.{numbers}
 abbrev pub plus : Value → Value → Value
 plus = sum_of narrow
 
+-- Sheet: self.base := head.size + 1
 abbrev pub base_rule : Rule
 base_rule = record { parts = plain (single_read 0 5 ∷ []); value = λ kids k s. plus (s (kid 0 0 5)) (number (pos 1)) }
 
+-- the width of the last kid, or 7
 abbrev pub last_width : ℕ → (Occurrence → Value) → Value
 last_width zero s = number (pos 7)
 last_width (suc before) s = s (kid 1 before 2)
 
+-- Sheet: head.shift := last kids.w or 7
 abbrev pub shift_rule : Rule
 shift_rule = record { parts = plain (last_read 1 2 ∷ []); value = λ kids k s. last_width (kids 1) s }
 
+-- self.base, and then prev.x + prev.w + this.gap
 abbrev pub x_value : ℕ → (Occurrence → Value) → Value
 x_value zero s = s (own 7)
 x_value (suc before) s = plus (plus (s (kid 1 before 1)) (s (kid 1 before 2))) (s (kid 1 (suc before) 3))
 
+-- Sheet: kids.x := first self.base then prev.x + prev.w + this.gap
 abbrev pub x_rule : Rule
 x_rule =
     record {
@@ -45,6 +50,7 @@ x_rule =
       value = λ kids k s. x_value k s;
     }
 
+-- Sheet: self.total := fold kids from 0 with acc + this.w + self.base
 abbrev pub total_rule : Rule
 total_rule =
     record {
@@ -53,30 +59,37 @@ total_rule =
           fold_kids (kids 1) (λ acc n. plus (plus acc (s (kid 1 n 2))) (s (own 7))) (number (pos 0));
     }
 
+-- Item: self.w := self.iw
 abbrev pub w_rule : Rule
 w_rule = record { parts = plain (self_read 8 ∷ []); value = λ kids k s. s (own 8) }
 
+-- Text: self.size := self.height
 abbrev pub size_rule : Rule
 size_rule = record { parts = plain (self_read 9 ∷ []); value = λ kids k s. s (own 9) }
 
+-- Text: self.foot := self.shift + self.size
 abbrev pub foot_rule : Rule
 foot_rule =
     record { parts = plain (self_read 4 ∷ self_read 5 ∷ []); value = λ kids k s. plus (s (own 4)) (s (own 5)) }
 
+-- in the order of the text
 abbrev pub notes_rules : List RuleName
 notes_rules =
     for_self 0 7 ∷ for_child 0 0 4 ∷ for_child 0 1 1 ∷ for_self 0 0 ∷ for_self 1 2 ∷ for_self 2 5 ∷ for_self 2 6 ∷ []
 
+-- the attributes of each interface
 abbrev pub notes_shared : ℕ → List ℕ
 notes_shared zero = 0 ∷ []
 notes_shared (suc zero) = 1 ∷ 2 ∷ 3 ∷ []
 notes_shared (suc (suc i)) = 4 ∷ 5 ∷ 6 ∷ []
 
+-- the attributes that each class adds
 abbrev pub notes_private : ℕ → List ℕ
 notes_private zero = 7 ∷ []
 notes_private (suc zero) = 8 ∷ []
 notes_private (suc (suc k)) = 9 ∷ []
 
+-- x and shift are inherited; gap, iw and height inputs; base is a local; the others are synthesized
 abbrev pub notes_sort : ℕ → Sort
 notes_sort a =
     if a == 1 then inherited
@@ -84,11 +97,13 @@ notes_sort a =
     else (if a == 3 then input else (if a == 8 then input else (if a == 9 then input
     else (if a == 7 then local else synthesized)))))
 
+-- the rules for the node itself, class by class
 abbrev pub notes_self_rule : ℕ → ℕ → Rule
 notes_self_rule zero a = if a == 7 then base_rule else total_rule
 notes_self_rule (suc zero) a = w_rule
 notes_self_rule (suc (suc k)) a = if a == 5 then size_rule else foot_rule
 
+-- the whole grammar
 abbrev pub notes : AttributeGrammar
 notes =
     record {
@@ -128,5 +143,6 @@ two_items_values =
 abbrev pub no_items : Forest
 no_items = tree 0 0 [] (tree 2 0 (pos 4 ∷ []) none none) none
 
+-- total and base of the sheet; shift, size, foot and height of the text
 abbrev pub no_items_values : List Value
 no_items_values = numbers (0 ∷ 5 ∷ []) ++ numbers (7 ∷ 4 ∷ 11 ∷ 4 ∷ [])

@@ -7,6 +7,7 @@ pub data Path : Type 0 where
   top : Path
   down : (child kid : ℕ) (above : Path) → Path
 
+-- the node above
 abbrev pub parent_of : Path → Option Path
 parent_of top = None
 parent_of (down child kid above) = Some above
@@ -16,6 +17,7 @@ abbrev pub child_at : Path → ℕ
 child_at top = 0
 child_at (down child kid above) = child
 
+-- as which of the kids of its child a node stands; 0 for the root
 abbrev pub kid_at : Path → ℕ
 kid_at top = 0
 kid_at (down child kid above) = kid
@@ -29,9 +31,11 @@ at t (down child kid above) = from_kid child kid (below_of (at t above))
 abbrev pub Has : Forest → Path → Type 0
 Has t p = IsTree (at t p)
 
+-- the class of a node
 abbrev pub class_at : Forest → Path → ℕ
 class_at t p = class_of (at t p)
 
+-- the inputs of a node
 abbrev pub inputs_at : Forest → Path → List ℤ
 inputs_at t p = inputs_of (at t p)
 

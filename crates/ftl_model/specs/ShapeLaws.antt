@@ -4,11 +4,13 @@ use Rattle.std.proofs.lemmas.List.{take_at, drop_at}
 use Rattle.ftl_model.specs.Tree.{Forest, none, tree, size}
 use Rattle.ftl_model.specs.Shape.{shape, shapes, forest_within, forest_of}
 
+-- the list has a node for each
 pub length-shapes : (f : Forest) → length (shapes f) ≡ size f
 length-shapes none = refl
 length-shapes (tree k d i b s) =
     omega (arith, length-append (shape k d i (size b) ∷ shapes b) (shapes s), length-shapes b, length-shapes s)
 
+-- the trees come back in at least as many steps as there are nodes
 pub forest_within-shapes : (n : ℕ) (f : Forest) → size f ≤ n → forest_within n (shapes f) ≡ f
 forest_within-shapes zero none h = refl
 forest_within-shapes (suc n) none h = refl

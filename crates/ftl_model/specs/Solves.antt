@@ -11,6 +11,7 @@ pub record Instance : Type 0 where
   pub node : Path
   pub attribute : ℕ
 
+-- this attribute of this node
 abbrev pub instance_of : Path → ℕ → Instance
 instance_of p a = record { node = p; attribute = a }
 

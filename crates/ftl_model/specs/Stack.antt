@@ -8,6 +8,7 @@ use Rattle.ftl_model.specs.AttributeGrammar.{AttributeGrammar, Rule, Read, self_
 abbrev pub page : ℕ
 page = 0
 
+-- the interface of columns and words
 abbrev pub box : ℕ
 box = 1
 
@@ -15,9 +16,11 @@ box = 1
 abbrev pub sheet : ℕ
 sheet = 0
 
+-- a list of boxes
 abbrev pub column : ℕ
 column = 1
 
+-- a box of a fixed size
 abbrev pub word : ℕ
 word = 2
 
@@ -29,21 +32,27 @@ only_child = 0
 abbrev pub page_h : ℕ
 page_h = 0
 
+-- x of a box
 abbrev pub box_x : ℕ
 box_x = 1
 
+-- y of a box
 abbrev pub box_y : ℕ
 box_y = 2
 
+-- w of a box
 abbrev pub box_w : ℕ
 box_w = 3
 
+-- h of a box
 abbrev pub box_h : ℕ
 box_h = 4
 
+-- iw of a word
 abbrev pub word_iw : ℕ
 word_iw = 5
 
+-- ih of a word
 abbrev pub word_ih : ℕ
 word_ih = 6
 
@@ -87,6 +96,7 @@ kids_y_value greatest zero s = s (own box_y)
 kids_y_value greatest (suc before) s =
     sum_of greatest (s (kid only_child before box_y)) (s (kid only_child before box_h))
 
+-- the same, with its reads
 abbrev pub kids_y : (greatest : ℕ) → Rule
 kids_y greatest =
     record {
@@ -115,6 +125,7 @@ abbrev pub stack_child_rule : (greatest class child attribute : ℕ) → Rule
 stack_child_rule greatest class child a =
     if class == sheet then body_origin else (if a == box_x then kids_x else kids_y greatest)
 
+-- x and y are inherited, iw and ih are inputs, and the others are synthesized
 abbrev pub stack_sort : ℕ → Sort
 stack_sort a =
     if a == box_x then inherited

@@ -3,9 +3,11 @@ use Rattle.std.specs.Prelude.{ℕ, ◌==◌, if◌then◌else◌, List, [], ◌�
 use Rattle.ftl_model.specs.Boxes.{Names}
 use Rattle.ftl_model.specs.Stack.{sheet, column, page_h, box_x, box_y, box_w, box_h, word_iw, word_ih}
 
+-- the names of the classes
 abbrev pub stack_class_name : ℕ → List ℕ
 stack_class_name class = if class == sheet then codes "Sheet" else (if class == column then codes "Column" else codes "Word")
 
+-- the names of the attributes
 abbrev pub stack_attribute_name : ℕ → List ℕ
 stack_attribute_name a =
     if a == box_x then codes "x"
@@ -16,6 +18,7 @@ stack_attribute_name a =
 abbrev pub stack_shown : ℕ → List ℕ
 stack_shown class = if class == sheet then page_h ∷ [] else box_x ∷ (box_y ∷ (box_w ∷ (box_h ∷ [])))
 
+-- all of these
 abbrev pub stack_names : Names
 stack_names =
     record { class_name = stack_class_name; attribute_name = stack_attribute_name; shown = stack_shown }

@@ -17,22 +17,27 @@ abbrev pub IsTree : Forest → Type 0
 IsTree none = ⊥
 IsTree (tree class child inputs below beside) = Unit {0}
 
+-- the class of the first tree
 abbrev pub class_of : Forest → ℕ
 class_of none = 0
 class_of (tree class child inputs below beside) = class
 
+-- the child in which the first tree stands
 abbrev pub child_of : Forest → ℕ
 child_of none = 0
 child_of (tree class child inputs below beside) = child
 
+-- the inputs of the first tree
 abbrev pub inputs_of : Forest → List ℤ
 inputs_of none = []
 inputs_of (tree class child inputs below beside) = inputs
 
+-- the trees below the first one
 abbrev pub below_of : Forest → Forest
 below_of none = none
 below_of (tree class child inputs below beside) = below
 
+-- the trees beside the first one
 abbrev pub beside_of : Forest → Forest
 beside_of none = none
 beside_of (tree class child inputs below beside) = beside

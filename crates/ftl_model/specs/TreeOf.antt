@@ -7,6 +7,7 @@ use Rattle.ftl_model.specs.AttributeGrammar.{AttributeGrammar, class_inputs}
 abbrev pub IsInput : (greatest : ℕ) → ℤ → Type 0
 IsInput greatest n = (neg_ℤ (pos greatest) ≤ℤ n) × (n ≤ℤ pos greatest)
 
+-- each of these is such a number
 abbrev pub AreInputs : (greatest : ℕ) → List ℤ → Type 0
 AreInputs greatest [] = Unit {0}
 AreInputs greatest (n ∷ ns) = IsInput greatest n × AreInputs greatest ns

@@ -4,6 +4,7 @@ use Rattle.std.specs.Prelude.{ℕ, ◌+◌, ◌-◌, Bool, true, false, ◌&&◌
 use Rattle.std.specs.Ordering.{int_eq}
 use Rattle.std.specs.Int.{int_min, int_max, int_div_euclid}
 
+-- a whole number, or Overflow
 pub data Value : Type 0 where
   number : ℤ → Value
   overflow : Value
@@ -12,6 +13,7 @@ pub data Value : Type 0 where
 abbrev pub narrow : ℕ
 narrow = 2147483647
 
+-- 140737488355327, the greatest number of 48 bits
 abbrev pub wide : ℕ
 wide = 140737488355327
 
@@ -38,15 +40,19 @@ lifted operator (number a) (number b) = operator a b
 lifted operator (number a) overflow = overflow
 lifted operator overflow b = overflow
 
+-- the sum
 abbrev pub sum_of : (greatest : ℕ) → Value → Value → Value
 sum_of greatest = lifted (λ a b. value_of greatest (a +ℤ b))
 
+-- the difference
 abbrev pub difference_of : (greatest : ℕ) → Value → Value → Value
 difference_of greatest = lifted (λ a b. value_of greatest (a -ℤ b))
 
+-- the product
 abbrev pub product_of : (greatest : ℕ) → Value → Value → Value
 product_of greatest = lifted (λ a b. value_of greatest (a *ℤ b))
 
+-- the number with its sign turned
 abbrev pub negated_of : (greatest : ℕ) → Value → Value
 negated_of greatest (number a) = value_of greatest (neg_ℤ a)
 negated_of greatest overflow = overflow
@@ -60,6 +66,7 @@ quotient_of greatest overflow k = overflow
 abbrev pub least_of : Value → Value → Value
 least_of = lifted (λ a b. number (int_min a b))
 
+-- the greatest of two
 abbrev pub greatest_of : Value → Value → Value
 greatest_of = lifted (λ a b. number (int_max a b))
 
@@ -75,6 +82,7 @@ abbrev pub word_of_number : ℤ → ℕ
 word_of_number (pos n) = n + 140737488355329
 word_of_number (negsuc n) = 140737488355328 - n
 
+-- the word of a number, or that of Overflow
 abbrev pub word_of_value : Value → ℕ
 word_of_value (number n) = word_of_number n
 word_of_value overflow = 281474976710657

@@ -14,6 +14,7 @@ EachHoldsIn g t values =
     let s = value_in g t values in
     AllByRecursion (λ i. s i ≡ equation_value g t s (g.sort i.attribute) i.node i.attribute) (instances g t)
 
+-- the same of the stack grammar
 abbrev pub EachHolds : Forest → List Value → Type 0
 EachHolds t values = EachHoldsIn stack t values
 
@@ -29,6 +30,7 @@ sheet_over body = tree sheet 0 [] body none
 abbrev pub column_of : Forest → Forest → Forest
 column_of kids beside = tree column only_child [] kids beside
 
+-- these numbers as values
 abbrev pub numbers : List ℕ → List Value
 numbers ns = map (λ n. number (pos n)) ns
 
@@ -49,6 +51,7 @@ empty_column = sheet_over (column_of none none)
 abbrev pub tall_words : Forest
 tall_words = sheet_over (column_of (word_of_size 1 1 (word_of_size 1 2147483647 none)) none)
 
+-- the heights of the sheet and of the column overflow
 abbrev pub tall_words_values : List Value
 tall_words_values =
     overflow ∷ (number (pos 0) ∷ (number (pos 0) ∷ (number (pos 1) ∷ (overflow ∷ numbers (0 ∷ (0 ∷ (1 ∷ (1 ∷ (1 ∷ (1 ∷ (0 ∷ (1 ∷ (1 ∷ (2147483647 ∷ (1 ∷ (2147483647 ∷ []))))))))))))))))

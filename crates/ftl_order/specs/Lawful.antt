@@ -7,6 +7,7 @@ use Rattle.ftl_model.specs.Values.{Value}
 
 -- ---- attributes, and who declares them
 
+-- an interface, or a class
 pub data Owner : Type 0 where
   interface_owner : (interface : ℕ) → Owner
   class_owner : (class : ℕ) → Owner

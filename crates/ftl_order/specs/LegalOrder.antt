@@ -28,6 +28,7 @@ rule_child input p = 0
 rule_child synthesized p = 0
 rule_child local p = 0
 
+-- the turn of an attribute of this kind at a node
 abbrev pub turn_by : Sort → Path → ℕ → Turn
 turn_by sort p a =
     record {
@@ -36,6 +37,7 @@ turn_by sort p a =
       kid = rule_kid sort p;
     }
 
+-- the turn of a step
 abbrev pub turn_of : AttributeGrammar → Instance → Turn
 turn_of g i = turn_by (g.sort i.attribute) i.node i.attribute
 
@@ -51,6 +53,7 @@ abbrev pub way_to : Path → List ℕ → List ℕ
 way_to top rest = rest
 way_to (down c k p) rest = way_to p (1 ∷ (c ∷ (k ∷ (1 ∷ rest))))
 
+-- the address of a step in the sequence
 abbrev pub address : Placing → Turn → List ℕ
 address at x =
     way_to x.visit (x.rule.block ∷ (x.rule.child ∷ (x.kid ∷ (0 ∷ ((at x.rule.attribute).index ∷ [])))))
@@ -62,6 +65,7 @@ FirstInPass topdown at x y = ((x.visit ≡ y.visit) × KeyFirst at x y) ⊎ Abov
 FirstInPass bottomup at x y = ((x.visit ≡ y.visit) × KeyFirst at x y) ⊎ Above y.visit x.visit
 FirstInPass inorder at x y = Before (address at x) (address at y)
 
+-- in an earlier stage, or in one pass and first there
 abbrev pub TurnPrecedes : Placing → Turn → Turn → Type 0
 TurnPrecedes at x y =
     ((at x.rule.attribute).stage < (at y.rule.attribute).stage)
@@ -81,14 +85,17 @@ NearInPass topdown at x y = ((x.visit ≡ y.visit) × KeyFirst at x y) ⊎ (pare
 NearInPass bottomup at x y = ((x.visit ≡ y.visit) × KeyFirst at x y) ⊎ (parent_of x.visit ≡ Some y.visit)
 NearInPass inorder at x y = Before (address at x) (address at y)
 
+-- in an earlier stage, or in one pass and near before it there
 abbrev pub TurnNear : Placing → Turn → Turn → Type 0
 TurnNear at x y =
     ((at x.rule.attribute).stage < (at y.rule.attribute).stage)
     ⊎ (IsOnePass (at x.rule.attribute) (at y.rule.attribute) × NearInPass (at y.rule.attribute).kind at x y)
 
+-- of two steps, where attributes stand so
 abbrev pub IsNearBy : AttributeGrammar → Placing → Instance → Instance → Type 0
 IsNearBy g at i j = TurnNear at (turn_of g i) (turn_of g j)
 
+-- of two steps of a tree, under a schedule
 abbrev pub IsNearBefore : AttributeGrammar → Forest → Schedule → Instance → Instance → Type 0
 IsNearBefore g t s i j = IsNearBy g (spot_of s) i j
 

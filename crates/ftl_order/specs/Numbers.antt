@@ -9,6 +9,7 @@ use Rattle.ftl_model.specs.Tree.{Forest, IsTree}
 use Rattle.ftl_model.specs.TreeOf.{IsTreeOf}
 use Rattle.ftl_order.specs.Lawful.{IsLawful}
 
+-- how many nodes a tree has
 abbrev pub node_count : Forest → ℕ
 node_count t = size_at t top
 
@@ -22,6 +23,7 @@ abbrev pub NumbersHaveNodes : Type 0
 NumbersHaveNodes =
     (t : Forest) (n : ℕ) → IsTree t → n < node_count t → Has t (node_at t n) × (number_of t (node_at t n) ≡ n)
 
+-- the list of nodes has each
 abbrev pub PreorderIsWhole : Type 0
 PreorderIsWhole = (t : Forest) → length (preorder t) ≡ node_count t
 

@@ -26,6 +26,7 @@ OneTableWhereReadsEnd =
     (g : AttributeGrammar) (t : Forest) → IsLawful g → IsTreeOf g t
     → (number : Instance → ℕ) → ReadsEnd g t number → ExactlyOneTable g t
 
+-- and one list of values
 abbrev pub OneListWhereReadsEnd : Type 0
 OneListWhereReadsEnd =
     (g : AttributeGrammar) (t : Forest) → IsLawful g → IsTreeOf g t

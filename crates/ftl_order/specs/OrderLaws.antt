@@ -39,12 +39,15 @@ WritersStandBefore g s t =
     (order : List Instance) → IsLegalOrder g t s order
     → (i j : Instance) → IsStep g t i → Reads g t i j → g.sort j.attribute ≢ input → StandsBefore order j i
 
+-- there is a legal order
 abbrev pub LegalOrderExists : AttributeGrammar → Schedule → Forest → Type 0
 LegalOrderExists g s t = (order : List Instance) × IsLegalOrder g t s order
 
+-- exactly one table solves
 abbrev pub OneTableSolves : AttributeGrammar → Schedule → Forest → Type 0
 OneTableSolves g s t = ExactlyOneTable g t
 
+-- exactly one list of values solves
 abbrev pub OneListSolves : AttributeGrammar → Schedule → Forest → Type 0
 OneListSolves g s t = ExactlyOneList g t
 

@@ -17,6 +17,7 @@ pub record VisitPlace : Type 0 where
   pub block : ℕ
   pub child : ℕ
 
+-- where the rule of this name stands
 abbrev pub place_of : AttributeGrammar → RuleName → VisitPlace
 place_of g (for_self class a) = record { attribute = a; block = block_of (g.sort a); child = 0 }
 place_of g (for_child class c a) = record { attribute = a; block = 1; child = c }
@@ -27,6 +28,7 @@ KeyBelow at x y =
     ((at x.attribute).index < (at y.attribute).index)
     ⊎ (((at x.attribute).index ≡ (at y.attribute).index) × (x.child < y.child))
 
+-- rules for the same attribute, of the same child
 abbrev pub IsSameRule : VisitPlace → VisitPlace → Type 0
 IsSameRule x y = (x.attribute ≡ y.attribute) × (x.child ≡ y.child)
 
@@ -34,6 +36,7 @@ IsSameRule x y = (x.attribute ≡ y.attribute) × (x.child ≡ y.child)
 abbrev pub BlockBelow : VisitPlace → VisitPlace → Type 0
 BlockBelow x y = (x.block < y.block) ⊎ ((x.block ≡ y.block) × (x.child < y.child))
 
+-- rules of one block
 abbrev pub IsSameBlock : VisitPlace → VisitPlace → Type 0
 IsSameBlock x y = (x.block ≡ y.block) × (x.child ≡ y.child)
 
@@ -59,6 +62,7 @@ ChildRow topdown by_prev c y = ⊥
 ChildRow bottomup by_prev c y = Unit {0}
 ChildRow inorder by_prev c y = (y.block ≡ 2) ⊎ ((y.block ≡ 1) × ((c < y.child) ⊎ IsTrue by_prev))
 
+-- the row of the table, by where the writer runs
 abbrev pub Row : Where → PassKind → Placing → Read → VisitPlace → VisitPlace → Type 0
 Row same_class kind at r x y = SameClassRow kind at (is_by_prev r) x y
 Row parent_class kind at r x y = ParentRow kind
@@ -70,9 +74,11 @@ IsOrderedRead at runs_at r x y =
     ((at x.attribute).stage < (at y.attribute).stage)
     ⊎ (IsOnePass (at x.attribute) (at y.attribute) × Row runs_at (at y.attribute).kind at r x y)
 
+-- a pair whose read is ordered
 abbrev pub IsOrderedPair : AttributeGrammar → Placing → Pair → Type 0
 IsOrderedPair g at pair = IsOrderedRead at pair.runs_at pair.read (place_of g pair.writer) (place_of g pair.reader)
 
+-- each pair of the grammar is
 abbrev pub EachPairOrdered : AttributeGrammar → Placing → Type 0
 EachPairOrdered g at = (pair : Pair) → IsPair g pair → IsOrderedPair g at pair
 

@@ -4,6 +4,7 @@ use Rattle.ftl_model.specs.AttributeGrammar.{AttributeGrammar, Part, Read, RuleN
 use Rattle.ftl_model.specs.Solves.{rule_named}
 use Rattle.ftl_order.specs.Lawful.{IsRule}
 
+-- the class that has the rule
 abbrev pub class_of_rule : RuleName → ℕ
 class_of_rule (for_self class a) = class
 class_of_rule (for_child class c a) = class
@@ -54,11 +55,13 @@ pub record Pair : Type 0 where
   pub writer : RuleName
   pub runs_at : Where
 
+-- the reader has this read, and the writer writes what it reads
 abbrev pub IsPair : AttributeGrammar → Pair → Type 0
 IsPair g pair =
     IsReader g pair.reader pair.part pair.read
     × Writes g (class_of_rule pair.reader) pair.read pair.runs_at pair.writer
 
+-- whether a read is by `prev`
 abbrev pub is_by_prev : Read → Bool
 is_by_prev (self_read a) = false
 is_by_prev (single_read c a) = false

@@ -18,6 +18,7 @@ equation_reads g t inherited p a =
 equation_reads g t synthesized p a = rule_reads t (rule_of g t synthesized p a) p 0
 equation_reads g t local p a = rule_reads t (rule_of g t local p a) p 0
 
+-- what the equation of an instance reads
 abbrev pub reads_of : AttributeGrammar → Forest → Instance → List Instance
 reads_of g t i = equation_reads g t (g.sort i.attribute) i.node i.attribute
 

@@ -9,10 +9,12 @@ pub data PassKind : Type 0 where
   bottomup : PassKind
   inorder : PassKind
 
+-- a kind of traversal, and the attributes that it computes
 pub record Pass : Type 0 where
   pub kind : PassKind
   pub attributes : List ℕ
 
+-- stages, each a list of passes
 abbrev pub Schedule : Type 0
 Schedule = List (List Pass)
 
@@ -36,6 +38,7 @@ pub record Spot : Type 0 where
 abbrev pub Placing : Type 0
 Placing = ℕ → Spot
 
+-- in one stage and in one pass of it
 abbrev pub IsOnePass : Spot → Spot → Type 0
 IsOnePass x y = (x.stage ≡ y.stage) × (x.pass ≡ y.pass)
 
@@ -48,6 +51,7 @@ abbrev pub pass_of : List Pass → ℕ → ℕ
 pass_of [] a = 0
 pass_of (pass ∷ passes) a = if is_listed pass.attributes a then 0 else suc (pass_of passes a)
 
+-- whether one of the passes lists the attribute
 abbrev pub has_entry : List Pass → ℕ → Bool
 has_entry [] a = false
 has_entry (pass ∷ passes) a = if is_listed pass.attributes a then true else has_entry passes a
@@ -57,6 +61,7 @@ abbrev pub stage_of : Schedule → ℕ → ℕ
 stage_of [] a = 0
 stage_of (passes ∷ stages) a = if has_entry passes a then 0 else suc (stage_of stages a)
 
+-- a pass without attributes
 abbrev pub empty_pass : Pass
 empty_pass = record { kind = topdown; attributes = [] }
 
@@ -64,6 +69,7 @@ empty_pass = record { kind = topdown; attributes = [] }
 abbrev pub pass_at : Schedule → ℕ → ℕ → Pass
 pass_at s stage pass = slice_index_or (slice_index_or s stage []) pass empty_pass
 
+-- the pass in the first stage that lists the attribute
 abbrev pub pass_in_stage : Schedule → ℕ → ℕ
 pass_in_stage s a = pass_of (slice_index_or s (stage_of s a) []) a
 

@@ -8,6 +8,7 @@ use Rattle.ftl_model.specs.Solves.{Instance, instance_of}
 use Rattle.ftl_model.specs.Tree.{Forest, below_of, none, tree}
 use Rattle.ftl_order.specs.Schedule.{Placing, Spot}
 
+-- whether two kinds are the same
 abbrev pub is_same_sort : Sort → Sort → Bool
 is_same_sort input input = true
 is_same_sort inherited inherited = true
@@ -25,6 +26,7 @@ keyed g at x sort class =
     sorted_by (λ a. (at a).index)
     (filter (λ a. is_same_sort (g.sort a) sort && is_in_pass at x a) (attributes_of g class))
 
+-- the steps of these at a node
 abbrev pub steps_at : AttributeGrammar → Placing → Spot → Sort → (class : ℕ) → Path → List Instance
 steps_at g at x sort class p = map (instance_of p) (keyed g at x sort class)
 

@@ -12,17 +12,21 @@ use Rattle.ftl_order.specs.Pairs.{Pair, same_class}
 use Rattle.ftl_order.specs.Schedule.{Schedule, inorder, topdown}
 use Rattle.ftl_order_worked.specs.WorkedSchedules.{pair_of, stage}
 
+-- first 1 then prev.b
 abbrev pub chain_a_value : ℕ → (Occurrence → Value) → Value
 chain_a_value zero s = number (pos 1)
 chain_a_value (suc before) s = s (kid 0 before 1)
 
+-- C: kids.a := first 1 then prev.b
 abbrev pub chain_a : Rule
 chain_a = record { parts = first_then [] (prev_read 0 1 ∷ []); value = λ kids k s. chain_a_value k s }
 
+-- first 2 then prev.a + prev.b
 abbrev pub chain_b_value : ℕ → (Occurrence → Value) → Value
 chain_b_value zero s = number (pos 2)
 chain_b_value (suc before) s = sum_of narrow (s (kid 0 before 0)) (s (kid 0 before 1))
 
+-- C: kids.b := first 2 then prev.a + prev.b
 abbrev pub chain_b : Rule
 chain_b =
     record { parts = first_then [] (prev_read 0 0 ∷ (prev_read 0 1 ∷ [])); value = λ kids k s. chain_b_value k s }
@@ -56,6 +60,7 @@ chain =
 abbrev pub chain_topdown : Schedule
 chain_topdown = stage topdown (0 ∷ (1 ∷ [])) ∷ []
 
+-- inorder { K.a K.b }
 abbrev pub chain_inorder : Schedule
 chain_inorder = stage inorder (0 ∷ (1 ∷ [])) ∷ []
 
@@ -67,6 +72,7 @@ a_reads_b = pair_of (for_child 0 0 0) then_part (prev_read 0 1) same_class (for_
 abbrev pub three_kids : Forest
 three_kids = tree 0 0 [] (tree 1 0 [] none (tree 1 0 [] none (tree 1 0 [] none none))) none
 
+-- an attribute of a kid
 abbrev pub chain_step : (kid attribute : ℕ) → Instance
 chain_step k a = instance_of (down 0 k top) a
 

@@ -9,15 +9,19 @@ use Rattle.ftl_order.specs.Schedule.{PassKind, Placing, bottomup, inorder, topdo
 abbrev pub one_pass : PassKind → Placing
 one_pass kind a = record { stage = 0; pass = 0; kind = kind; index = a }
 
+-- a rule for a local
 abbrev pub for_local : ℕ → VisitPlace
 for_local a = record { attribute = a; block = 0; child = 0 }
 
+-- a rule for the kids of a child
 abbrev pub for_kids : (attribute child : ℕ) → VisitPlace
 for_kids a c = record { attribute = a; block = 1; child = c }
 
+-- a rule for a synthesized attribute
 abbrev pub for_synthesized : ℕ → VisitPlace
 for_synthesized a = record { attribute = a; block = 2; child = 0 }
 
+-- a read in a pass of a kind, with its writer and its reader
 pub record RowCase : Type 0 where
   pub kind : PassKind
   pub runs_at : Where
@@ -25,13 +29,16 @@ pub record RowCase : Type 0 where
   pub writer : VisitPlace
   pub reader : VisitPlace
 
+-- a case of these parts
 abbrev pub row_case : PassKind → Where → Read → VisitPlace → VisitPlace → RowCase
 row_case kind runs_at read writer reader =
     record { kind = kind; runs_at = runs_at; read = read; writer = writer; reader = reader }
 
+-- the table orders the read
 abbrev pub IsOrderedCase : RowCase → Type 0
 IsOrderedCase x = IsOrderedRead (one_pass x.kind) x.runs_at x.read x.writer x.reader
 
+-- cases that are ordered
 abbrev pub ordered_rows : List RowCase
 ordered_rows =
     -- the writer's key is smaller, or it is the rule itself read by `prev`
@@ -54,6 +61,7 @@ ordered_rows =
     ∷ (row_case inorder child_class (prev_read 0 1) (for_synthesized 1) (for_kids 0 0)
     ∷ [])))))))))))))
 
+-- cases that are not
 abbrev pub refused_rows : List RowCase
 refused_rows =
     -- the key is the same or larger, also by `prev`

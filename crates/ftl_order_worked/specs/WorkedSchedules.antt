@@ -6,6 +6,7 @@ use Rattle.ftl_order.specs.Ordered.{IsOrderedPair}
 use Rattle.ftl_order.specs.Pairs.{IsPair, Pair, Where, child_class, parent_class, same_class}
 use Rattle.ftl_order.specs.Schedule.{Pass, PassKind, Schedule, bottomup, spot_of, topdown}
 
+-- a pass of this kind with these attributes
 abbrev pub pass : PassKind → List ℕ → Pass
 pass kind attributes = record { kind = kind; attributes = attributes }
 
@@ -41,6 +42,7 @@ y_missing = stage bottomup (page_h ∷ (box_w ∷ (box_h ∷ []))) ∷ (stage to
 abbrev pub places_first : Schedule
 places_first = stage topdown (box_x ∷ (box_y ∷ [])) ∷ (stage bottomup (page_h ∷ (box_w ∷ (box_h ∷ []))) ∷ [])
 
+-- a pair of these parts
 abbrev pub pair_of : RuleName → Part → Read → Where → RuleName → Pair
 pair_of reader part read runs_at writer =
     record { reader = reader; part = part; read = read; writer = writer; runs_at = runs_at }
@@ -53,6 +55,7 @@ sheet_reads_height = pair_of (for_self sheet page_h) plain_part (single_read onl
 abbrev pub column_reads_height : RuleName → Pair
 column_reads_height = pair_of (for_self column box_h) with_part (each_read only_child box_h) child_class
 
+-- Column self.w reads Column self.w, by this.w in the fold
 abbrev pub column_reads_width : RuleName → Pair
 column_reads_width = pair_of (for_self column box_w) with_part (each_read only_child box_w) child_class
 
@@ -64,11 +67,13 @@ kids_read_x = pair_of (for_child column only_child box_x) plain_part (self_read 
 abbrev pub kids_read_y : RuleName → Pair
 kids_read_y = pair_of (for_child column only_child box_y) first_part (self_read box_y) parent_class
 
+-- Column kids.y reads itself, by prev.y
 abbrev pub kids_read_prev_y : Pair
 kids_read_prev_y =
     pair_of (for_child column only_child box_y) then_part (prev_read only_child box_y) same_class
     (for_child column only_child box_y)
 
+-- Column kids.y reads self.h of a kid, by prev.h
 abbrev pub kids_read_prev_h : RuleName → Pair
 kids_read_prev_h = pair_of (for_child column only_child box_y) then_part (prev_read only_child box_h) child_class
 
@@ -96,5 +101,6 @@ slanted_pair =
 abbrev pub Orders : AttributeGrammar → Schedule → Pair → Type 0
 Orders g s pair = IsPair g pair × IsOrderedPair g (spot_of s) pair
 
+-- a pair that the schedule does not order
 abbrev pub LeavesUnordered : AttributeGrammar → Schedule → Pair → Type 0
 LeavesUnordered g s pair = IsPair g pair × (IsOrderedPair g (spot_of s) pair → ⊥)

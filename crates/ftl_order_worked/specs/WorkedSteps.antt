@@ -12,22 +12,28 @@ use Rattle.ftl_order.specs.Schedule.{Schedule}
 abbrev pub the_sheet : Path
 the_sheet = top
 
+-- its body
 abbrev pub the_column : Path
 the_column = down 0 0 top
 
+-- the column's first kid
 abbrev pub first_word : Path
 first_word = down 0 0 the_column
 
+-- and its second
 abbrev pub second_word : Path
 second_word = down 0 1 the_column
 
+-- a step, and one that is to come later
 pub record TwoSteps : Type 0 where
   pub earlier : Instance
   pub later : Instance
 
+-- two attributes of two nodes
 abbrev pub steps : Path → ℕ → Path → ℕ → TwoSteps
 steps p a q b = record { earlier = instance_of p a; later = instance_of q b }
 
+-- the first must precede the second
 abbrev pub MustBe : Schedule → TwoSteps → Type 0
 MustBe s two = MustPrecede stack two_words s two.earlier two.later
 
@@ -55,6 +61,7 @@ in_order =
     ∷ (steps second_word box_x first_word box_y
     ∷ []))))))
 
+-- steps of two words are free
 abbrev pub in_no_order : List TwoSteps
 in_no_order = steps first_word box_h second_word box_h ∷ (steps first_word box_h second_word box_w ∷ [])
 
@@ -89,6 +96,7 @@ x_first =
     ∷ (instance_of the_column box_h
     ∷ (instance_of the_sheet page_h ∷ (instance_of the_column box_x ∷ (instance_of the_column box_y ∷ []))))
 
+-- the same with y first
 abbrev pub y_first : List Instance
 y_first =
     instance_of the_column box_w
