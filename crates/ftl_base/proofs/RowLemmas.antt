@@ -1,6 +1,7 @@
 -- What a push and a pop do to the entries of rows.
-use Rattle.std.proofs.Common.{◌≡◌, ℕ, zero, suc, ◌+◌, ◌-◌, ◌<◌, ◌≤◌, Bool, true, false, List, [], ◌∷◌, ◌++◌, length, take, get_or, refl, ap, arith, ◌∙◌, sym, length-append}
-use Rattle.std.specs.Prelude.{slice_set, slice_index_or}
+use Rattle.std.proofs.Common.{◌≡◌, ℕ, zero, suc, ◌<◌, Bool, true, false, List, [], ◌∷◌, ◌++◌, length, take, get_or}
+use Rattle.std.proofs.Common.{refl, ap, arith, ◌∙◌, sym, length-append}
+use Rattle.std.specs.Prelude.{slice_set}
 use Rattle.ftl_model.specs.Values.{Value}
 use Rattle.ftl_base.specs.declared.truth.Truth.{Truth}
 use Rattle.ftl_base.specs.declared.stack.Entry.{Entry}
@@ -13,6 +14,12 @@ pub record Have (k : ℕ) (marks : List Bool) (values : List Value) (truths : Li
   pub value : k < length values
   pub truth : k < length truths
 
+-- the rows without their first place
+pub rest : {k : ℕ} {m : Bool} {ms : List Bool} {v : Value} {vs : List Value} {t : Truth} {ts : List Truth} →
+    Have (suc k) (m ∷ ms) (v ∷ vs) (t ∷ ts) → Have k ms vs ts
+rest h = record { mark = omega (arith, h.mark); value = omega (arith, h.value); truth = omega (arith, h.truth) }
+
+-- as many entries as each row has places
 pub length-entries_of : (ms : List Bool) (vs : List Value) (ts : List Truth) (n : ℕ) → length ms ≡ n → length vs ≡ n →
     length ts ≡ n → length (entries_of ms vs ts) ≡ n
 length-entries_of [] vs ts n p q r = p
@@ -24,14 +31,15 @@ length-entries_of (m ∷ ms) (v ∷ vs) (t ∷ ts) (suc n) p q r =
 
 -- the place at the height gets a value
 pub set_value : (k : ℕ) (ms : List Bool) (vs : List Value) (ts : List Truth) (v : Value) → Have k ms vs ts →
-    take (suc k) (entries_of (slice_set ms k false) (slice_set vs k v) ts) ≡ take k (entries_of ms vs ts) ++ Number v ∷ []
+    take (suc k) (entries_of (slice_set ms k false) (slice_set vs k v) ts)
+    ≡ take k (entries_of ms vs ts) ++ Number v ∷ []
 set_value k [] vs ts v h = absurd (omega (arith, h.mark))
 set_value k (m ∷ ms) [] ts v h = absurd (omega (arith, h.value))
 set_value k (m ∷ ms) (w ∷ vs) [] v h = absurd (omega (arith, h.truth))
 set_value zero (m ∷ ms) (w ∷ vs) (t ∷ ts) v h = refl
 set_value (suc k) (m ∷ ms) (w ∷ vs) (t ∷ ts) v h =
     ap (λ (es : List Entry). entry_of m w t ∷ es)
-    (set_value k ms vs ts v (record { mark = omega (arith, h.mark); value = omega (arith, h.value); truth = omega (arith, h.truth) }))
+    (set_value k ms vs ts v (rest h))
 
 -- the place at the height gets a truth
 pub set_truth : (k : ℕ) (ms : List Bool) (vs : List Value) (ts : List Truth) (t : Truth) → Have k ms vs ts →
@@ -42,7 +50,7 @@ set_truth k (m ∷ ms) (w ∷ vs) [] t h = absurd (omega (arith, h.truth))
 set_truth zero (m ∷ ms) (w ∷ vs) (u ∷ ts) t h = refl
 set_truth (suc k) (m ∷ ms) (w ∷ vs) (u ∷ ts) t h =
     ap (λ (es : List Entry). entry_of m w u ∷ es)
-    (set_truth k ms vs ts t (record { mark = omega (arith, h.mark); value = omega (arith, h.value); truth = omega (arith, h.truth) }))
+    (set_truth k ms vs ts t (rest h))
 
 -- the entries up to a place end in the entry there
 pub last_entry : (k : ℕ) (ms : List Bool) (vs : List Value) (ts : List Truth) (m : Bool) (v : Value) (t : Truth) →
@@ -54,7 +62,7 @@ last_entry k (n ∷ ms) (w ∷ vs) [] m v t h = absurd (omega (arith, h.truth))
 last_entry zero (n ∷ ms) (w ∷ vs) (u ∷ ts) m v t h = refl
 last_entry (suc k) (n ∷ ms) (w ∷ vs) (u ∷ ts) m v t h =
     ap (λ (es : List Entry). entry_of n w u ∷ es)
-    (last_entry k ms vs ts m v t (record { mark = omega (arith, h.mark); value = omega (arith, h.value); truth = omega (arith, h.truth) }))
+    (last_entry k ms vs ts m v t (rest h))
 
 -- what stands last is the same in two ends of one list
 pub same_last : (xs ys : List Entry) (x y : Entry) → xs ++ x ∷ [] ≡ ys ++ y ∷ [] → x ≡ y

@@ -1,6 +1,6 @@
 -- The entries that stand in the rows of a stack: at each place a value and a truth, and a mark that says which of them
 -- is the entry.
-use Rattle.std.specs.Prelude.{ℕ, ◌≤◌, ◌≡◌, Bool, true, false, List, [], ◌∷◌, length, take}
+use Rattle.std.specs.Prelude.{◌≤◌, ◌≡◌, Bool, true, false, List, [], ◌∷◌, length, take}
 use Rattle.ftl_model.specs.Values.{Value}
 use Rattle.ftl_base.specs.declared.truth.Truth.{Truth}
 use Rattle.ftl_base.specs.declared.stack.Entry.{Entry}
@@ -18,9 +18,13 @@ abbrev pub entries_of : (marks : List Bool) → List Value → List Truth → Li
 entries_of (mark ∷ marks) (v ∷ values) (t ∷ truths) = entry_of mark v t ∷ entries_of marks values truths
 entries_of _ _ _ = []
 
+-- what stands in the three rows of a stack, at all places
+abbrev pub row_entries : Inside → List Entry
+row_entries s = entries_of s.marks.items s.values.items s.truths.items
+
 -- the stack that three rows hold: the entries below its height
 abbrev pub stacked_of : Inside → Stacked
-stacked_of s = record { room = s.depth; entries = take s.height (entries_of s.marks.items s.values.items s.truths.items) }
+stacked_of s = record { room = s.depth; entries = take s.height (row_entries s) }
 
 -- each row has room for all entries, and no more stand there
 pub record AreRows (s : Inside) : Type 0 where

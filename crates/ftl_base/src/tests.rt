@@ -2,12 +2,5 @@ mod arithmetic;
 mod comparisons;
 mod words;
 
-use crate::Val;
-
-/// The value of a row of a table, where None is Overflow.
-fn val(n: Option<i64>) -> Val {
-    match n {
-        Some(n) => Val::num(n),
-        None => Val::overflow(),
-    }
-}
+/// In a table the number that stands for Overflow.
+const OVER: i64 = 140737488355328;

@@ -20,7 +20,8 @@ pub fn word_of(v: Val) -> u64
 
 /// The value that a word stands for. 0 and words above 281474976710657 stand for none.
 pub fn val_of(word: u64) -> Option<Val>
-    ensures value { MatchOption result ((word ≡ 0) ⊎ (281474976710657 < word)) (λ v. word ≡ word_of_value v) }
+    ensures value { MatchOption result ((word ≡ 0) ⊎ (281474976710657 < word))
+        (λ v. word ≡ word_of_value v) }
     ensures only { (v : Value) → IsValue v → word ≡ word_of_value v → result ≡ Some v }
 {
     match word {

@@ -9,6 +9,10 @@ raised before n = min (before + n) (2 ^ 64 - 1)
 abbrev pub Rose : ℕ → ℕ → Type 0
 Rose before now = raised before 1 ≤ now
 
+-- the count rose by n; from its type's end on it may have stood still
+abbrev pub RoseBy : ℕ → ℕ → ℕ → Type 0
+RoseBy n before now = (raised before n ≤ now) × (now ≤ before + n)
+
 -- the count rose by the number in an Ok, and stayed at an Err
 abbrev pub RisesByOk : {E : Type 0} → ℕ → ℕ → Result ℕ E → Type 0
 RisesByOk before now (Ok n) = now ≡ raised before n

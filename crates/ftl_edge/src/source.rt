@@ -2,8 +2,8 @@
 ghost use Rattle.std.specs.Prelude.{◌≡◌, ◌≢◌, ℕ, ◌+◌, ◌-◌, ◌^◌, ◌<◌, ◌≤◌, Option, List, [], length, take, drop, IfOk, IfSome, OnOk, OnErr, IfErr, IsErr, IsErrOf, vec_len};
 ghost use Rattle.std.specs.Io.{ReadsAtMost};
 ghost use Rattle.std.specs.Io.KnownBytes.{Consumes, IsAtEnd, Keeps, ReadConsumes};
-ghost use Rattle.ftl_edge.specs.Counts.{raised, Rose, RisesByOk};
-ghost use Rattle.ftl_edge.specs.Source.{DropsFront};
+ghost use Rattle.ftl_edge.specs.Counts.{raised, Rose, RoseBy, RisesByOk};
+ghost use Rattle.ftl_edge.specs.Source.{TakesFront};
 
 use crate::{Failed, ReadAllFault};
 use std::alloc::Global;
@@ -47,7 +47,7 @@ pub trait Source {
 
     /// How often the source has failed.
     fn faults(&self) -> u64
-        ensures { result ≡ fault_count self.now };
+        ensures count { result ≡ fault_count self.now };
 }
 
 // How many bytes a call is asked for at most.
@@ -66,6 +66,8 @@ pub fn read_all<S: Source>(
         (λ _. S.remaining source.new ≡ Some [])) }
     ensures no_end { S.never_ends source.old → IsErr result }
     ensures short { IfOk result (λ v. vec_len v ≤ limit) }
+    ensures counted { IfOk result
+        (λ v. RoseBy (vec_len v) (S.taken source.old) (S.taken source.new)) }
 
     // Each fault has its cause.
     ensures fault { IsErrOf result ReadAllFault.ReadFault
@@ -78,7 +80,8 @@ pub fn read_all<S: Source>(
         → S.taken source.new ≤ S.taken source.old + limit }
 
     // Whatever the answer.
-    ensures left { DropsFront (S.remaining source.old) (S.remaining source.new) }
+    ensures left { TakesFront (S.remaining source.old) (S.remaining source.new)
+        (S.taken source.old) (S.taken source.new) }
     ensures at_most { S.taken source.new ≤ S.taken source.old + limit + 1 }
     ensures kept { S.fault_count source.old ≤ S.fault_count source.new }
     ensures turns { S.calls source.new ≤ S.calls source.old + limit + 2 }

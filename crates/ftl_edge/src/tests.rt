@@ -8,45 +8,54 @@ use fakes::{Broken, Endless, Stuck};
 use std::test::Fail;
 use words::read_endless;
 
-// A source of these bytes, read once with this limit.
+const TEXT: &[u8; 12] = b"page of text";
+
+/// The number of a call that never comes.
+const NEVER: u64 = 99;
+
+// How much of the text a source has, how much a call gives at most, the number of the call that
+// fails, the limit, and why it is refused.
+static READS: [(usize, usize, u64, usize, Option<ReadAllFault>); 12] = [
+    (0, 4, NEVER, 9, None),
+    (0, 4, NEVER, 0, None),
+    (1, 4, NEVER, 0, Some(ReadAllFault::TooLong)),
+    (12, 5, NEVER, 99, None),
+    (12, 1, NEVER, usize::MAX, None),
+    (12, 99, NEVER, 12, None),
+    (12, 99, NEVER, 11, Some(ReadAllFault::TooLong)),
+    (12, 5, 0, 99, Some(ReadAllFault::ReadFault)),
+    (12, 5, 2, 99, Some(ReadAllFault::ReadFault)),
+    (12, 5, 3, 99, Some(ReadAllFault::ReadFault)),
+    (12, 5, 4, 99, None),
+    (12, 5, 2, 9, Some(ReadAllFault::TooLong)),
+];
+
 #[test]
 fn reads_to_the_end(rt: HostRuntime) -> Result<(), Fail> {
     let alloc = rt.alloc();
-    let too_long = Err(ReadAllFault::TooLong);
-    let fault = Err(ReadAllFault::ReadFault);
-    for (bytes, chunk, failing, limit, want) in [
-        ("", 4, None, 9, Ok("")),
-        ("", 4, None, 0, Ok("")),
-        ("a", 4, None, 0, too_long),
-        ("page of text", 5, None, 99, Ok("page of text")),
-        ("page of text", 1, None, usize::MAX, Ok("page of text")),
-        ("page of text", 99, None, 12, Ok("page of text")),
-        ("page of text", 99, None, 11, too_long),
-        ("page of text", 5, Some(0), 99, fault),
-        ("page of text", 5, Some(2), 99, fault),
-        ("page of text", 5, Some(3), 99, fault),
-        ("page of text", 5, Some(4), 99, Ok("page of text")),
-        ("page of text", 5, Some(2), 9, too_long),
-    ] {
-        assert!(rt; chunk > 0);
-        let failing = failing.into_iter().collect(alloc)?;
-        let mut source = MemSource::new(bytes.as_bytes().to_vec(alloc)?, chunk, failing);
+    for &(length, chunk, failing, limit, fault) in &READS {
+        assert!(rt; length <= 12 && chunk > 0);
+        let bytes = &TEXT[..length];
+        let failing = [failing].to_vec(alloc)?;
+        let mut source = MemSource::new(bytes.to_vec(alloc)?, chunk, failing);
         match read_all(alloc, &mut source, limit) {
-            Ok(read) => assert_eq!(rt;
-                Ok(read.as_slice()),
-                want.map(|w| w.as_bytes()),
-                "by {chunk} to {limit}"
-            ),
-            Err(why) => assert_eq!(rt; Err(why), want, "by {chunk} to {limit}"),
+            Ok(read) => {
+                assert_eq!(rt; fault, None);
+                assert_eq!(rt; read.as_slice(), bytes);
+            }
+            Err(why) => assert_eq!(rt; Some(why), fault),
         }
-        assert_eq!(rt; source.faults(), u64::from(want == fault));
+        assert_eq!(rt;
+            source.faults(),
+            u64::from(fault == Some(ReadAllFault::ReadFault))
+        );
     }
     Ok(())
 }
 
-// What a fault leaves is read by the next call.
+// What was taken before a fault is gone, and the next call reads what it left.
 #[test]
-fn loses_nothing_at_a_fault(rt: HostRuntime) -> Result<(), Fail> {
+fn a_fault_leaves_the_rest(rt: HostRuntime) -> Result<(), Fail> {
     let alloc = rt.alloc();
     let bytes = b"page of text".to_vec(alloc)?;
     let mut source = MemSource::new(bytes, 5, [1].to_vec(alloc)?);
@@ -61,26 +70,30 @@ fn loses_nothing_at_a_fault(rt: HostRuntime) -> Result<(), Fail> {
     Ok(())
 }
 
-// A sink that takes this many bytes at a time, written to once.
+// How much of the text is written, how much a call takes at most, the number of the call that
+// fails, and how much is written then.
+static WRITES: [(usize, usize, u64, Option<usize>); 7] = [
+    (0, 4, 0, None),
+    (12, 99, NEVER, None),
+    (12, 1, 12, None),
+    (12, 5, 3, None),
+    (12, 5, 0, Some(0)),
+    (12, 5, 1, Some(5)),
+    (12, 5, 2, Some(10)),
+];
+
 #[test]
 fn writes_the_whole(rt: HostRuntime) -> Result<(), Fail> {
     let alloc = rt.alloc();
-    let fault = Err(WriteFault);
-    for (text, chunk, failing, want, written) in [
-        ("", 4, Some(0), Ok(()), ""),
-        ("page of text", 99, None, Ok(()), "page of text"),
-        ("page of text", 1, Some(12), Ok(()), "page of text"),
-        ("page of text", 5, Some(3), Ok(()), "page of text"),
-        ("page of text", 5, Some(0), fault, ""),
-        ("page of text", 5, Some(1), fault, "page "),
-        ("page of text", 5, Some(2), fault, "page of te"),
-    ] {
-        assert!(rt; chunk > 0);
-        let failing = failing.into_iter().collect(alloc)?;
-        let mut sink = MemSink::new(alloc, chunk, failing)?;
-        assert_eq!(rt; write_whole(&mut sink, text.as_bytes()), want, "by {chunk}");
-        assert_eq!(rt; sink.written(), written.as_bytes(), "by {chunk}");
-        assert_eq!(rt; sink.faults(), u64::from(want == fault));
+    for &(length, chunk, failing, front) in &WRITES {
+        assert!(rt; length <= 12 && chunk > 0);
+        let mut sink = MemSink::new(alloc, chunk, [failing].to_vec(alloc)?)?;
+        let answer = write_whole(&mut sink, &TEXT[..length]);
+        assert_eq!(rt; answer.is_err(), front.is_some());
+        let written = front.unwrap_or(length);
+        assert!(rt; written <= 12);
+        assert_eq!(rt; sink.written(), &TEXT[..written]);
+        assert_eq!(rt; sink.faults(), u64::from(front.is_some()));
     }
     Ok(())
 }

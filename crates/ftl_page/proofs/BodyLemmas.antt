@@ -5,7 +5,7 @@ use Rattle.std.specs.List.{flat_map, list_all}
 use Rattle.std.proofs.lemmas.Bool.{cond-true, cond-false, cases_Bool, cases_lt, eqb-false, and_from, and_parts}
 use Rattle.std.proofs.lemmas.List.{take_all, take_at, drop_at, append-nil, length-drop, nil_from_length}
 use Rattle.ftl_page.specs.Lines.{longer_first, lines_of, is_heading, is_body_line}
-use Rattle.ftl_page.specs.LineLength.{line_length}
+use Rattle.ftl_page.proofs.LineLength.{line_length}
 use Rattle.ftl_page.specs.Body.{IsBody}
 use Rattle.ftl_page.proofs.LineLemmas.{line_end, line_length-feed, line_length-other, lines_of-first, lines_of-nil}
 

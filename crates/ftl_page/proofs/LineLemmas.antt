@@ -5,7 +5,7 @@ use Rattle.std.specs.Str.{IsUtf8, IsCharBoundary}
 use Rattle.std.proofs.lemmas.Bool.{cond-true, cond-false, cases_Bool, eqb-true}
 use Rattle.std.proofs.lemmas.Str.{IsCharBoundary-end, IsCharBoundary-after_ascii}
 use Rattle.ftl_page.specs.Lines.{longer_first, lines_of}
-use Rattle.ftl_page.specs.LineLength.{line_length}
+use Rattle.ftl_page.proofs.LineLength.{line_length}
 
 pub line_length-feed : (b : ℕ) (bs : List ℕ) → eqb b 10 ≡ true → line_length (b ∷ bs) ≡ 1
 line_length-feed b bs feed = cond-true (eqb b 10) 1 (1 + line_length bs) feed
@@ -50,16 +50,16 @@ line_end (b ∷ bs) =
     (cases_Bool (eqb b 10))
 
 -- so it ends between characters
-pub line_boundary : (text : List ℕ) → IsUtf8 text → IsCharBoundary text (line_length text)
-line_boundary text utf8 =
+pub line_boundary : (text : List ℕ) (n : ℕ) → IsUtf8 text → n ≤ length text
+    → (n ≡ length text) ⊎ ((0 < n) × (get_or text (n - 1) 0 ≡ 10)) → IsCharBoundary text n
+line_boundary text n utf8 fits end =
     ⊎_elim
     (λ all. subst (IsCharBoundary text) (sym all) (IsCharBoundary-end text))
     (λ ends.
-    let fits = line_length-le text in
-    let back : line_length text - 1 + 1 ≡ line_length text = omega (arith, ends.0) in
+    let back : n - 1 + 1 ≡ n = omega (arith, ends.0) in
     subst (IsCharBoundary text) back
-    (IsCharBoundary-after_ascii text (line_length text - 1) utf8 (omega (arith, ends.0)) (omega (arith, ends.1))))
-    (line_end text)
+    (IsCharBoundary-after_ascii text (n - 1) utf8 (omega (arith, ends.0)) (omega (arith, ends.1))))
+    end
 
 -- the first line, and the lines of what follows it
 pub lines_of-first : (text : List ℕ) → 0 < length text

@@ -6,15 +6,18 @@ use Rattle.std.specs.Str.{IsUtf8, is_utf8}
 use Rattle.std.proofs.lemmas.Bool.{cond-true, cond-false, false_from_ne_true}
 use Rattle.std.proofs.lemmas.Str.{is_utf8-from_IsUtf8, IsUtf8-from_is_utf8}
 use Rattle.ftl_page.specs.declared.fault.Section.{Section}
-use Rattle.ftl_page.specs.declared.fault.Section.TheVariants.{Grammar, Schedule, Document}
+use Rattle.ftl_page.specs.declared.fault.Section.TheVariants.{Grammar, Schedule, Document, Edits}
 use Rattle.ftl_page.specs.declared.fault.PageFault.{PageFault}
 use Rattle.ftl_page.specs.declared.fault.PageFault.TheVariants.{NotText, BadVersion}
+use Rattle.ftl_base.specs.declared.width.Width.{Width}
+use Rattle.ftl_page.specs.declared.page.Need.{Need}
 use Rattle.ftl_page.specs.declared.page.Page.{Page}
 use Rattle.ftl_page.specs.declared.section.Sections.{Sections}
 use Rattle.ftl_page.specs.Lines.{lines_of, words_of, is_heading, is_body_line}
 use Rattle.ftl_page.specs.Body.{IsBody}
-use Rattle.ftl_page.specs.Blocks.{Block, blocks_of, are_opening}
-use Rattle.ftl_page.specs.Page.{section_in, first_stray, first_fault, page_with, page_of_blocks, unless_fault, page_of_lines, page_of_text, page_of}
+use Rattle.ftl_page.specs.Blocks.{Block, blocks_of}
+use Rattle.ftl_page.specs.Opening.{width_of_line}
+use Rattle.ftl_page.specs.Page.{section_in, first_stray, first_fault, page_with, page_of_blocks, unless_fault, page_of_lines, page_after, page_of_text, page_of}
 use Rattle.ftl_page.specs.Found.{found_in, AreSectionsOf}
 use Rattle.ftl_page.proofs.LineLemmas.{lines_of-nil}
 use Rattle.ftl_page.proofs.SectionLemmas.{starts_block, take_while-body, blocks_of-skip}
@@ -36,77 +39,70 @@ module _ (text front : List ℕ) (lines : ℕ) (rest : List ℕ) (body : IsBody 
       ap (blocks_of 2) body.all_lines ∙ blocks_of-skip (lines_of front) (lines_of rest) 2 body.no_heading
       ∙ ap (λ n. blocks_of (2 + n) (lines_of rest)) (sym body.count)
 
-  by_parts : Bool → Option PageFault → Option PageFault → List Block → Result Page PageFault
-  by_parts need stray fault blocks = unless_fault stray (unless_fault fault (page_of_blocks need blocks))
-
-  page_is : (need : Bool)
-      → page_of_lines need (lines_of text) ≡ unless_fault (first_stray 2 (lines_of front))
+  page_is : (width : Width) (need : Need)
+      → page_of_lines width need (lines_of text) ≡ unless_fault (first_stray 2 (lines_of front))
       (unless_fault (first_fault [] (blocks_of (2 + lines) (lines_of rest)))
-      (page_of_blocks need (blocks_of (2 + lines) (lines_of rest))))
+      (page_of_blocks width need (blocks_of (2 + lines) (lines_of rest))))
   unfolding page_of_lines
-  page_is need =
+  page_is width need =
       ap (λ ls. unless_fault (first_stray 2 ls)
       (unless_fault (first_fault [] (blocks_of 2 (lines_of text)))
-      (page_of_blocks need (blocks_of 2 (lines_of text))))) front_lines
+      (page_of_blocks width need (blocks_of 2 (lines_of text))))) front_lines
       ∙ ap (λ bs. unless_fault (first_stray 2 (lines_of front))
-      (unless_fault (first_fault [] bs) (page_of_blocks need bs))) rest_blocks
+      (unless_fault (first_fault [] bs) (page_of_blocks width need bs))) rest_blocks
 
-  pub page_stray : (need : Bool) (fault : PageFault) → Some fault ≡ first_stray 2 (lines_of front)
-      → page_of_lines need (lines_of text) ≡ Err fault
-  page_stray need fault stray =
-      page_is need
+  pub page_stray : (width : Width) (need : Need) (fault : PageFault) → Some fault ≡ first_stray 2 (lines_of front)
+      → page_of_lines width need (lines_of text) ≡ Err fault
+  page_stray width need fault stray =
+      page_is width need
       ∙ ap (λ f. unless_fault f
       (unless_fault (first_fault [] (blocks_of (2 + lines) (lines_of rest)))
-      (page_of_blocks need (blocks_of (2 + lines) (lines_of rest))))) (sym stray)
+      (page_of_blocks width need (blocks_of (2 + lines) (lines_of rest))))) (sym stray)
 
-  pub page_fault : (need : Bool) (fault : PageFault) → None ≡ first_stray 2 (lines_of front)
+  pub page_fault : (width : Width) (need : Need) (fault : PageFault) → None ≡ first_stray 2 (lines_of front)
       → first_fault [] (blocks_of (2 + lines) (lines_of rest)) ≡ Some fault
-      → page_of_lines need (lines_of text) ≡ Err fault
-  page_fault need fault no_stray is =
-      page_is need
+      → page_of_lines width need (lines_of text) ≡ Err fault
+  page_fault width need fault no_stray is =
+      page_is width need
       ∙ ap (λ f. unless_fault f
       (unless_fault (first_fault [] (blocks_of (2 + lines) (lines_of rest)))
-      (page_of_blocks need (blocks_of (2 + lines) (lines_of rest))))) (sym no_stray)
-      ∙ ap (λ f. unless_fault f (page_of_blocks need (blocks_of (2 + lines) (lines_of rest)))) is
+      (page_of_blocks width need (blocks_of (2 + lines) (lines_of rest))))) (sym no_stray)
+      ∙ ap (λ f. unless_fault f (page_of_blocks width need (blocks_of (2 + lines) (lines_of rest)))) is
 
-  pub page_sections : (need : Bool) (sections : Sections) → None ≡ first_stray 2 (lines_of front)
+  pub page_sections : (width : Width) (need : Need) (sections : Sections) → None ≡ first_stray 2 (lines_of front)
       → AreSectionsOf (Ok sections) [] (blocks_of (2 + lines) (lines_of rest))
-      → page_of_lines need (lines_of text) ≡ page_with need (found_in Grammar sections) (found_in Schedule sections)
-      (found_in Document sections)
-  page_sections need sections no_stray are =
+      → page_of_lines width need (lines_of text) ≡ page_with width need (found_in Grammar sections) (found_in Schedule sections)
+      (found_in Document sections) (found_in Edits sections)
+  page_sections width need sections no_stray are =
       let blocks = blocks_of (2 + lines) (lines_of rest) in
-      page_is need
-      ∙ ap (λ f. unless_fault f (unless_fault (first_fault [] blocks) (page_of_blocks need blocks))) (sym no_stray)
-      ∙ ap (λ f. unless_fault f (page_of_blocks need blocks)) are.0
-      ∙ ap (λ g. page_with need g (section_in Schedule blocks) (section_in Document blocks)) (sym (are.1 Grammar))
-      ∙ ap (λ s. page_with need (found_in Grammar sections) s (section_in Document blocks)) (sym (are.1 Schedule))
-      ∙ ap (page_with need (found_in Grammar sections) (found_in Schedule sections)) (sym (are.1 Document))
+      page_is width need
+      ∙ ap (λ f. unless_fault f (unless_fault (first_fault [] blocks) (page_of_blocks width need blocks))) (sym no_stray)
+      ∙ ap (λ f. unless_fault f (page_of_blocks width need blocks)) are.0
+      ∙ ap (λ g. page_with width need g (section_in Schedule blocks) (section_in Document blocks) (section_in Edits blocks))
+          (sym (are.1 Grammar))
+      ∙ ap (λ s. page_with width need (found_in Grammar sections) s (section_in Document blocks) (section_in Edits blocks))
+          (sym (are.1 Schedule))
+      ∙ ap (λ d. page_with width need (found_in Grammar sections) (found_in Schedule sections) d (section_in Edits blocks))
+          (sym (are.1 Document))
+      ∙ ap (page_with width need (found_in Grammar sections) (found_in Schedule sections) (found_in Document sections))
+          (sym (are.1 Edits))
 
 -- line 1
-pub first_line_good : (need : Bool) (text first rest : List ℕ)
+pub first_line : (need : Need) (text first rest : List ℕ)
     → (0 < length text → lines_of text ≡ first ∷ lines_of rest) → text ≡ first ++ rest
-    → (is_heading first && are_opening (words_of first)) ≡ true
-    → page_of_text need (lines_of text) ≡ page_of_lines need (lines_of rest)
+    → page_of_text need (lines_of text) ≡ page_after (width_of_line first) need (lines_of rest)
 unfolding page_of_text
-first_line_good need [] [] rest lines whole opening = absurd (cc opening)
-first_line_good need [] (b ∷ bs) rest lines whole opening = absurd (cc whole)
-first_line_good need (b ∷ bs) first rest lines whole opening = ap (page_of_text need) (lines (omega arith))
-    ∙ cond-true _ _ _ opening
-
-pub first_line_bad : (need : Bool) (text first rest : List ℕ)
-    → (0 < length text → lines_of text ≡ first ∷ lines_of rest)
-    → (is_heading first && are_opening (words_of first)) ≡ false → page_of_text need (lines_of text) ≡ Err BadVersion
-unfolding page_of_text
-first_line_bad need [] first rest lines bad = ap (page_of_text need) (lines_of-nil [] refl)
-first_line_bad need (b ∷ bs) first rest lines bad = ap (page_of_text need) (lines (omega arith)) ∙ cond-false _ _ _ bad
+first_line need [] [] rest lines whole = ap (page_of_text need) (lines_of-nil [] refl)
+first_line need [] (b ∷ bs) rest lines whole = absurd (cc whole)
+first_line need (b ∷ bs) first rest lines whole = ap (page_of_text need) (lines (omega arith))
 
 -- UTF-8
-pub page_not_text : (need : Bool) (bytes : List ℕ) → (IsUtf8 bytes → ⊥) → page_of bytes need ≡ Err NotText
+pub page_not_text : (need : Need) (bytes : List ℕ) → (IsUtf8 bytes → ⊥) → page_of bytes need ≡ Err NotText
 unfolding page_of
 page_not_text need bytes not_text = cond-false _ _ _
     (false_from_ne_true (is_utf8 bytes) (λ is. not_text (IsUtf8-from_is_utf8 bytes is)))
 
-pub page_text : (need : Bool) (text bytes : List ℕ) → text ≡ bytes → IsUtf8 bytes
+pub page_text : (need : Need) (text bytes : List ℕ) → text ≡ bytes → IsUtf8 bytes
     → page_of bytes need ≡ page_of_text need (lines_of text)
 unfolding page_of
 page_text need text bytes same utf8 = cond-true _ _ _ (is_utf8-from_IsUtf8 bytes utf8)

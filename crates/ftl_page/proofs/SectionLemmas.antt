@@ -8,7 +8,7 @@ use Rattle.ftl_page.specs.declared.fault.Section.{Section}
 use Rattle.ftl_page.specs.declared.fault.PageFault.{PageFault}
 use Rattle.ftl_page.specs.declared.section.Sections.{Sections}
 use Rattle.ftl_page.specs.Lines.{lines_of, words_of, is_heading, is_body_line}
-use Rattle.ftl_page.specs.LineLength.{line_length}
+use Rattle.ftl_page.proofs.LineLength.{line_length}
 use Rattle.ftl_page.specs.Body.{IsBody}
 use Rattle.ftl_page.specs.Blocks.{Block, blocks_of, Content, content_of, section_of}
 use Rattle.ftl_page.specs.Page.{text_if, or_else, section_in, content_fault, first_of, first_fault}

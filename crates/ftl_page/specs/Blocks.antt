@@ -1,9 +1,9 @@
 -- Headings with the lines after them, and what the headings stand for.
-use Rattle.std.specs.Prelude.{ℕ, ◌+◌, Bool, false, ◌&&◌, List, [], ◌∷◌, Option, Some, None, codes, if◌then◌else◌}
+use Rattle.std.specs.Prelude.{ℕ, ◌+◌, List, [], ◌∷◌, Option, Some, None, codes, if◌then◌else◌}
 use Rattle.std.specs.List.{take_while}
 use Rattle.std.specs.Str.{bytes_eq}
 use Rattle.ftl_page.specs.declared.fault.Section.{Section}
-use Rattle.ftl_page.specs.declared.fault.Section.TheVariants.{Grammar, Schedule, Document}
+use Rattle.ftl_page.specs.declared.fault.Section.TheVariants.{Grammar, Schedule, Document, Edits}
 use Rattle.ftl_page.specs.Lines.{is_heading, is_body_line}
 
 -- a heading, the number of its line, and the lines after it up to the next heading
@@ -19,16 +19,6 @@ blocks_of number (line ∷ lines) =
     if is_heading line then record { number = number; heading = line; body = take_while is_body_line lines } ∷ blocks_of
     (number + 1) lines
     else blocks_of (number + 1) lines
-
--- the word `1` and no other
-abbrev pub are_version : List (List ℕ) → Bool
-are_version (word ∷ []) = bytes_eq word (codes "1")
-are_version _ = false
-
--- the words `%page` and `1`
-abbrev pub are_opening : List (List ℕ) → Bool
-are_opening [] = false
-are_opening (first ∷ words) = bytes_eq first (codes "%page") && are_version words
 
 -- where the text of a section is
 pub data Content : Type 0 where
@@ -51,10 +41,10 @@ schedule_content [] = Some (own Schedule)
 schedule_content (word ∷ []) = if bytes_eq word (codes "auto") then Some automatic else None
 schedule_content _ = None
 
--- and after `%document`
-abbrev pub document_content : List (List ℕ) → Option Content
-document_content [] = Some (own Document)
-document_content _ = None
+-- and after the heading of a section that takes no more words
+abbrev pub plain_content : Section → List (List ℕ) → Option Content
+plain_content section [] = Some (own section)
+plain_content section _ = None
 
 -- what a heading of these words stands for, if it is known
 abbrev pub content_of : List (List ℕ) → Option Content
@@ -62,9 +52,11 @@ content_of [] = None
 content_of (first ∷ words) =
     if bytes_eq first (codes "%grammar") then grammar_content words
     else (if bytes_eq first (codes "%schedule") then schedule_content words
-    else (if bytes_eq first (codes "%document") then document_content words
-    else None))
+    else (if bytes_eq first (codes "%document") then plain_content Document words
+    else (if bytes_eq first (codes "%edits") then plain_content Edits words
+    else None)))
 
+-- the section that this content is of
 abbrev pub section_of : Content → Section
 section_of (own section) = section
 section_of (named name) = Grammar

@@ -1,30 +1,31 @@
 -- The sections as the code finds them.
 use Rattle.std.specs.Prelude.{◌≡◌, ℕ, false, List, ◌++◌, Option, Some, None, Result, Ok, Err, option_map, is_some}
 use Rattle.ftl_page.specs.declared.fault.Section.{Section}
-use Rattle.ftl_page.specs.declared.fault.Section.TheVariants.{Grammar, Schedule, Document}
+use Rattle.ftl_page.specs.declared.fault.Section.TheVariants.{Grammar, Schedule, Document, Edits}
 use Rattle.ftl_page.specs.declared.fault.PageFault.{PageFault}
-use Rattle.ftl_page.specs.declared.section.Source.{Source}
-use Rattle.ftl_page.specs.declared.section.Source.TheVariants.{Text, Automatic}
+use Rattle.ftl_page.specs.declared.section.SectionText.{SectionText}
+use Rattle.ftl_page.specs.declared.section.SectionText.TheVariants.{Given, Automatic}
 use Rattle.ftl_page.specs.declared.section.Sections.{Sections}
 use Rattle.ftl_page.specs.Blocks.{Content, Block}
-use Rattle.ftl_page.specs.Page.{text_of, text_if, or_else, content_fault, section_in, first_fault}
+use Rattle.ftl_page.specs.Page.{section_text, text_if, or_else, content_fault, section_in, first_fault}
 
--- the text of a source; none is automatic
-abbrev pub source_text : Source → Option (List ℕ)
-source_text (Text text) = Some text.now
-source_text Automatic = None
+-- the text that was found; none is automatic
+abbrev pub given_text : SectionText → Option (List ℕ)
+given_text (Given text) = Some text.now
+given_text Automatic = None
 
 -- the section, if it was found: its text, where it isn't automatic
 abbrev pub found_in : Section → Sections → Option (Option (List ℕ))
-found_in Grammar sections = option_map source_text sections.grammar
-found_in Schedule sections = option_map source_text sections.schedule
-found_in Document sections = option_map source_text sections.document
+found_in Grammar sections = option_map given_text sections.grammar
+found_in Schedule sections = option_map given_text sections.schedule
+found_in Document sections = option_map given_text sections.document
+found_in Edits sections = option_map given_text sections.edits
 
--- the source of this content, or the fault of its block
-abbrev pub SourceGives : Result Source PageFault → Content → ℕ → List (List ℕ) → Type 0
-SourceGives (Ok source) content number body = (content_fault (λ _. false) (Some content) number body ≡ None)
-    × (source_text source ≡ text_of content body)
-SourceGives (Err fault) content number body = content_fault (λ _. false) (Some content) number body ≡ Some fault
+-- the text of this content, or the fault of its block
+abbrev pub TextGives : Result SectionText PageFault → Content → ℕ → List (List ℕ) → Type 0
+TextGives (Ok text) content number body = (content_fault (λ _. false) (Some content) number body ≡ None)
+    × (given_text text ≡ section_text content body)
+TextGives (Err fault) content number body = content_fault (λ _. false) (Some content) number body ≡ Some fault
 
 -- the old sections with that of this content, or the fault of its block
 abbrev pub AddGives : Result Sections PageFault → Sections → Option Content → ℕ → List (List ℕ) → Type 0

@@ -2,8 +2,9 @@ pub mod Blocks
 pub mod Body
 pub mod Found
 pub mod Headings
-pub mod LineLength
 pub mod Lines
+pub mod Opening
 pub mod Page
 pub mod Shipped
+pub mod Texts
 pub use Rattle.ftl_model.specs.Outcome

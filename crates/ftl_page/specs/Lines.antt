@@ -31,6 +31,7 @@ abbrev pub is_heading : List ℕ → Bool
 is_heading [] = false
 is_heading (b ∷ bs) = b == 37
 
+-- and each other line is one of a body
 abbrev pub is_body_line : List ℕ → Bool
 is_body_line line = not (is_heading line)
 

@@ -3,32 +3,37 @@ use Rattle.std.specs.Prelude.{ℕ, ◌+◌, Bool, true, false, ◌&&◌, List, [
 use Rattle.std.specs.List.{take_while, flat_map}
 use Rattle.std.specs.Str.{is_utf8}
 use Rattle.ftl_page.specs.declared.fault.Section.{Section}
-use Rattle.ftl_page.specs.declared.fault.Section.TheVariants.{Grammar, Schedule, Document}
+use Rattle.ftl_page.specs.declared.fault.Section.TheVariants.{Grammar, Schedule, Document, Edits}
 use Rattle.ftl_page.specs.declared.fault.PageFault.{PageFault}
 use Rattle.ftl_page.specs.declared.fault.PageFault.TheVariants.{NotText, BadVersion, UnknownSection, SectionTwice, UnknownShipped, StrayText, NoSection}
+use Rattle.ftl_base.specs.declared.width.Width.{Width}
+use Rattle.ftl_page.specs.declared.page.Need.{Need}
 use Rattle.ftl_page.specs.declared.page.Page.{Page}
 use Rattle.ftl_page.specs.Lines.{lines_of, words_of, is_heading, is_body_line, is_stray}
-use Rattle.ftl_page.specs.Blocks.{Block, blocks_of, are_opening, Content, own, named, automatic, content_of, section_of}
+use Rattle.ftl_page.specs.Opening.{width_of_line}
+use Rattle.ftl_page.specs.Blocks.{Block, blocks_of, Content, own, named, automatic, content_of, section_of}
 use Rattle.ftl_page.specs.Shipped.{shipped_text}
 
 -- ---- the sections
 
+-- whether two sections are one
 abbrev pub is_same : Section → Section → Bool
 is_same Grammar Grammar = true
 is_same Schedule Schedule = true
 is_same Document Document = true
+is_same Edits Edits = true
 is_same _ _ = false
 
 -- the text of this content with these lines after the heading; none is automatic
-abbrev pub text_of : Content → List (List ℕ) → Option (List ℕ)
-text_of (own section) body = Some (flat_map (λ line. line) body)
-text_of (named name) body = shipped_text name
-text_of automatic body = None
+abbrev pub section_text : Content → List (List ℕ) → Option (List ℕ)
+section_text (own section) body = Some (flat_map (λ line. line) body)
+section_text (named name) body = shipped_text name
+section_text automatic body = None
 
 -- the section's text, if this is what its heading stands for
 abbrev pub text_if : Section → Option Content → List (List ℕ) → Option (Option (List ℕ))
 text_if section None body = None
-text_if section (Some content) body = if is_same section (section_of content) then Some (text_of content body) else None
+text_if section (Some content) body = if is_same section (section_of content) then Some (section_text content body) else None
 
 -- the first of two that is there
 abbrev pub or_else : Option (Option (List ℕ)) → Option (Option (List ℕ)) → Option (Option (List ℕ))
@@ -54,6 +59,7 @@ body_fault (own section) number body = None
 body_fault (named name) number body = first_stray (number + 1) body
 body_fault automatic number body = first_stray (number + 1) body
 
+-- a grammar is asked for that isn't shipped
 abbrev pub is_unknown : Content → Bool
 is_unknown (named name) = is_none (shipped_text name)
 is_unknown _ = false
@@ -82,42 +88,63 @@ first_fault before (block ∷ blocks) =
 
 -- ---- the page
 
--- the page with this grammar and schedule, and the document where it is needed
-abbrev pub page_with_document : Bool → List ℕ → Option (List ℕ) → Option (Option (List ℕ)) → Result Page PageFault
-page_with_document true grammar schedule (Some (Some document)) = Ok
-    (record { grammar = grammar; schedule = schedule; document = Some document })
-page_with_document true grammar schedule _ = Err (NoSection Document)
-page_with_document false grammar schedule _ = Ok (record { grammar = grammar; schedule = schedule; document = None })
+-- the text of a section that is needed, and none of one that isn't
+abbrev pub needed_text : Section → (needed : Bool) → Option (Option (List ℕ)) → Result (Option (List ℕ)) PageFault
+needed_text section false found = Ok None
+needed_text section true (Some (Some text)) = Ok (Some text)
+needed_text section true _ = Err (NoSection section)
 
--- the page with these sections, as far as they are there; only a schedule may have no text
-abbrev pub page_with : Bool → Option (Option (List ℕ)) → Option (Option (List ℕ)) → Option (Option (List ℕ))
-    → Result Page PageFault
-page_with need (Some (Some grammar)) (Some schedule) document = page_with_document need grammar schedule document
-page_with need (Some (Some grammar)) None document = Err (NoSection Schedule)
-page_with need _ schedule document = Err (NoSection Grammar)
+-- the same of the schedule, which has no text where it is automatic
+abbrev pub needed_schedule : (needed : Bool) → Option (Option (List ℕ)) → Result (Option (List ℕ)) PageFault
+needed_schedule false found = Ok None
+needed_schedule true (Some schedule) = Ok schedule
+needed_schedule true None = Err (NoSection Schedule)
+
+-- the page of these texts, or the first of their faults
+abbrev pub page_of_texts : Width → List ℕ → (schedule document edits : Result (Option (List ℕ)) PageFault) →
+    Result Page PageFault
+page_of_texts width grammar (Ok schedule) (Ok document) (Ok edits) =
+    Ok (record { width = width; grammar = grammar; schedule = schedule; document = document; edits = edits })
+page_of_texts width grammar (Ok schedule) (Ok document) (Err fault) = Err fault
+page_of_texts width grammar (Ok schedule) (Err fault) edits = Err fault
+page_of_texts width grammar (Err fault) document edits = Err fault
+
+-- the page with these sections, as far as they are there and needed
+abbrev pub page_with : Width → Need → (grammar schedule document edits : Option (Option (List ℕ))) →
+    Result Page PageFault
+page_with width need (Some (Some grammar)) schedule document edits =
+    page_of_texts width grammar (needed_schedule need.schedule schedule) (needed_text Document need.document document)
+    (needed_text Edits need.edits edits)
+page_with width need _ schedule document edits = Err (NoSection Grammar)
 
 -- the page of its blocks after line 1
-abbrev pub page_of_blocks : Bool → List Block → Result Page PageFault
-page_of_blocks need blocks = page_with need (section_in Grammar blocks) (section_in Schedule blocks)
-    (section_in Document blocks)
+abbrev pub page_of_blocks : Width → Need → List Block → Result Page PageFault
+page_of_blocks width need blocks =
+    page_with width need (section_in Grammar blocks) (section_in Schedule blocks) (section_in Document blocks)
+    (section_in Edits blocks)
 
+-- the page, unless there was a fault before
 abbrev pub unless_fault : Option PageFault → Result Page PageFault → Result Page PageFault
 unless_fault None page = page
 unless_fault (Some fault) page = Err fault
 
 -- the page of its lines after line 1
-unfoldable pub page_of_lines : Bool → List (List ℕ) → Result Page PageFault
-page_of_lines need lines =
+unfoldable pub page_of_lines : Width → Need → List (List ℕ) → Result Page PageFault
+page_of_lines width need lines =
     unless_fault (first_stray 2 (take_while is_body_line lines))
     (unless_fault (first_fault [] (blocks_of 2 lines))
-    (page_of_blocks need (blocks_of 2 lines)))
+    (page_of_blocks width need (blocks_of 2 lines)))
 
--- the page of a text by its lines: line 1 is the heading `%page 1`
-unfoldable pub page_of_text : Bool → List (List ℕ) → Result Page PageFault
+-- the page of the lines after one that names a width
+abbrev pub page_after : Option Width → Need → List (List ℕ) → Result Page PageFault
+page_after None need lines = Err BadVersion
+page_after (Some width) need lines = page_of_lines width need lines
+
+-- the page of a text by its lines
+unfoldable pub page_of_text : Need → List (List ℕ) → Result Page PageFault
 page_of_text need [] = Err BadVersion
-page_of_text need (first ∷ lines) =
-    if is_heading first && are_opening (words_of first) then page_of_lines need lines else Err BadVersion
+page_of_text need (first ∷ lines) = page_after (width_of_line first) need lines
 
 -- the page of bytes
-unfoldable pub page_of : List ℕ → Bool → Result Page PageFault
+unfoldable pub page_of : List ℕ → Need → Result Page PageFault
 page_of bytes need = if is_utf8 bytes then page_of_text need (lines_of bytes) else Err NotText

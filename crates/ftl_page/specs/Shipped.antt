@@ -1,8 +1,36 @@
 -- The grammars that come with the program.
-use Rattle.std.specs.Prelude.{ℕ, List, Option, Some, None, codes, if◌then◌else◌}
+use Rattle.std.specs.Prelude.{ℕ, List, [], ◌∷◌, ◌++◌, Option, Some, None, codes, if◌then◌else◌}
 use Rattle.std.specs.Str.{bytes_eq}
-use Rattle.ftl_page.specs.declared.grammars.TheConstants.{STACK}
+
+-- the bytes of these lines, each with the line feed (10) that ends it
+abbrev pub text_of_lines : List (List ℕ) → List ℕ
+text_of_lines [] = []
+text_of_lines (line ∷ lines) = line ++ 10 ∷ text_of_lines lines
+
+-- boxes below each other
+unfoldable pub stack_text : List ℕ
+stack_text =
+    text_of_lines
+    ( codes "root Page;"
+    ∷ codes "interface Page { syn h; show h; }"
+    ∷ codes "interface Box { inh x, y; syn w, h; show x, y, w, h; }"
+    ∷ codes "class Sheet : Page { body : Box;"
+    ∷ codes "  self.h := body.h;"
+    ∷ codes "  body.x := 0;"
+    ∷ codes "  body.y := 0;"
+    ∷ codes "}"
+    ∷ codes "class Column : Box { kids : [Box];"
+    ∷ codes "  self.w := fold kids from 0 with max(acc, this.w);"
+    ∷ codes "  self.h := fold kids from 0 with acc + this.h;"
+    ∷ codes "  kids.x := self.x;"
+    ∷ codes "  kids.y := first self.y then prev.y + prev.h;"
+    ∷ codes "}"
+    ∷ codes "class Word : Box { input iw, ih;"
+    ∷ codes "  self.w := self.iw;"
+    ∷ codes "  self.h := self.ih;"
+    ∷ codes "}"
+    ∷ [])
 
 -- the text of the grammar of this name
 abbrev pub shipped_text : List ℕ → Option (List ℕ)
-shipped_text name = if bytes_eq name (codes "stack") then Some STACK.now else None
+shipped_text name = if bytes_eq name (codes "stack") then Some stack_text else None

@@ -11,6 +11,7 @@ pub enum Section {
     Grammar,
     Schedule,
     Document,
+    Edits,
 }
 
 /// The first fault of a page.
@@ -18,7 +19,7 @@ pub enum Section {
 pub enum PageFault {
     /// The bytes are not UTF-8.
     NotText,
-    /// Line 1 is not the heading `%page 1`.
+    /// Line 1 is not the heading `%page 1` or `%page 2`.
     BadVersion,
     /// The line is a heading that names no section.
     UnknownSection { line: u32 },

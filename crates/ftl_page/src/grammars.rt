@@ -2,7 +2,7 @@
 
 ghost use Rattle.std.specs.Prelude.{◌≡◌};
 ghost use Rattle.std.specs.Option.{option_copied};
-ghost use Rattle.ftl_page.specs.Shipped.{shipped_text};
+ghost use Rattle.ftl_page.specs.Shipped.{shipped_text, stack_text};
 
 const STACK: &str = "root Page;
 interface Page { syn h; show h; }
@@ -24,9 +24,17 @@ class Word : Box { input iw, ih;
 }
 ";
 
+// Boxes below each other.
+#[tactic(auto, unfolding(crate::specs::Shipped::stack_text))]
+fn stack() -> &'static str
+    ensures { result.now ≡ stack_text }
+{
+    STACK
+}
+
 /// The text of the grammar of this name, if it is shipped.
 pub fn shipped(name: &str) -> Option<&'static str>
-    ensures { option_copied result ≡ shipped_text name.now }
+    ensures text { option_copied result ≡ shipped_text name.now }
 {
     shipped_by_bytes(name.as_bytes())
 }
@@ -36,7 +44,7 @@ pub fn shipped_by_bytes(name: &[u8]) -> Option<&'static str>
     ensures { option_copied result ≡ shipped_text name.now }
 {
     if name == b"stack".as_slice() {
-        Some(STACK)
+        Some(stack())
     } else {
         None
     }

@@ -6,5 +6,5 @@ ghost use Rattle.ftl_page.specs.Lines.{lines_of};
 
 /// The lines of a text, one after another, are the text.
 pub fn law_of_lines()
-    ensures { (text : List ℕ) → flat_map (λ line. line) (lines_of text) ≡ text }
+    ensures joined { (text : List ℕ) → flat_map (λ line. line) (lines_of text) ≡ text }
 {}

@@ -1,5 +1,5 @@
-//! The bytes of a page go in, and its sections come out: the texts of the grammar, the schedule and
-//! the document, or the first fault of the page. Lines are numbered from 1. `specs/Lines.antt` says
+//! The bytes of a page go in, and its width and sections come out: the texts of the grammar, the
+//! schedule, the document and the edits, or the first fault of the page. Lines are numbered from 1. `specs/Lines.antt` says
 //! what lines and headings are, `specs/Blocks.antt` what a heading stands for, and `specs/Page.antt`
 //! which sections a page has and which fault is its first.
 #![tactic(auto)]
@@ -18,7 +18,7 @@ mod words;
 pub use fault::{PageFault, Section};
 pub use grammars::shipped;
 pub use laws::law_of_lines;
-pub use page::Page;
+pub use page::{Need, Page};
 pub use split::split_page;
 pub use text::Text;
 

@@ -1,10 +1,9 @@
 //! Lines, and the words of headings.
 
-ghost use Rattle.std.specs.Prelude.{◌≡◌, ◌<◌, ◌++◌, ◌∷◌, length};
+ghost use Rattle.std.specs.Prelude.{◌≡◌, ◌-◌, ◌<◌, ◌≤◌, ◌++◌, ◌∷◌, ◌⊎◌, length, take, drop, slice_index_or};
 ghost use Rattle.std.specs.Str.{bytes_eq};
 ghost use Rattle.ftl_tokens.specs.Scan.{is_white_space};
 ghost use Rattle.ftl_page.specs.Lines.{lines_of, is_stray, is_heading};
-ghost use Rattle.ftl_page.specs.LineLength.{line_length};
 
 #[inline]
 pub fn is_white_space(b: u8) -> bool
@@ -13,8 +12,14 @@ pub fn is_white_space(b: u8) -> bool
     b == b' ' || b == b'\t' || b == b'\r' || b == b'\n'
 }
 
+// How many bytes the first line has, with its line feed.
 fn line_length(text: &[u8]) -> usize
-    ensures { result ≡ line_length text.now }
+    ensures first { 0 < length text.now
+        → lines_of text.now ≡ take result text.now ∷ lines_of (drop result text.now) }
+    ensures some { 0 < length text.now → 0 < result }
+    ensures within { result ≤ length text.now }
+    ensures end { (result ≡ length text.now)
+        ⊎ ((0 < result) × (slice_index_or text.now (result - 1) 0 ≡ 10)) }
 {
     for (place, b) in text.iter().enumerate() {
         if *b == b'\n' {

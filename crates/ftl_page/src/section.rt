@@ -7,17 +7,17 @@ ghost use Rattle.ftl_page.specs.Lines.{lines_of, words_of};
 ghost use Rattle.ftl_page.specs.Blocks.{content_of, section_of};
 ghost use Rattle.ftl_page.specs.Page.{is_same, first_stray};
 ghost use Rattle.ftl_page.specs.Headings.{content};
-ghost use Rattle.ftl_page.specs.Found.{source_text, found_in, SourceGives, AddGives};
+ghost use Rattle.ftl_page.specs.Found.{given_text, found_in, TextGives, AddGives};
 
 use crate::fault::{PageFault, Section};
 use crate::grammars::shipped_by_bytes;
 use crate::line::{is_stray, split_line};
 use crate::words::{Heading, heading_of};
 
-/// Where the text of a section is.
+/// The text of a section, as it is found.
 #[derive(Clone, Copy, Debug)]
-pub enum Source<'a> {
-    Text(&'a str),
+pub enum SectionText<'a> {
+    Given(&'a str),
     /// The automatic schedule.
     Automatic,
 }
@@ -25,9 +25,10 @@ pub enum Source<'a> {
 /// The sections that were found.
 #[derive(Clone, Copy, Debug)]
 pub struct Sections<'a> {
-    pub grammar: Option<Source<'a>>,
-    pub schedule: Option<Source<'a>>,
-    pub document: Option<Source<'a>>,
+    pub grammar: Option<SectionText<'a>>,
+    pub schedule: Option<SectionText<'a>>,
+    pub document: Option<SectionText<'a>>,
+    pub edits: Option<SectionText<'a>>,
 }
 
 /// The fault of the first stray line, where the first line has this number.
@@ -48,22 +49,22 @@ pub fn no_stray(number: u32, text: &str) -> Result<(), PageFault>
     Ok(())
 }
 
-fn source_of<'a>(heading: Heading<'a>, number: u32, body: &'a str) -> Result<Source<'a>, PageFault>
+fn text_of_section<'a>(heading: Heading<'a>, number: u32, body: &'a str) -> Result<SectionText<'a>, PageFault>
     requires { number + 1 + length body.now < 2 ^ 32 }
-    ensures { SourceGives result (content heading.entry) number (lines_of body.now) }
+    ensures { TextGives result (content heading.entry) number (lines_of body.now) }
 {
     match heading {
-        Heading::Own(_) => Ok(Source::Text(body)),
+        Heading::Own(_) => Ok(SectionText::Given(body)),
         Heading::Named(name) => {
             let Some(text) = shipped_by_bytes(name) else {
                 return Err(PageFault::UnknownShipped { line: number });
             };
             no_stray(number + 1, body)?;
-            Ok(Source::Text(text))
+            Ok(SectionText::Given(text))
         }
         Heading::Automatic => {
             no_stray(number + 1, body)?;
-            Ok(Source::Automatic)
+            Ok(SectionText::Automatic)
         }
     }
 }
@@ -86,6 +87,7 @@ impl<'a> Sections<'a> {
             grammar: None,
             schedule: None,
             document: None,
+            edits: None,
         }
     }
 
@@ -96,24 +98,29 @@ impl<'a> Sections<'a> {
             Section::Grammar => self.grammar.is_some(),
             Section::Schedule => self.schedule.is_some(),
             Section::Document => self.document.is_some(),
+            Section::Edits => self.edits.is_some(),
         }
     }
 
-    fn with(&self, which: Section, source: Source<'a>) -> Sections<'a>
+    fn with(&self, which: Section, text: SectionText<'a>) -> Sections<'a>
         ensures { (s : Section) → found_in s result
-            ≡ (if is_same s which then Some (source_text source.entry) else found_in s self.now) }
+            ≡ (if is_same s which then Some (given_text text.entry) else found_in s self.now) }
     {
         match which {
             Section::Grammar => Sections {
-                grammar: Some(source),
+                grammar: Some(text),
                 ..*self
             },
             Section::Schedule => Sections {
-                schedule: Some(source),
+                schedule: Some(text),
                 ..*self
             },
             Section::Document => Sections {
-                document: Some(source),
+                document: Some(text),
+                ..*self
+            },
+            Section::Edits => Sections {
+                edits: Some(text),
                 ..*self
             },
         }
@@ -139,7 +146,7 @@ impl<'a> Sections<'a> {
                 line: number,
             });
         }
-        let source = source_of(heading, number, body)?;
-        Ok(self.with(which, source))
+        let text = text_of_section(heading, number, body)?;
+        Ok(self.with(which, text))
     }
 }

@@ -1,21 +1,24 @@
 //! The sections of a page, or its first fault.
 
-ghost use Rattle.std.specs.Prelude.{◌≡◌, ◌+◌, ◌<◌, ◌≤◌, ◌^◌, ◌⊎◌, ◌&&◌, true, length, Ok};
+ghost use Rattle.std.specs.Prelude.{◌≡◌, ◌+◌, ◌<◌, ◌≤◌, ◌^◌, ◌⊎◌, true, length, option_map, IfOk};
 ghost use Rattle.ftl_model.specs.Outcome.{Gives};
 ghost use Rattle.ftl_page.specs.declared.fault.PageFault.TheVariants.{OutOfMemory};
-ghost use Rattle.ftl_page.specs.declared.fault.Section.TheVariants.{Grammar, Schedule, Document};
-ghost use Rattle.ftl_page.specs.Lines.{lines_of, words_of, is_heading};
-ghost use Rattle.ftl_page.specs.Blocks.{blocks_of, are_opening};
-ghost use Rattle.ftl_page.specs.Page.{page_of, page_of_text, page_of_lines, page_with};
-ghost use Rattle.ftl_page.specs.Found.{found_in, source_text, SectionsGive};
+ghost use Rattle.ftl_page.specs.declared.fault.Section.TheVariants.{Grammar, Schedule, Document, Edits};
+ghost use Rattle.ftl_page.specs.Lines.{lines_of, is_heading};
+ghost use Rattle.ftl_page.specs.Opening.{width_of_line};
+ghost use Rattle.ftl_page.specs.Blocks.{blocks_of};
+ghost use Rattle.ftl_page.specs.Page.{page_of, page_of_text, page_of_lines, page_with, needed_text, needed_schedule};
+ghost use Rattle.ftl_page.specs.Texts.{HasTextsUpTo};
+ghost use Rattle.ftl_page.specs.Found.{found_in, given_text, SectionsGive};
 
 use crate::body::split_body;
 use crate::fault::{PageFault, Section};
 use crate::line::{is_heading, split_line};
-use crate::page::Page;
-use crate::section::{Sections, Source, no_stray};
+use crate::page::{Need, Page};
+use crate::section::{SectionText, Sections, no_stray};
 use crate::text::Text;
-use crate::words::is_opening;
+use crate::words::width_of_opening;
+use ftl_base::Width;
 use std::alloc::Global;
 
 // Goes as deep as the page has sections: each heading adds one, or is refused.
@@ -37,87 +40,125 @@ fn sections_of<'a>(
     sections_of(&sections, number + 1 + body.lines, body.rest)
 }
 
-fn schedule_text(alloc: Global, source: Source<'_>) -> Result<Option<Text>, PageFault>
-    ensures { Gives OutOfMemory (λ text. text) result (Ok (source_text source.entry)) }
+// The text of a section that is needed, and none of one that isn't.
+fn needed_text(
+    alloc: Global,
+    which: Section,
+    needed: bool,
+    found: Option<SectionText<'_>>,
+) -> Result<Option<Text>, PageFault>
+    ensures { Gives OutOfMemory (λ text. text) result
+        (needed_text which needed (option_map given_text found.entry)) }
 {
-    match source {
-        Source::Text(text) => Ok(Some(Text::new(alloc, text)?)),
-        Source::Automatic => Ok(None),
+    match found {
+        _ if !needed => Ok(None),
+        Some(SectionText::Given(text)) => Ok(Some(Text::new(alloc, text)?)),
+        _ => Err(PageFault::NoSection { which }),
+    }
+}
+
+// The same of the schedule, which has no text where it is automatic.
+fn needed_schedule(
+    alloc: Global,
+    needed: bool,
+    found: Option<SectionText<'_>>,
+) -> Result<Option<Text>, PageFault>
+    ensures { Gives OutOfMemory (λ text. text) result
+        (needed_schedule needed (option_map given_text found.entry)) }
+{
+    match found {
+        _ if !needed => Ok(None),
+        Some(SectionText::Given(text)) => Ok(Some(Text::new(alloc, text)?)),
+        Some(SectionText::Automatic) => Ok(None),
+        None => Err(PageFault::NoSection {
+            which: Section::Schedule,
+        }),
     }
 }
 
 fn page_of_sections(
     alloc: Global,
+    width: Width,
     sections: &Sections<'_>,
-    need_document: bool,
+    need: Need,
 ) -> Result<Page, PageFault>
-    ensures { Gives OutOfMemory (λ page. page) result
-        (page_with need_document
-        (found_in Grammar sections.now) (found_in Schedule sections.now) (found_in Document sections.now)) }
+    ensures { Gives OutOfMemory (λ page. page) result (page_with width need
+        (found_in Grammar sections.now) (found_in Schedule sections.now)
+        (found_in Document sections.now) (found_in Edits sections.now)) }
 {
-    let Some(Source::Text(grammar)) = sections.grammar else {
+    let Some(SectionText::Given(grammar)) = sections.grammar else {
         return Err(PageFault::NoSection {
             which: Section::Grammar,
         });
     };
-    let Some(schedule) = sections.schedule else {
-        return Err(PageFault::NoSection {
-            which: Section::Schedule,
-        });
-    };
-    let document = if need_document {
-        let Some(Source::Text(document)) = sections.document else {
-            return Err(PageFault::NoSection {
-                which: Section::Document,
-            });
-        };
-        Some(Text::new(alloc, document)?)
-    } else {
-        None
-    };
+    let schedule = needed_schedule(alloc, need.schedule, sections.schedule)?;
+    let document = needed_text(
+        alloc,
+        Section::Document,
+        need.document,
+        sections.document,
+    )?;
+    let edits = needed_text(alloc, Section::Edits, need.edits, sections.edits)?;
     Ok(Page {
+        width,
         grammar: Text::new(alloc, grammar)?,
-        schedule: schedule_text(alloc, schedule)?,
+        schedule,
         document,
+        edits,
     })
 }
 
-/// The sections of a page that a command needs: `check` and `schedule` need no document. A body is
-/// the text after the heading's line up to the next heading, and what is not needed is not read.
-/// A page has 64 MiB at most, so that line numbers fit 32 bits.
-pub fn split_page(alloc: Global, bytes: &[u8], need_document: bool) -> Result<Page, PageFault>
-    requires { length bytes.now ≤ 67108864 }
-    ensures { Gives OutOfMemory (λ page. page) result (page_of bytes.now need_document) }
+/// The width of a page and the sections that a command needs. A body is the text after the
+/// heading's line up to the next heading, and what is not needed is not read. A page has 64 MiB at
+/// most, so that line numbers fit 32 bits.
+pub fn split_page(alloc: Global, bytes: &[u8], need: Need) -> Result<Page, PageFault>
+    requires limit { length bytes.now ≤ 67108864 }
+
+    // The page, or its first fault.
+    ensures exact { Gives OutOfMemory (λ page. page) result (page_of bytes.now need) }
+
+    // What the tokens of each text ask.
+    ensures short { IfOk result (λ page. HasTextsUpTo 67108864 page) }
 {
     let Ok(text) = str::from_utf8(bytes) else {
         return Err(PageFault::NotText);
     };
-    page_of_text(alloc, text, need_document)
+    page_of_text(alloc, text, need)
 }
 
-fn is_first_line(line: &str) -> bool
-    ensures { result ≡ (is_heading line.now && are_opening (words_of line.now)) }
+fn width_of_line(line: &str) -> Option<Width>
+    ensures { result ≡ width_of_line line.now }
 {
-    is_heading(line) && is_opening(line.as_bytes())
+    if is_heading(line) {
+        width_of_opening(line.as_bytes())
+    } else {
+        None
+    }
 }
 
-fn page_of_text(alloc: Global, text: &str, need_document: bool) -> Result<Page, PageFault>
+fn page_of_text(alloc: Global, text: &str, need: Need) -> Result<Page, PageFault>
     requires { length text.now ≤ 67108864 }
-    ensures { Gives OutOfMemory (λ page. page) result (page_of_text need_document (lines_of text.now)) }
+    ensures { Gives OutOfMemory (λ page. page) result (page_of_text need (lines_of text.now)) }
 {
     let (first, rest) = split_line(text);
-    if !is_first_line(first) {
+    let Some(width) = width_of_line(first) else {
         return Err(PageFault::BadVersion);
-    }
-    page_of_lines(alloc, rest, need_document)
+    };
+    page_of_lines(alloc, width, rest, need)
 }
 
-fn page_of_lines(alloc: Global, text: &str, need_document: bool) -> Result<Page, PageFault>
+fn page_of_lines(
+    alloc: Global,
+    width: Width,
+    text: &str,
+    need: Need,
+) -> Result<Page, PageFault>
     requires { length text.now ≤ 67108864 }
-    ensures { Gives OutOfMemory (λ page. page) result (page_of_lines need_document (lines_of text.now)) }
+    ensures { Gives OutOfMemory (λ page. page) result
+        (page_of_lines width need (lines_of text.now)) }
 {
     let body = split_body(text);
     no_stray(2, body.text)?;
     let sections = sections_of(&Sections::new(), 2 + body.lines, body.rest)?;
-    page_of_sections(alloc, &sections, need_document)
+    page_of_sections(alloc, width, &sections, need)
 }

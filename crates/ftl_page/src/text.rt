@@ -30,7 +30,7 @@ impl Text {
 
     /// The text as a string.
     pub fn into_string(self) -> String
-        ensures { string_bytes result ≡ self }
+        ensures text { string_bytes result ≡ self }
     {
         let Text { text } = self;
         text

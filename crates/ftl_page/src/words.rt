@@ -4,11 +4,13 @@ ghost use Rattle.std.specs.Prelude.{◌≡◌, ◌<◌, ◌≤◌, ◌↔◌, []
 ghost use Rattle.std.specs.List.{prefix_len, position_or_len};
 ghost use Rattle.ftl_tokens.specs.Scan.{is_white_space};
 ghost use Rattle.ftl_page.specs.Lines.{words_of};
-ghost use Rattle.ftl_page.specs.Blocks.{content_of, grammar_content, schedule_content, document_content, are_opening, are_version};
+ghost use Rattle.ftl_page.specs.Blocks.{content_of, grammar_content, schedule_content, plain_content};
+ghost use Rattle.ftl_page.specs.Opening.{width_of_opening, width_of_version};
 ghost use Rattle.ftl_page.specs.Headings.{content};
 
 use crate::fault::Section;
 use crate::line::is_white_space;
+use ftl_base::Width;
 
 /// What a heading stands for.
 #[derive(Clone, Copy, Debug)]
@@ -87,11 +89,12 @@ fn schedule_heading(line: &[u8]) -> Option<Heading<'_>>
     }
 }
 
-fn document_heading(line: &[u8]) -> Option<Heading<'_>>
-    ensures { option_map content result ≡ document_content (words_of line.now) }
+// The heading of a section that takes no more words.
+fn plain_heading(section: Section, line: &[u8]) -> Option<Heading<'_>>
+    ensures { option_map content result ≡ plain_content section (words_of line.now) }
 {
     if is_end(line) {
-        Some(Heading::Own(Section::Document))
+        Some(Heading::Own(section))
     } else {
         None
     }
@@ -109,23 +112,38 @@ pub fn heading_of(line: &[u8]) -> Option<Heading<'_>>
     } else if first == b"%schedule".as_slice() {
         schedule_heading(rest)
     } else if first == b"%document".as_slice() {
-        document_heading(rest)
+        plain_heading(Section::Document, rest)
+    } else if first == b"%edits".as_slice() {
+        plain_heading(Section::Edits, rest)
     } else {
         None
     }
 }
 
-fn is_version(line: &[u8]) -> bool
-    ensures { result ≡ are_version (words_of line.now) }
+// The width that a version names, which stands alone.
+fn width_of_version(line: &[u8]) -> Option<Width>
+    ensures { result ≡ width_of_version (words_of line.now) }
 {
     let (word, rest) = next_word(line);
-    !word.is_empty() && is_end(rest) && word == b"1".as_slice()
+    if word.is_empty() || !is_end(rest) {
+        None
+    } else if word == b"1".as_slice() {
+        Some(Width::Narrow)
+    } else if word == b"2".as_slice() {
+        Some(Width::Wide)
+    } else {
+        None
+    }
 }
 
-/// Whether the words of a line are `%page` and `1`.
-pub fn is_opening(line: &[u8]) -> bool
-    ensures { result ≡ are_opening (words_of line.now) }
+/// The width of a page whose line 1 has these words, if they are `%page` and a version.
+pub fn width_of_opening(line: &[u8]) -> Option<Width>
+    ensures { result ≡ width_of_opening (words_of line.now) }
 {
     let (first, rest) = next_word(line);
-    !first.is_empty() && first == b"%page".as_slice() && is_version(rest)
+    if !first.is_empty() && first == b"%page".as_slice() {
+        width_of_version(rest)
+    } else {
+        None
+    }
 }

@@ -1,8 +1,8 @@
 //! The words of the contracts at small values, and calls whose contracts are worked out by hand.
 ghost use Rattle.std.specs.Prelude.{◌≡◌, ℕ, ◌+◌, ◌-◌, ◌^◌, ◌⊎◌, [], ◌∷◌, length, take, IsErr, IsErrAnd, None, Some, Ok, Err};
-ghost use Rattle.ftl_edge.specs.Counts.{raised, Rose, RisesByOk};
+ghost use Rattle.ftl_edge.specs.Counts.{raised, Rose, RoseBy, RisesByOk};
 ghost use Rattle.ftl_edge.specs.Sink.{AppendsFront};
-ghost use Rattle.ftl_edge.specs.Source.{DropsFront};
+ghost use Rattle.ftl_edge.specs.Source.{TakesFront};
 
 use super::fakes::Endless;
 use crate::{Failed, MemSink, MemSource, ReadAllFault, Sink, Source, read_all};
@@ -17,8 +17,11 @@ fn words_at_small_values()
     ensures rose_at_end { Rose (2 ^ 64 - 1) (2 ^ 64 - 1) }
     ensures by_ok { RisesByOk {E = ℕ} 3 7 (Ok 4) }
     ensures not_by_err { RisesByOk {E = ℕ} 3 4 (Err 1) → ⊥ }
-    ensures dropped { DropsFront (Some (1 ∷ 2 ∷ 3 ∷ [])) (Some (3 ∷ [])) }
-    ensures not_untold { DropsFront (Some (1 ∷ [])) None → ⊥ }
+    ensures rose_by { RoseBy 2 5 7 }
+    ensures not_rose_by { RoseBy 2 5 6 → ⊥ }
+    ensures front_taken { TakesFront (Some (1 ∷ 2 ∷ 3 ∷ [])) (Some (3 ∷ [])) 5 7 }
+    ensures not_uncounted { TakesFront (Some (1 ∷ 2 ∷ 3 ∷ [])) (Some (3 ∷ [])) 5 6 → ⊥ }
+    ensures not_untold { TakesFront (Some (1 ∷ [])) None 5 5 → ⊥ }
     ensures appended { AppendsFront (Some (1 ∷ [])) (Some (1 ∷ 2 ∷ [])) (2 ∷ 3 ∷ []) }
     ensures not_appended { AppendsFront (Some []) (Some (3 ∷ [])) (2 ∷ 3 ∷ []) → ⊥ }
 {}

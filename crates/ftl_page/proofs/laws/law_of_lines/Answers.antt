@@ -2,4 +2,4 @@ use Rattle.ftl_page.proofs.BodyLemmas.{joined-lines_of}
 use Rattle.ftl_page.proofs.laws.law_of_lines.Goals as goal
 
 pub returns : goal.returns
-returns c = joined-lines_of
+returns c = record { joined = joined-lines_of }

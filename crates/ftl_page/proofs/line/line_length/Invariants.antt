@@ -1,5 +1,5 @@
 use Rattle.std.proofs.Common.{◌≡◌, ◌+◌, drop}
-use Rattle.ftl_page.specs.LineLength.{line_length}
+use Rattle.ftl_page.proofs.LineLength.{line_length}
 use Rattle.ftl_page.proofs.line.line_length.Given as goal
 
 abbrev pub invariant-loop-place : goal.invariant-loop-place

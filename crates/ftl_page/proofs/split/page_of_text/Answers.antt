@@ -1,14 +1,23 @@
-use Rattle.std.proofs.Common.{sym, subst}
+use Rattle.std.proofs.Common.{sym, subst, ap, ◌∙◌}
 use Rattle.ftl_model.specs.Outcome.{Gives}
 use Rattle.ftl_page.specs.declared.fault.PageFault.TheVariants.{OutOfMemory}
-use Rattle.ftl_page.proofs.PageLemmas.{first_line_good, first_line_bad}
+use Rattle.ftl_page.specs.Lines.{lines_of}
+use Rattle.ftl_page.specs.Page.{page_after}
+use Rattle.ftl_page.proofs.PageLemmas.{first_line}
 use Rattle.ftl_page.proofs.split.page_of_text.Goals as goal
 
-pub returns-then-not-is_first_line : goal.returns-then-not-is_first_line
-returns-then-not-is_first_line c = λ _.
-    first_line_bad c.args.need_document c.args.text.now c.split_line.result.0.now c.split_line.result.1.now c.split_line.ensures.lines (sym c.if-not-is_first_line.ensures)
+-- line 1 names no width
+pub returns-in_default : goal.returns-in_default
+returns-in_default c = λ _.
+    let line = c.split_line.ensures in
+    first_line c.args.need c.args.text.now _ _ line.lines line.whole
+    ∙ ap (λ width. page_after width c.args.need (lines_of c.split_line.result.1.now))
+        (sym c.width_of_line.ensures ∙ c.in_default.is)
 
 pub returns : goal.returns
 returns c =
-    let is = first_line_good c.args.need_document c.args.text.now c.split_line.result.0.now c.split_line.result.1.now c.split_line.ensures.lines c.split_line.ensures.whole (sym c.if-not-is_first_line.ensures) in
+    let line = c.split_line.ensures in
+    let is = first_line c.args.need c.args.text.now _ _ line.lines line.whole
+        ∙ ap (λ width. page_after width c.args.need (lines_of c.split_line.result.1.now))
+            (sym c.width_of_line.ensures ∙ c.in-Some.is) in
     subst (Gives OutOfMemory (λ page. page) c.page_of_lines.result) (sym is) c.page_of_lines.ensures

@@ -1,4 +1,3 @@
-use Rattle.std.proofs.Common.{◌∙◌, sym}
 use Rattle.ftl_base.proofs.RowsNow.{truth_popped}
 use Rattle.ftl_base.proofs.stack.CodeStack.pop_truth.Goals as goal
 

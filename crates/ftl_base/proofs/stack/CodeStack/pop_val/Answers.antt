@@ -1,4 +1,3 @@
-use Rattle.std.proofs.Common.{◌∙◌, sym}
 use Rattle.ftl_base.proofs.RowsNow.{value_popped}
 use Rattle.ftl_base.proofs.stack.CodeStack.pop_val.Goals as goal
 
