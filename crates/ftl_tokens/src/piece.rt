@@ -1,6 +1,6 @@
 //! What stands at the front of a text: white space or a comment, a token, or neither.
 
-ghost use Rattle.std.specs.Prelude.{◌≡◌, ◌≤◌, [], ◌∷◌, IsTrue};
+ghost use Rattle.std.specs.Prelude.{◌≡◌, ℕ, ◌≤◌, [], ◌∷◌, IsTrue};
 ghost use Rattle.std.specs.Option.{SomeIff};
 ghost use Rattle.std.specs.Str.{chars};
 ghost use Rattle.std.specs.Str.Parse.{digits_value};
@@ -20,7 +20,7 @@ pub enum Piece {
     Gap(usize),
     /// The longest token.
     Token(Kind, usize),
-    /// A number above 2147483647.
+    /// A number above the greatest.
     LargeNumber,
     /// None of these, or no character at all.
     Nothing,
@@ -33,38 +33,38 @@ fn is_white_space(c: char) -> bool
     c == ' ' || c == '\t' || c == '\r' || c == '\n'
 }
 
-/// The number that the digits write, if it is at most 2147483647.
-pub fn number_of(digits: &str) -> Option<u32>
+/// The number that the digits write, if it is at most `greatest`.
+pub fn number_of(digits: &str, greatest: u64) -> Option<u64>
     requires { IsTrue (is_number digits.now) }
-    ensures { SomeIff result (digits_value 10 digits.now ≤ 2147483647) (digits_value 10 digits.now) }
+    ensures { SomeIff result (digits_value 10 digits.now ≤ greatest) (digits_value 10 digits.now) }
 {
-    match digits.parse::<u32>() {
-        Ok(number) if number <= 2147483647 => Some(number),
+    match digits.parse::<u64>() {
+        Ok(number) if number <= greatest => Some(number),
         _ => None,
     }
 }
 
 fn word_piece(text: &str) -> Piece
     requires { StartsWord (chars text.now) }
-    ensures { IsTokenPiece (chars text.now) result }
+    ensures { (greatest : ℕ) → IsTokenPiece greatest (chars text.now) result }
 {
     let length = run_length(Run::Word, text);
     Piece::Token(word_kind(&text[..length]), length)
 }
 
-fn number_piece(text: &str) -> Piece
+fn number_piece(text: &str, greatest: u64) -> Piece
     requires { StartsNumber (chars text.now) }
-    ensures { IsTokenPiece (chars text.now) result }
+    ensures { IsTokenPiece greatest (chars text.now) result }
 {
     let length = run_length(Run::Digits, text);
-    match number_of(&text[..length]) {
+    match number_of(&text[..length], greatest) {
         Some(_) => Piece::Token(Kind::Number, length),
         None => Piece::LargeNumber,
     }
 }
 
 fn short_piece(c: char) -> Piece
-    ensures { IsPieceOf (token_if (kind_of_mark (c ∷ [])) 1) (c ∷ []) result }
+    ensures { (greatest : ℕ) → IsPieceOf greatest (token_if (kind_of_mark (c ∷ [])) 1) (c ∷ []) result }
 {
     match short_mark(c) {
         Some(kind) => Piece::Token(kind, c.len_utf8()),
@@ -74,7 +74,7 @@ fn short_piece(c: char) -> Piece
 
 fn mark_piece(text: &str) -> Piece
     requires { StartsOther (chars text.now) }
-    ensures { IsTokenPiece (chars text.now) result }
+    ensures { (greatest : ℕ) → IsTokenPiece greatest (chars text.now) result }
 {
     let mut rest = text.chars();
     let Some(first) = rest.next() else {
@@ -89,9 +89,9 @@ fn mark_piece(text: &str) -> Piece
     }
 }
 
-/// The front of a text.
-pub fn piece_of(text: &str) -> Piece
-    ensures { IsFrontPiece (chars text.now) result }
+/// The front of a text, whose numbers are at most `greatest`.
+pub fn piece_of(text: &str, greatest: u64) -> Piece
+    ensures { IsFrontPiece greatest (chars text.now) result }
 {
     let Some(first) = text.chars().next() else {
         return Piece::Nothing;
@@ -103,7 +103,7 @@ pub fn piece_of(text: &str) -> Piece
     } else if first == '_' || is_xid_start(first) {
         word_piece(text)
     } else if first.is_ascii_digit() {
-        number_piece(text)
+        number_piece(text, greatest)
     } else {
         mark_piece(text)
     }

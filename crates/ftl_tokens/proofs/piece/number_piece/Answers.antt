@@ -25,11 +25,11 @@ number_of-requires c =
 pub returns-in-Some : goal.returns-in-Some
 returns-in-Some c =
     let digits = c.range.ensures.value ∙ number_bytes c.args.text.now c.run_length-length.result c.utf8.text c.requires c.run_length-length.ensures in
-    number_piece_is c.args.text.now c.run_length-length.result c.requires c.run_length-length.ensures
+    number_piece_is c.args.greatest c.args.text.now c.run_length-length.result c.requires c.run_length-length.ensures
     (omega (arith, ap (digits_value 10) digits, c.in-Some.ensures.0))
 
 pub returns-in-None : goal.returns-in-None
 returns-in-None c =
     let digits = c.range.ensures.value ∙ number_bytes c.args.text.now c.run_length-length.result c.utf8.text c.requires c.run_length-length.ensures in
-    large_number_is c.args.text.now c.requires
+    large_number_is c.args.greatest c.args.text.now c.requires
     (omega (arith, ap (digits_value 10) digits, c.in-None.ensures))

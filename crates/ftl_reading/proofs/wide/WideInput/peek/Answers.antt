@@ -2,7 +2,7 @@ use Rattle.std.proofs.Common.{◌<◌, ◌≤◌, List, length, get_or, Some, sy
 use Rattle.ftl_tokens.specs.declared.kind.Token.{Token}
 use Rattle.ftl_reading.specs.Reader.{next_kind}
 use Rattle.ftl_reading.proofs.InputLemmas.{next_kind-there, next_kind-past}
-use Rattle.ftl_reading.proofs.input.Input.peek.Goals as goal
+use Rattle.ftl_reading.proofs.wide.WideInput.peek.Goals as goal
 
 pub returns-then-self-list : goal.returns-then-self-list
 returns-then-self-list c =

@@ -1,7 +1,7 @@
 use Rattle.std.proofs.Common.{◌≡◌, ◌<◌, ◌≤◌, ◌-◌, List, length, get_or, sym, ap, ◌∙◌, subst₂, arith}
 use Rattle.ftl_tokens.specs.declared.kind.Token.{Token}
 use Rattle.ftl_reading.proofs.InputLemmas.{place_of-there, place_of-end, place_of-none}
-use Rattle.ftl_reading.proofs.input.place.Goals as goal
+use Rattle.ftl_reading.proofs.bytes.place_in.Goals as goal
 
 pub returns-then-read-count : goal.returns-then-read-count
 returns-then-read-count c =

@@ -1,6 +1,6 @@
 use Rattle.std.proofs.Common.{◌<◌, ◌-◌, ◌≤◌, arith}
 use Rattle.ftl_reading.proofs.ShallowLemmas.{counted-start, counted-more, too_deep-here}
-use Rattle.ftl_reading.proofs.brackets.first_too_deep.Goals as goal
+use Rattle.ftl_reading.proofs.brackets.first_too_deep_in.Goals as goal
 
 pub loop-token-init : goal.loop-token-init
 loop-token-init c = counted-start _ _ _
