@@ -18,6 +18,14 @@ use Rattle.ftl_tokens.specs.Kinds.{reserved_words, marks, look_up, begins_word, 
 abbrev pub begins_text : ℕ → Bool
 begins_text c = nat_le 128 c || (is_ascii_alphabetic c || (eqb c 95 || is_ascii_digit c))
 
+pub or_true : (a b : Bool) → a ≡ true → (a || b) ≡ true
+or_true true b is = refl
+or_true false b is = absurd (false≢true is)
+
+pub or_false : (a b : Bool) → a ≡ false → (a || b) ≡ b
+or_false true b is = absurd (false≢true (sym is))
+or_false false b is = refl
+
 pub begins_word-ascii : (c : ℕ) → c < 128 → begins_word c ≡ (is_ascii_alphabetic c || eqb c 95)
 begins_word-ascii c ascii = ap (λ b. b || eqb c 95) (is_xid_start-ascii c ascii)
 

@@ -1,5 +1,5 @@
 -- What the code finds at the front of a text is what stands there.
-use Rattle.std.proofs.Common.{◌≡◌, ℕ, ◌+◌, ◌-◌, ◌<◌, ◌≤◌, Bool, true, false, cond, List, [], ◌∷◌, ◌++◌, length, take, Option, Some, None, sym, refl, ap, ◌∙◌, subst, ⊎_elim, arith}
+use Rattle.std.proofs.Common.{◌≡◌, ℕ, ◌+◌, ◌-◌, ◌<◌, ◌≤◌, Bool, true, false, cond, List, [], ◌∷◌, ◌++◌, length, take, min, Option, Some, None, sym, refl, ap, ◌∙◌, subst, ⊎_elim, arith}
 use Rattle.std.specs.Prelude.{encode_utf8_all, unwrap_or}
 use Rattle.std.specs.List.{slice_range, list_all, prefix_len, take_while}
 use Rattle.std.specs.Char.{is_ascii_digit, len_utf8}
@@ -15,7 +15,7 @@ use Rattle.ftl_tokens.specs.declared.piece.Piece.{Piece}
 use Rattle.ftl_tokens.specs.declared.piece.Piece.TheVariants.{Gap, Token, LargeNumber, Nothing}
 use Rattle.ftl_tokens.specs.Kinds.{reserved_words, marks, look_up, begins_word, kind_of_word, kind_of_mark}
 use Rattle.ftl_tokens.specs.Scan.{is_white_space, stays_in_line, byte_length, token_if, token_front, longest_token, front_of, is_too_large, last_passing}
-use Rattle.ftl_tokens.specs.Piece.{Spans, IsPieceOf, StartsWord, StartsNumber, StartsOther}
+use Rattle.ftl_tokens.specs.Piece.{Spans, IsPieceOf, IsNumberPiece, StartsWord, StartsNumber, StartsOther}
 use Rattle.ftl_tokens.proofs.TextLemmas.{is_cut, byte_length-cons}
 use Rattle.ftl_tokens.proofs.KindLemmas.{kind_of_word-encodes}
 use Rattle.ftl_tokens.proofs.NumberLemmas.{is_number-digits}
@@ -126,6 +126,19 @@ module _ (greatest : ℕ) where
   large_number_is text digit large =
       subst (λ f. IsPieceOf greatest f (chars text) LargeNumber) (sym (number_front (chars text) digit)) (lt-ltb _ _ large)
 
+  -- the code's number, which is cut above the greatest, is that of the digits
+  pub number_piece_by : (text : List ℕ) (number len : ℕ) (piece : Piece) → IsUtf8 text → StartsNumber (chars text)
+      → len ≡ byte_length (take_while is_ascii_digit (chars text)) → number ≡ min (digits_value 10 (take len text)) (greatest + 1)
+      → IsNumberPiece greatest number len piece
+      → IsPieceOf greatest (token_front (chars text) (longest_token (chars text))) (chars text) piece
+  number_piece_by text number len (Token Number found) utf8 digit len_is number_is is =
+      let value = ap (digits_value 10) (sym (front_range text len) ∙ number_bytes text len utf8 digit len_is) in
+      number_piece_is text found digit (is.1 ∙ len_is) (omega (arith, value, number_is, is.0))
+  number_piece_by text number len LargeNumber utf8 digit len_is number_is is =
+      let value = ap (digits_value 10) (sym (front_range text len) ∙ number_bytes text len utf8 digit len_is) in
+      large_number_is text digit (omega (arith, value, number_is, is))
+  number_piece_by text number len _ utf8 digit len_is number_is is = absurd is
+
   -- ---- marks
 
   -- a token, along an equation of the characters
@@ -198,12 +211,13 @@ module _ (greatest : ℕ) where
 
   -- ---- white space, comments and the choice
 
-  pub white_space_is : (c : ℕ) (cs : List ℕ) → is_white_space c ≡ true → IsPieceOf greatest (front_of (c ∷ cs)) (c ∷ cs) (Gap 1)
+  pub white_space_is : (c : ℕ) (cs : List ℕ) (len : ℕ) → is_white_space c ≡ true
+      → len ≡ byte_length (take_while is_white_space (c ∷ cs)) → IsPieceOf greatest (front_of (c ∷ cs)) (c ∷ cs) (Gap len)
   unfolding front_of
-  white_space_is c cs white =
-      let ascii : c < 128 = grind (arith, nat_tests) in
-      subst (λ f. IsPieceOf greatest f (c ∷ cs) (Gap 1)) (sym (cond-true _ _ _ white))
-      (record { some = omega arith; within = omega arith; bytes = omega (arith, byte_length-cons c [], len_utf8_ascii c ascii) })
+  white_space_is c cs len white len_is =
+      let some : 0 < prefix_len is_white_space (c ∷ cs) = omega (arith, cond-true (is_white_space c) (1 + prefix_len is_white_space cs) 0 white) in
+      subst (λ f. IsPieceOf greatest f (c ∷ cs) (Gap len)) (sym (cond-true _ _ _ white))
+      (record { some = some; within = prefix_len-le is_white_space (c ∷ cs); bytes = len_is })
 
   pub comment_is : (c : ℕ) (cs : List ℕ) (len : ℕ) → is_white_space c ≡ false → c ≡ 35
       → len ≡ byte_length (take_while stays_in_line (c ∷ cs)) → IsPieceOf greatest (front_of (c ∷ cs)) (c ∷ cs) (Gap len)
@@ -249,3 +263,8 @@ module _ (greatest : ℕ) where
       → len ≡ byte_length (take_while stays_in_line cs) → IsPieceOf greatest (front_of cs) cs (Gap len)
   comment_at cs c more len split no_white hash len_is =
       front_along cs (c ∷ more) (Gap len) split (comment_is c more len no_white hash (len_is ∙ ap (λ l. byte_length (take_while stays_in_line l)) split))
+
+  pub white_space_at : (cs : List ℕ) (c : ℕ) (more : List ℕ) (len : ℕ) → cs ≡ c ∷ more → is_white_space c ≡ true
+      → len ≡ byte_length (take_while is_white_space cs) → IsPieceOf greatest (front_of cs) cs (Gap len)
+  white_space_at cs c more len split white len_is =
+      front_along cs (c ∷ more) (Gap len) split (white_space_is c more len white (len_is ∙ ap (λ l. byte_length (take_while is_white_space l)) split))

@@ -129,7 +129,10 @@ unfolding front_of
 front_facts [] = tt
 front_facts (c ∷ cs) =
     ⊎_elim
-    (λ white. subst (FrontFacts (c ∷ cs)) (sym (cond-true _ _ _ white)) (white_space white, omega arith, omega arith))
+    (λ white.
+    let more : prefix_len is_white_space (c ∷ cs) ≡ suc (prefix_len is_white_space cs) = omega (arith, cond-true (is_white_space c) (1 + prefix_len is_white_space cs) 0 white) in
+    subst (FrontFacts (c ∷ cs)) (sym (cond-true _ _ _ white ∙ ap gap more))
+    (white_space white (list_all-run is_white_space (prefix_len is_white_space cs) cs (omega arith)), omega arith, omega (arith, prefix_len-le is_white_space cs)))
     (λ no_white.
     ⊎_elim
     (λ hash.

@@ -214,3 +214,10 @@ pub value-small : (greatest : ℕ) (text : List ℕ) (tokens : List Token) (k va
     → IfSome (slice_get tokens k) (λ t. value ≡ digits_value 10 (token_text text t)) → value ≤ greatest
 value-small greatest text tokens k value are number value_is =
     value_by greatest text value (slice_get tokens k) number value_is (is_token_of-each greatest text 0 tokens k are)
+
+-- and so is that of its bytes
+pub slice_value-small : (greatest : ℕ) (text bytes : List ℕ) (o : Option Token) → IsSomeAnd o (λ t. t.kind ≡ Number)
+    → IfSome o (λ t. bytes ≡ token_text text t) → IfSome o (IsTokenOf greatest text) → digits_value 10 bytes ≤ greatest
+slice_value-small greatest text bytes None number bytes_are is = absurd number
+slice_value-small greatest text bytes (Some t) number bytes_are is =
+    value_by greatest text (digits_value 10 bytes) (Some t) number (ap (digits_value 10) bytes_are) is

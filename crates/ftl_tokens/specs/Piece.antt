@@ -1,6 +1,7 @@
 -- What the front of a text is as the code sees it, with lengths in bytes.
 use Rattle.std.specs.Prelude.{◌≡◌, ℕ, ◌<◌, ◌≤◌, true, false, List, [], ◌∷◌, length, take}
 use Rattle.std.specs.Char.{is_ascii_digit}
+use Rattle.ftl_tokens.specs.declared.kind.Kind.TheVariants.{Number}
 use Rattle.ftl_tokens.specs.declared.piece.Piece.{Piece}
 use Rattle.ftl_tokens.specs.declared.piece.Piece.TheVariants.{Gap, Token, LargeNumber, Nothing}
 use Rattle.ftl_tokens.specs.Kinds.{begins_word}
@@ -20,6 +21,12 @@ IsPieceOf greatest (token kind n) cs (Token found len) =
 IsPieceOf greatest (token kind n) cs LargeNumber = is_too_large greatest kind (take n cs) ≡ true
 IsPieceOf greatest nothing cs Nothing = Unit {0}
 IsPieceOf greatest _ cs _ = ⊥
+
+-- the code's piece for a number that is written so long
+abbrev pub IsNumberPiece : ℕ → ℕ → ℕ → Piece → Type 0
+IsNumberPiece greatest number length LargeNumber = greatest < number
+IsNumberPiece greatest number length (Token Number len) = (number ≤ greatest) × (len ≡ length)
+IsNumberPiece greatest number length _ = ⊥
 
 -- the code's piece is the front of these characters
 abbrev pub IsFrontPiece : ℕ → List ℕ → Piece → Type 0

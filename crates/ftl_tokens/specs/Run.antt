@@ -1,13 +1,14 @@
--- What a word, a number or a comment goes on with.
+-- What white space, a word, a number or a comment goes on with.
 use Rattle.std.specs.Prelude.{ℕ, Bool}
 use Rattle.std.specs.Char.{is_ascii_digit}
 use Rattle.unicode_ident.specs.Ident.{is_xid_continue}
 use Rattle.ftl_tokens.specs.declared.run.Run.{Run}
-use Rattle.ftl_tokens.specs.declared.run.Run.TheVariants.{Word, Digits, Comment}
-use Rattle.ftl_tokens.specs.Scan.{stays_in_line}
+use Rattle.ftl_tokens.specs.declared.run.Run.TheVariants.{White, Word, Digits, Comment}
+use Rattle.ftl_tokens.specs.Scan.{is_white_space, stays_in_line}
 
 -- whether the character goes on what runs
 abbrev pub goes_on : Run → ℕ → Bool
+goes_on White = is_white_space
 goes_on Word = is_xid_continue
 goes_on Digits = is_ascii_digit
 goes_on Comment = stays_in_line

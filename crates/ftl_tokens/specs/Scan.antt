@@ -34,7 +34,7 @@ longest_token cs = last_passing (λ n. is_some (kind_of (take n cs))) (length cs
 
 -- what stands at the front of some characters, and how many of them it has
 pub data Front : Type 0 where
-  -- one character of white space, or a comment
+  -- white space as far as it goes, or a comment
   gap : ℕ → Front
   -- the longest token there
   token : Kind → ℕ → Front
@@ -54,7 +54,7 @@ token_front cs n = token_if (kind_of (take n cs)) n
 unfoldable pub front_of : List ℕ → Front
 front_of [] = nothing
 front_of (c ∷ cs) =
-    if is_white_space c then gap 1
+    if is_white_space c then gap (prefix_len is_white_space (c ∷ cs))
     else (if c == 35 then gap (prefix_len stays_in_line (c ∷ cs))
     else token_front (c ∷ cs) (longest_token (c ∷ cs)))
 

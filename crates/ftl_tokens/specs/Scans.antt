@@ -14,7 +14,8 @@ IsLineEnd (c ∷ cs) = c ≡ 10
 
 -- what may stand between tokens, before the rest of the text
 pub data IsGap : List ℕ → List ℕ → Type 0 where
-  white_space : {c : ℕ} {rest : List ℕ} → is_white_space c ≡ true → IsGap (c ∷ []) rest
+  white_space : {c : ℕ} {more rest : List ℕ} → is_white_space c ≡ true → list_all is_white_space more ≡ true
+      → IsGap (c ∷ more) rest
   -- from `#` to the end of the line
   comment : {body rest : List ℕ} → list_all stays_in_line body ≡ true → IsLineEnd rest → IsGap (35 ∷ body) rest
 

@@ -1,22 +1,20 @@
 //! What stands at the front of a text: white space or a comment, a token, or neither.
 
-ghost use Rattle.std.specs.Prelude.{◌≡◌, ℕ, ◌≤◌, [], ◌∷◌, IsTrue};
-ghost use Rattle.std.specs.Option.{SomeIff};
+ghost use Rattle.std.specs.Prelude.{◌≡◌, ℕ, ◌≤◌, [], ◌∷◌};
 ghost use Rattle.std.specs.Str.{chars};
-ghost use Rattle.std.specs.Str.Parse.{digits_value};
-ghost use Rattle.ftl_tokens.specs.Kinds.{is_number, kind_of_mark};
-ghost use Rattle.ftl_tokens.specs.Scan.{is_white_space, token_if};
-ghost use Rattle.ftl_tokens.specs.Piece.{IsPieceOf, IsFrontPiece, IsTokenPiece, StartsWord, StartsNumber, StartsOther};
+ghost use Rattle.ftl_tokens.specs.Kinds.{begins_word, kind_of_mark};
+ghost use Rattle.ftl_tokens.specs.Scan.{token_if};
+ghost use Rattle.ftl_tokens.specs.Piece.{IsPieceOf, IsFrontPiece, IsTokenPiece, IsNumberPiece, StartsWord, StartsNumber, StartsOther};
 
 use crate::kind::Kind;
-use crate::run::{Run, run_length};
+use crate::run::{Run, is_white_space, run_length};
 use crate::word::{long_mark, short_mark, word_kind};
 use unicode_ident::is_xid_start;
 
 /// The front of a text, with its length in bytes.
 #[derive(Clone, Copy, Debug, PartialEq, Eq)]
 pub enum Piece {
-    /// One character of white space, or a comment.
+    /// White space as far as it goes, or a comment.
     Gap(usize),
     /// The longest token.
     Token(Kind, usize),
@@ -26,21 +24,15 @@ pub enum Piece {
     Nothing,
 }
 
+/// Whether a word begins so. Only characters above ASCII are looked up.
 #[inline]
-fn is_white_space(c: char) -> bool
-    ensures { result ≡ is_white_space c }
+fn begins_word(c: char) -> bool
+    ensures { result ≡ begins_word c }
 {
-    c == ' ' || c == '\t' || c == '\r' || c == '\n'
-}
-
-/// The number that the digits write, if it is at most `greatest`.
-pub fn number_of(digits: &str, greatest: u64) -> Option<u64>
-    requires { IsTrue (is_number digits.now) }
-    ensures { SomeIff result (digits_value 10 digits.now ≤ greatest) (digits_value 10 digits.now) }
-{
-    match digits.parse::<u64>() {
-        Ok(number) if number <= greatest => Some(number),
-        _ => None,
+    if c.is_ascii() {
+        c.is_ascii_alphabetic() || c == '_'
+    } else {
+        is_xid_start(c)
     }
 }
 
@@ -52,15 +44,31 @@ fn word_piece(text: &str) -> Piece
     Piece::Token(word_kind(&text[..length]), length)
 }
 
+/// The number of so many digits, which is cut at `greatest` and one.
+#[inline]
+fn number_token(number: u64, length: usize, greatest: u64) -> Piece
+    ensures { IsNumberPiece greatest number length result }
+{
+    if number > greatest {
+        Piece::LargeNumber
+    } else {
+        Piece::Token(Kind::Number, length)
+    }
+}
+
 fn number_piece(text: &str, greatest: u64) -> Piece
-    requires { StartsNumber (chars text.now) }
+    requires number { StartsNumber (chars text.now) }
+    requires limit { greatest ≤ 140737488355327 }
     ensures { IsTokenPiece greatest (chars text.now) result }
 {
-    let length = run_length(Run::Digits, text);
-    match number_of(&text[..length], greatest) {
-        Some(_) => Piece::Token(Kind::Number, length),
-        None => Piece::LargeNumber,
+    let mut number = 0;
+    for (at, &byte) in text.as_bytes().iter().enumerate() {
+        if !byte.is_ascii_digit() {
+            return number_token(number, at, greatest);
+        }
+        number = (number * 10 + u64::from(byte - b'0')).min(greatest + 1);
     }
+    number_token(number, text.len(), greatest)
 }
 
 fn short_piece(c: char) -> Piece
@@ -91,16 +99,17 @@ fn mark_piece(text: &str) -> Piece
 
 /// The front of a text, whose numbers are at most `greatest`.
 pub fn piece_of(text: &str, greatest: u64) -> Piece
+    requires { greatest ≤ 140737488355327 }
     ensures { IsFrontPiece greatest (chars text.now) result }
 {
     let Some(first) = text.chars().next() else {
         return Piece::Nothing;
     };
     if is_white_space(first) {
-        Piece::Gap(1)
+        Piece::Gap(run_length(Run::White, text))
     } else if first == '#' {
         Piece::Gap(run_length(Run::Comment, text))
-    } else if first == '_' || is_xid_start(first) {
+    } else if begins_word(first) {
         word_piece(text)
     } else if first.is_ascii_digit() {
         number_piece(text, greatest)

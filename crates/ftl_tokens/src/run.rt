@@ -1,9 +1,9 @@
-//! How far a word, a number or a comment goes.
+//! How far white space, a word, a number or a comment goes.
 
-ghost use Rattle.std.specs.Prelude.{◌≡◌};
+ghost use Rattle.std.specs.Prelude.{◌≡◌, ◌<◌};
 ghost use Rattle.std.specs.List.{take_while};
 ghost use Rattle.std.specs.Str.{chars};
-ghost use Rattle.ftl_tokens.specs.Scan.{byte_length};
+ghost use Rattle.ftl_tokens.specs.Scan.{is_white_space, byte_length};
 ghost use Rattle.ftl_tokens.specs.Run.{goes_on};
 
 use unicode_ident::is_xid_continue;
@@ -11,29 +11,68 @@ use unicode_ident::is_xid_continue;
 /// What goes on from character to character.
 #[derive(Clone, Copy, Debug, PartialEq, Eq)]
 pub enum Run {
+    White,
     Word,
     Digits,
     Comment,
 }
 
+/// White space.
 #[inline]
-fn goes_on(run: Run, c: char) -> bool
+pub fn is_white_space(c: char) -> bool
+    ensures { result ≡ is_white_space c }
+{
+    c == ' ' || c == '\t' || c == '\r' || c == '\n'
+}
+
+#[inline]
+fn char_goes_on(run: Run, c: char) -> bool
     ensures { result ≡ goes_on run c }
 {
     match run {
+        Run::White => is_white_space(c),
         Run::Word => is_xid_continue(c),
         Run::Digits => c.is_ascii_digit(),
         Run::Comment => c != '\n',
     }
 }
 
+#[inline]
+fn byte_goes_on(run: Run, byte: u8) -> bool
+    requires { byte < 128 }
+    ensures { result ≡ goes_on run byte }
+{
+    match run {
+        Run::White => byte == b' ' || byte == b'\t' || byte == b'\r' || byte == b'\n',
+        Run::Word => byte.is_ascii_alphanumeric() || byte == b'_',
+        Run::Digits => byte.is_ascii_digit(),
+        Run::Comment => byte != b'\n',
+    }
+}
+
 /// How many bytes the characters have that go on from the front of `text`.
-pub fn run_length(run: Run, text: &str) -> usize
+fn char_run_length(run: Run, text: &str) -> usize
     ensures { result ≡ byte_length (take_while (goes_on run) (chars text.now)) }
 {
     for (place, c) in text.char_indices() {
-        if !goes_on(run, c) {
+        if !char_goes_on(run, c) {
             return place;
+        }
+    }
+    text.len()
+}
+
+/// How many bytes the characters have that go on from the front of `text`. They are decoded only from
+/// the first one on that is not ASCII.
+pub fn run_length(run: Run, text: &str) -> usize
+    ensures { result ≡ byte_length (take_while (goes_on run) (chars text.now)) }
+{
+    for (at, &byte) in text.as_bytes().iter().enumerate() {
+        if byte >= 128 {
+            return at + char_run_length(run, &text[at..]);
+        }
+        if !byte_goes_on(run, byte) {
+            return at;
         }
     }
     text.len()

@@ -47,7 +47,8 @@ fn tokenized_text(alloc: Global, text: String, greatest: u64) -> Result<Tokenize
 }
 
 fn token_list(alloc: Global, text: &str, greatest: u64) -> Result<Vec<Token>, TokenFault>
-    requires { length text.now ≤ 67108864 }
+    requires short { length text.now ≤ 67108864 }
+    requires limit { greatest ≤ 140737488355327 }
     ensures exact { Gives OutOfMemory (λ list. list.items) result (scan greatest text.now) }
 {
     let mut list = Vec::new(alloc);

@@ -1,11 +1,11 @@
 //! A text with its tokens, whatever their greatest number.
 
-ghost use Rattle.std.specs.Prelude.{◌≡◌, ◌<◌, ◌≤◌, length, string_bytes, slice_get, IfSome, IsSomeAnd};
+ghost use Rattle.std.specs.Prelude.{◌≡◌, ◌<◌, ◌≤◌, length, string_bytes, slice_get, IfSome, IsSomeAnd, IsTrue};
 ghost use Rattle.std.specs.Str.Parse.{digits_value};
+ghost use Rattle.ftl_tokens.specs.Kinds.{is_number};
 ghost use Rattle.ftl_tokens.specs.Tokenized.{token_text, IsTokenOf, AreTokensOf, symbol, symbols_of, number};
 
 use crate::kind::{Kind, Token};
-use crate::piece::number_of;
 use std::marker::Model;
 
 /// A text with its tokens. `Scanned` and `WideScanned` lend it, so that readers of both are one.
@@ -63,6 +63,15 @@ impl TokenizedText {
         ensures symbol { slice_get (symbols_of self.now) k ≡ Some (number result) }
         ensures small { result ≤ 140737488355327 }
     {
-        number_of(self.slice(k), 140737488355327).unwrap()
+        number_of(self.slice(k))
     }
+}
+
+/// The number that the digits write.
+fn number_of(digits: &str) -> u64
+    requires number { IsTrue (is_number digits.now) }
+    requires small { digits_value 10 digits.now ≤ 140737488355327 }
+    ensures { result ≡ digits_value 10 digits.now }
+{
+    digits.parse::<u64>().unwrap()
 }

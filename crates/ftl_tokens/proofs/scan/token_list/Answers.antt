@@ -18,14 +18,14 @@ overflow_add-at c =
     let turn : Advances c.args.greatest c.loop-rest.list.items (c.loop-rest.list.items ++ (record { kind = c.in-Token.kind; start = c.loop-rest.at; end = c.loop-rest.at + c.in-Token.len } ∷ [])) c.loop-rest.at c.in-Token.len c.loop-rest.rest.now =
     token_advances c.args.greatest _ _ _ _ c.in-Token.len c.in-Token.kind c.loop-rest.rest.now c.in-Token.ensures refl refl
     in
-    omega (arith, advanced_within c.loop-rest.invariant.read turn, c.requires)
+    omega (arith, advanced_within c.loop-rest.invariant.read turn, c.requires.short)
 
 pub overflow_cast-at-in-Token : goal.overflow_cast-at-in-Token
 overflow_cast-at-in-Token c =
     let turn : Advances c.args.greatest c.loop-rest.list.items (c.loop-rest.list.items ++ (record { kind = c.in-Token.kind; start = c.loop-rest.at; end = c.loop-rest.at + c.in-Token.len } ∷ [])) c.loop-rest.at c.in-Token.len c.loop-rest.rest.now =
     token_advances c.args.greatest _ _ _ _ c.in-Token.len c.in-Token.kind c.loop-rest.rest.now c.in-Token.ensures refl refl
     in
-    omega (arith, advanced_within c.loop-rest.invariant.read turn, c.requires)
+    omega (arith, advanced_within c.loop-rest.invariant.read turn, c.requires.short)
 
 pub returns-in-LargeNumber : goal.returns-in-LargeNumber
 returns-in-LargeNumber c =
@@ -46,7 +46,7 @@ overflow_add-at-in-loop-rest c =
       | in-Token+in_ok-push-in-Token w ↦ token_advances c.args.greatest _ _ _ _ w.in-Token.len w.in-Token.kind c.loop-rest.rest.now w.in-Token.ensures w.len-is (ap (λ l. l.items) w.list-is ∙ w.in_ok-push-in-Token.ensures.items)
     ]
     in
-    omega (arith, advanced_within c.loop-rest.invariant.read turn, c.requires)
+    omega (arith, advanced_within c.loop-rest.invariant.read turn, c.requires.short)
 
 -- and between characters
 pub range_from-rest-requires : goal.range_from-rest-requires
