@@ -5,5 +5,6 @@ pub mod PieceLemmas
 pub mod RunLemmas
 pub mod ScanLemmas
 pub mod ScansLemmas
+pub mod TableLemmas
 pub mod TextLemmas
 pub mod TokenLemmas

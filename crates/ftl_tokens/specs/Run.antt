@@ -1,5 +1,5 @@
 -- What white space, a word, a number or a comment goes on with.
-use Rattle.std.specs.Prelude.{ℕ, Bool}
+use Rattle.std.specs.Prelude.{ℕ, Bool, ◌&&◌, nat_lt}
 use Rattle.std.specs.Char.{is_ascii_digit}
 use Rattle.unicode_ident.specs.Ident.{is_xid_continue}
 use Rattle.ftl_tokens.specs.declared.run.Run.{Run}
@@ -12,3 +12,7 @@ goes_on White = is_white_space
 goes_on Word = is_xid_continue
 goes_on Digits = is_ascii_digit
 goes_on Comment = stays_in_line
+
+-- whether the byte is an ASCII character that goes on what runs
+abbrev pub byte_goes_on : Run → ℕ → Bool
+byte_goes_on run byte = nat_lt byte 128 && goes_on run byte

@@ -71,6 +71,7 @@ fn number_piece(text: &str, greatest: u64) -> Piece
     number_token(number, text.len(), greatest)
 }
 
+#[inline(always)]
 fn short_piece(c: char) -> Piece
     ensures { (greatest : ℕ) → IsPieceOf greatest (token_if (kind_of_mark (c ∷ [])) 1) (c ∷ []) result }
 {
@@ -80,6 +81,7 @@ fn short_piece(c: char) -> Piece
     }
 }
 
+#[inline]
 fn mark_piece(text: &str) -> Piece
     requires { StartsOther (chars text.now) }
     ensures { (greatest : ℕ) → IsTokenPiece greatest (chars text.now) result }

@@ -1,10 +1,10 @@
 //! How far white space, a word, a number or a comment goes.
 
-ghost use Rattle.std.specs.Prelude.{◌≡◌, ◌<◌};
+ghost use Rattle.std.specs.Prelude.{◌≡◌};
 ghost use Rattle.std.specs.List.{take_while};
 ghost use Rattle.std.specs.Str.{chars};
 ghost use Rattle.ftl_tokens.specs.Scan.{is_white_space, byte_length};
-ghost use Rattle.ftl_tokens.specs.Run.{goes_on};
+ghost use Rattle.ftl_tokens.specs.Run.{goes_on, byte_goes_on};
 
 use unicode_ident::is_xid_continue;
 
@@ -37,16 +37,38 @@ fn char_goes_on(run: Run, c: char) -> bool
     }
 }
 
+// For each byte 1 if it is white space, 2 if it continues a word, 4 if it is a digit, 8 if it stays in
+// a line, all together. Nothing is said of bytes that are not ASCII.
+#[rattlefmt::skip]
+static CLASS: [u8; 256] = [
+    8, 8, 8, 8, 8, 8, 8, 8, 8, 9, 1, 8, 8, 9, 8, 8,
+    8, 8, 8, 8, 8, 8, 8, 8, 8, 8, 8, 8, 8, 8, 8, 8,
+    9, 8, 8, 8, 8, 8, 8, 8, 8, 8, 8, 8, 8, 8, 8, 8,
+    14, 14, 14, 14, 14, 14, 14, 14, 14, 14, 8, 8, 8, 8, 8, 8,
+    8, 10, 10, 10, 10, 10, 10, 10, 10, 10, 10, 10, 10, 10, 10, 10,
+    10, 10, 10, 10, 10, 10, 10, 10, 10, 10, 10, 8, 8, 8, 8, 10,
+    8, 10, 10, 10, 10, 10, 10, 10, 10, 10, 10, 10, 10, 10, 10, 10,
+    10, 10, 10, 10, 10, 10, 10, 10, 10, 10, 10, 8, 8, 8, 8, 8,
+    0, 0, 0, 0, 0, 0, 0, 0, 0, 0, 0, 0, 0, 0, 0, 0,
+    0, 0, 0, 0, 0, 0, 0, 0, 0, 0, 0, 0, 0, 0, 0, 0,
+    0, 0, 0, 0, 0, 0, 0, 0, 0, 0, 0, 0, 0, 0, 0, 0,
+    0, 0, 0, 0, 0, 0, 0, 0, 0, 0, 0, 0, 0, 0, 0, 0,
+    0, 0, 0, 0, 0, 0, 0, 0, 0, 0, 0, 0, 0, 0, 0, 0,
+    0, 0, 0, 0, 0, 0, 0, 0, 0, 0, 0, 0, 0, 0, 0, 0,
+    0, 0, 0, 0, 0, 0, 0, 0, 0, 0, 0, 0, 0, 0, 0, 0,
+    0, 0, 0, 0, 0, 0, 0, 0, 0, 0, 0, 0, 0, 0, 0, 0,
+];
+
+/// Whether the byte is an ASCII character that goes on.
 #[inline]
 fn byte_goes_on(run: Run, byte: u8) -> bool
-    requires { byte < 128 }
-    ensures { result ≡ goes_on run byte }
+    ensures { result ≡ byte_goes_on run byte }
 {
     match run {
-        Run::White => byte == b' ' || byte == b'\t' || byte == b'\r' || byte == b'\n',
-        Run::Word => byte.is_ascii_alphanumeric() || byte == b'_',
-        Run::Digits => byte.is_ascii_digit(),
-        Run::Comment => byte != b'\n',
+        Run::White => CLASS[byte as usize] & 1 != 0,
+        Run::Word => CLASS[byte as usize] & 2 != 0,
+        Run::Digits => CLASS[byte as usize] & 4 != 0,
+        Run::Comment => CLASS[byte as usize] & 8 != 0,
     }
 }
 
@@ -64,15 +86,16 @@ fn char_run_length(run: Run, text: &str) -> usize
 
 /// How many bytes the characters have that go on from the front of `text`. They are decoded only from
 /// the first one on that is not ASCII.
+#[inline]
 pub fn run_length(run: Run, text: &str) -> usize
     ensures { result ≡ byte_length (take_while (goes_on run) (chars text.now)) }
 {
     for (at, &byte) in text.as_bytes().iter().enumerate() {
-        if byte >= 128 {
-            return at + char_run_length(run, &text[at..]);
-        }
         if !byte_goes_on(run, byte) {
-            return at;
+            if byte < 128 {
+                return at;
+            }
+            return at + char_run_length(run, &text[at..]);
         }
     }
     text.len()

@@ -51,6 +51,7 @@ pub fn word_kind(word: &str) -> Kind
 }
 
 /// The kind of the mark of one character.
+#[inline(always)]
 #[tactic(auto, unfolding(crate::specs::Kinds::kind_of_mark))]
 pub fn short_mark(c: char) -> Option<Kind>
     ensures { result ≡ kind_of_mark (c ∷ []) }
@@ -79,6 +80,7 @@ pub fn short_mark(c: char) -> Option<Kind>
 }
 
 /// The kind of the mark of two characters.
+#[inline(always)]
 #[tactic(auto, unfolding(crate::specs::Kinds::kind_of_mark))]
 pub fn long_mark(first: char, second: char) -> Option<Kind>
     ensures { result ≡ kind_of_mark (first ∷ second ∷ []) }

@@ -1,5 +1,5 @@
 //! Scans the tokens of the text on standard input, and tells how many there are. With any word it
-//! tells the nanoseconds that this took first.
+//! does so ten times, and tells the least nanoseconds that one scan took first.
 #![tactic(auto)]
 
 use ftl_edge::{StdSource, read_all};
@@ -11,7 +11,7 @@ use std::{env, io};
 const MAX_TEXT: usize = 67108864;
 
 fn main(rt: HostRuntime) -> io::Result<()> {
-    let timed = env::args(&rt)?.count() > 1;
+    let scans = if env::args(&rt)?.count() > 1 { 10 } else { 1 };
     let mut source = StdSource::new(&rt);
     let Ok(bytes) = read_all(rt.alloc(), &mut source, MAX_TEXT) else {
         println!(rt; "not read")?;
@@ -21,15 +21,21 @@ fn main(rt: HostRuntime) -> io::Result<()> {
         println!(rt; "no text")?;
         return Ok(());
     };
-    let start = Instant::now(&rt)?;
-    let Ok(scanned) = tokens(rt.alloc(), text) else {
-        println!(rt; "no tokens")?;
-        return Ok(());
-    };
-    let time = start.elapsed(&rt)?;
-    if timed {
-        print!(rt; "{} ", time.as_nanos())?;
+    let mut least = u128::MAX;
+    let mut count = 0;
+    for _ in 0..scans {
+        let copy = text.clone()?;
+        let start = Instant::now(&rt)?;
+        let Ok(scanned) = tokens(rt.alloc(), copy) else {
+            println!(rt; "no tokens")?;
+            return Ok(());
+        };
+        least = least.min(start.elapsed(&rt)?.as_nanos());
+        count = scanned.list().len();
     }
-    println!(rt; "{} tokens", scanned.list().len())?;
+    if scans > 1 {
+        print!(rt; "{least} ")?;
+    }
+    println!(rt; "{count} tokens")?;
     Ok(())
 }
