@@ -42,6 +42,14 @@ continues-ascii c =
     (λ beyond. and_left _ _ (le-ltb c 128 beyond) ∙ sym (and_left _ _ (le-ltb c 128 beyond)))
     (cases_lt c 128)
 
+-- and the letters and `_` begin one
+pub begins-ascii : (c : ℕ) → (nat_lt c 128 && (is_ascii_alphabetic c || eqb c 95)) ≡ (nat_lt c 128 && begins_word c)
+begins-ascii c =
+    ⊎_elim
+    (λ ascii. ap (λ b. nat_lt c 128 && b) (sym (begins_word-ascii c ascii)))
+    (λ beyond. and_left _ _ (le-ltb c 128 beyond) ∙ sym (and_left _ _ (le-ltb c 128 beyond)))
+    (cases_lt c 128)
+
 pub digit_begins_no_word : (c : ℕ) → is_ascii_digit c ≡ true → begins_word c ≡ false
 digit_begins_no_word c digit =
     let ascii : c < 128 = grind (arith, nat_tests) in

@@ -1,3 +1,4 @@
+pub mod FirstLemmas
 pub mod FrontLemmas
 pub mod KindLemmas
 pub mod NumberLemmas

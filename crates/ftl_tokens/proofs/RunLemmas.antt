@@ -1,12 +1,13 @@
 -- A run of characters, from the front of a text on.
-use Rattle.std.proofs.Common.{◌≡◌, ℕ, suc, ◌+◌, ◌<◌, ◌≤◌, Bool, true, false, cond, List, [], ◌∷◌, ◌++◌, length, get_or, take, drop, sym, ap, ◌∙◌, subst, arith, add-one, drop-cons, length-append, length-drop}
+use Rattle.std.proofs.Common.{◌≡◌, ℕ, suc, ◌+◌, ◌<◌, ◌≤◌, Bool, true, false, cond, List, [], ◌∷◌, ◌++◌, length, get_or, take, drop, sym, ap, ◌∙◌, subst, ⊎_elim, arith, add-one, drop-cons, length-append, length-drop}
 use Rattle.std.specs.List.{take_while, prefix_len}
 use Rattle.std.specs.Char.{encode_utf8}
 use Rattle.std.specs.Prelude.{encode_utf8_all}
 use Rattle.std.specs.Str.{chars, IsUtf8}
-use Rattle.std.proofs.lemmas.Bool.{false≢true, false_from_ne_true}
+use Rattle.std.proofs.lemmas.Bool.{false≢true, false_from_ne_true, cases_lt}
 use Rattle.std.proofs.lemmas.List.{nil_from_length}
 use Rattle.std.proofs.lemmas.Str.{chars-nil, encode_ascii, chars_past_char, IsUtf8-past_char}
+use Rattle.ftl_tokens.specs.Piece.{StartsFar}
 use Rattle.ftl_tokens.specs.Scan.{byte_length}
 
 -- the run at the front of text goes on with that at the front of rest, which stands at offset
@@ -64,6 +65,29 @@ ascii_char text offset within ascii =
     drop-cons text offset 0 within
     ∙ ap (λ l. l ++ drop (suc offset) text) (sym (encode_ascii (get_or text offset 0) ascii))
     ∙ ap (λ k. encode_utf8 (get_or text offset 0) ++ drop k text) (sym (add-one offset))
+
+-- a text that begins with an ASCII byte begins with that character
+pub first_ascii : (text bytes : List ℕ) → IsUtf8 text → bytes ≡ text → 0 < length text → get_or bytes 0 0 < 128
+    → chars text ≡ get_or bytes 0 0 ∷ chars (drop 1 text)
+first_ascii text bytes utf8 same some =
+    subst (λ l. get_or l 0 0 < 128 → chars text ≡ get_or l 0 0 ∷ chars (drop 1 text)) (sym same)
+    (λ ascii. chars_past_char text (drop 1 text) (get_or text 0 0) utf8 (ascii_char text 0 some ascii))
+
+far_first : (text : List ℕ) → IsUtf8 text → 0 < length text → 128 ≤ get_or text 0 0 → StartsFar (chars text)
+far_first text ([], (scalar, same)) some far = absurd (omega (arith, some, ap length same))
+far_first text (c ∷ cs, (scalar, same)) some far =
+    subst StartsFar (sym (chars_past_char text (encode_utf8_all cs) c (c ∷ cs, (scalar, same)) (sym same)))
+    (⊎_elim
+    (λ ascii.
+    let first : get_or text 0 0 ≡ c = ap (λ (l : List ℕ). get_or l 0 0) (sym same ∙ ap (λ l. l ++ encode_utf8_all cs) (encode_ascii c ascii)) in
+    absurd (omega (arith, first)))
+    (λ beyond. beyond)
+    (cases_lt c 128))
+
+-- one that begins with another byte begins with a character beyond ASCII
+pub first_far : (text bytes : List ℕ) → IsUtf8 text → bytes ≡ text → 0 < length text → 128 ≤ get_or bytes 0 0
+    → StartsFar (chars text)
+first_far text bytes utf8 same some far = far_first text utf8 some (subst (λ l. 128 ≤ get_or l 0 0) same far)
 
 -- where what runs is ASCII, it stops before a byte that is none of it
 stops_other : (p : ℕ → Bool) → ((c : ℕ) → p c ≡ true → c < 128) → (rest : List ℕ) → IsUtf8 rest → 0 < length rest

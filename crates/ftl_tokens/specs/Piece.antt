@@ -50,3 +50,8 @@ StartsNumber (c ∷ cs) = is_ascii_digit c ≡ true
 abbrev pub StartsOther : List ℕ → Type 0
 StartsOther [] = Unit {0}
 StartsOther (c ∷ cs) = (begins_word c ≡ false) × (is_ascii_digit c ≡ false)
+
+-- the first character is not ASCII
+abbrev pub StartsFar : List ℕ → Type 0
+StartsFar [] = ⊥
+StartsFar (c ∷ cs) = 128 ≤ c

@@ -2,12 +2,12 @@
 
 ghost use Rattle.std.specs.Prelude.{◌≡◌, ℕ, ◌≤◌, [], ◌∷◌};
 ghost use Rattle.std.specs.Str.{chars};
-ghost use Rattle.ftl_tokens.specs.Kinds.{begins_word, kind_of_mark};
+ghost use Rattle.ftl_tokens.specs.Kinds.{kind_of_mark};
 ghost use Rattle.ftl_tokens.specs.Scan.{token_if};
-ghost use Rattle.ftl_tokens.specs.Piece.{IsPieceOf, IsFrontPiece, IsTokenPiece, IsNumberPiece, StartsWord, StartsNumber, StartsOther};
+ghost use Rattle.ftl_tokens.specs.Piece.{IsPieceOf, IsFrontPiece, IsTokenPiece, IsNumberPiece, StartsWord, StartsNumber, StartsOther, StartsFar};
 
 use crate::kind::Kind;
-use crate::run::{Run, is_white_space, run_length};
+use crate::run::{Run, byte_begins_word, byte_goes_on, run_length};
 use crate::word::{long_mark, short_mark, word_kind};
 use unicode_ident::is_xid_start;
 
@@ -24,18 +24,7 @@ pub enum Piece {
     Nothing,
 }
 
-/// Whether a word begins so. Only characters above ASCII are looked up.
-#[inline]
-fn begins_word(c: char) -> bool
-    ensures { result ≡ begins_word c }
-{
-    if c.is_ascii() {
-        c.is_ascii_alphabetic() || c == '_'
-    } else {
-        is_xid_start(c)
-    }
-}
-
+#[inline(always)]
 fn word_piece(text: &str) -> Piece
     requires { StartsWord (chars text.now) }
     ensures { (greatest : ℕ) → IsTokenPiece greatest (chars text.now) result }
@@ -56,6 +45,7 @@ fn number_token(number: u64, length: usize, greatest: u64) -> Piece
     }
 }
 
+#[inline(always)]
 fn number_piece(text: &str, greatest: u64) -> Piece
     requires number { StartsNumber (chars text.now) }
     requires limit { greatest ≤ 140737488355327 }
@@ -81,7 +71,7 @@ fn short_piece(c: char) -> Piece
     }
 }
 
-#[inline]
+#[inline(always)]
 fn mark_piece(text: &str) -> Piece
     requires { StartsOther (chars text.now) }
     ensures { (greatest : ℕ) → IsTokenPiece greatest (chars text.now) result }
@@ -99,21 +89,41 @@ fn mark_piece(text: &str) -> Piece
     }
 }
 
-/// The front of a text, whose numbers are at most `greatest`.
-pub fn piece_of(text: &str, greatest: u64) -> Piece
-    requires { greatest ≤ 140737488355327 }
-    ensures { IsFrontPiece greatest (chars text.now) result }
+/// The front of a text that begins beyond ASCII.
+#[inline(never)]
+fn far_piece(text: &str) -> Piece
+    requires { StartsFar (chars text.now) }
+    ensures { (greatest : ℕ) → IsTokenPiece greatest (chars text.now) result }
 {
     let Some(first) = text.chars().next() else {
         return Piece::Nothing;
     };
-    if is_white_space(first) {
-        Piece::Gap(run_length(Run::White, text))
-    } else if first == '#' {
-        Piece::Gap(run_length(Run::Comment, text))
-    } else if begins_word(first) {
+    if is_xid_start(first) {
         word_piece(text)
-    } else if first.is_ascii_digit() {
+    } else {
+        mark_piece(text)
+    }
+}
+
+/// The front of a text, whose numbers are at most `greatest`.
+#[inline(always)]
+pub fn piece_of(text: &str, greatest: u64) -> Piece
+    requires { greatest ≤ 140737488355327 }
+    ensures { IsFrontPiece greatest (chars text.now) result }
+{
+    if text.is_empty() {
+        return Piece::Nothing;
+    }
+    let first = text.as_bytes()[0];
+    if first >= 128 {
+        far_piece(text)
+    } else if byte_goes_on(Run::White, first) {
+        Piece::Gap(run_length(Run::White, text))
+    } else if first == b'#' {
+        Piece::Gap(run_length(Run::Comment, text))
+    } else if byte_begins_word(first) {
+        word_piece(text)
+    } else if byte_goes_on(Run::Digits, first) {
         number_piece(text, greatest)
     } else {
         mark_piece(text)

@@ -4,7 +4,7 @@ ghost use Rattle.std.specs.Prelude.{◌≡◌};
 ghost use Rattle.std.specs.List.{take_while};
 ghost use Rattle.std.specs.Str.{chars};
 ghost use Rattle.ftl_tokens.specs.Scan.{is_white_space, byte_length};
-ghost use Rattle.ftl_tokens.specs.Run.{goes_on, byte_goes_on};
+ghost use Rattle.ftl_tokens.specs.Run.{goes_on, byte_goes_on, byte_begins_word};
 
 use unicode_ident::is_xid_continue;
 
@@ -19,7 +19,7 @@ pub enum Run {
 
 /// White space.
 #[inline]
-pub fn is_white_space(c: char) -> bool
+fn is_white_space(c: char) -> bool
     ensures { result ≡ is_white_space c }
 {
     c == ' ' || c == '\t' || c == '\r' || c == '\n'
@@ -37,18 +37,18 @@ fn char_goes_on(run: Run, c: char) -> bool
     }
 }
 
-// For each byte 1 if it is white space, 2 if it continues a word, 4 if it is a digit, 8 if it stays in
-// a line, all together. Nothing is said of bytes that are not ASCII.
+// For each ASCII byte the sum of 1 if it is white space, 2 if it continues a word, 4 if it is a digit,
+// 8 if it stays in a line, and 16 if it begins a word. For all others 0.
 #[rattlefmt::skip]
 static CLASS: [u8; 256] = [
     8, 8, 8, 8, 8, 8, 8, 8, 8, 9, 1, 8, 8, 9, 8, 8,
     8, 8, 8, 8, 8, 8, 8, 8, 8, 8, 8, 8, 8, 8, 8, 8,
     9, 8, 8, 8, 8, 8, 8, 8, 8, 8, 8, 8, 8, 8, 8, 8,
     14, 14, 14, 14, 14, 14, 14, 14, 14, 14, 8, 8, 8, 8, 8, 8,
-    8, 10, 10, 10, 10, 10, 10, 10, 10, 10, 10, 10, 10, 10, 10, 10,
-    10, 10, 10, 10, 10, 10, 10, 10, 10, 10, 10, 8, 8, 8, 8, 10,
-    8, 10, 10, 10, 10, 10, 10, 10, 10, 10, 10, 10, 10, 10, 10, 10,
-    10, 10, 10, 10, 10, 10, 10, 10, 10, 10, 10, 8, 8, 8, 8, 8,
+    8, 26, 26, 26, 26, 26, 26, 26, 26, 26, 26, 26, 26, 26, 26, 26,
+    26, 26, 26, 26, 26, 26, 26, 26, 26, 26, 26, 8, 8, 8, 8, 26,
+    8, 26, 26, 26, 26, 26, 26, 26, 26, 26, 26, 26, 26, 26, 26, 26,
+    26, 26, 26, 26, 26, 26, 26, 26, 26, 26, 26, 8, 8, 8, 8, 8,
     0, 0, 0, 0, 0, 0, 0, 0, 0, 0, 0, 0, 0, 0, 0, 0,
     0, 0, 0, 0, 0, 0, 0, 0, 0, 0, 0, 0, 0, 0, 0, 0,
     0, 0, 0, 0, 0, 0, 0, 0, 0, 0, 0, 0, 0, 0, 0, 0,
@@ -61,7 +61,7 @@ static CLASS: [u8; 256] = [
 
 /// Whether the byte is an ASCII character that goes on.
 #[inline]
-fn byte_goes_on(run: Run, byte: u8) -> bool
+pub fn byte_goes_on(run: Run, byte: u8) -> bool
     ensures { result ≡ byte_goes_on run byte }
 {
     match run {
@@ -72,7 +72,16 @@ fn byte_goes_on(run: Run, byte: u8) -> bool
     }
 }
 
+/// Whether the byte is an ASCII character that begins a word.
+#[inline]
+pub fn byte_begins_word(byte: u8) -> bool
+    ensures { result ≡ byte_begins_word byte }
+{
+    CLASS[byte as usize] & 16 != 0
+}
+
 /// How many bytes the characters have that go on from the front of `text`.
+#[inline(never)]
 fn char_run_length(run: Run, text: &str) -> usize
     ensures { result ≡ byte_length (take_while (goes_on run) (chars text.now)) }
 {
@@ -86,7 +95,7 @@ fn char_run_length(run: Run, text: &str) -> usize
 
 /// How many bytes the characters have that go on from the front of `text`. They are decoded only from
 /// the first one on that is not ASCII.
-#[inline]
+#[inline(always)]
 pub fn run_length(run: Run, text: &str) -> usize
     ensures { result ≡ byte_length (take_while (goes_on run) (chars text.now)) }
 {
