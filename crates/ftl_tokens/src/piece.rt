@@ -34,7 +34,7 @@ fn word_piece(text: &str) -> Piece
 }
 
 /// The number of so many digits, which is cut at `greatest` and one.
-#[inline]
+#[inline(always)]
 fn number_token(number: u64, length: usize, greatest: u64) -> Piece
     ensures { IsNumberPiece greatest number length result }
 {

@@ -6,7 +6,7 @@ ghost use Rattle.ftl_tokens.specs.Kinds.{kind_of_word, kind_of_mark};
 use crate::kind::Kind;
 
 /// The kind of a word.
-#[inline]
+#[inline(always)]
 #[tactic(auto, unfolding(crate::specs::Kinds::kind_of_word))]
 pub fn word_kind(word: &str) -> Kind
     ensures { result ≡ kind_of_word word.now }
