@@ -8,7 +8,7 @@ use Rattle.ftl_tokens.specs.declared.kind.Kind.{Kind}
 use Rattle.ftl_tokens.specs.declared.kind.Kind.TheVariants.{Name, Number}
 use Rattle.ftl_tokens.specs.declared.kind.Kind.TheVariants as kinds
 use Rattle.ftl_tokens.specs.declared.kind.Token.{Token}
-use Rattle.ftl_tokens.specs.Tokenized.{Tokenized, symbol, symbol_of, symbols_of, text_of, name, number, kind_of_symbol}
+use Rattle.ftl_tokens.specs.Tokenized.{Tokenized, symbol, symbol_of, symbols_of, token_text, name, number, kind_of_symbol}
 use Rattle.ftl_reading.specs.Place.{place_of, byte_at}
 use Rattle.ftl_reading.specs.Reader.{Tokens, next_kind, rest_of}
 
@@ -43,7 +43,7 @@ pub next_kind-there : (s : Tokenized) (k : ℕ) (d : Token) → k < length s.tok
 unfolding next_kind
 next_kind-there s k d within =
     let t = get_or s.tokens k d in
-    ap next_kind (symbols-get s k t (slice_get-get_or s.tokens k d within)) ∙ ap Some (kind-symbol t.kind (text_of s.text t))
+    ap next_kind (symbols-get s k t (slice_get-get_or s.tokens k d within)) ∙ ap Some (kind-symbol t.kind (token_text s.text t))
 
 pub next_kind-past : (s : Tokenized) (k : ℕ) → length s.tokens ≤ k → next_kind (drop k (symbols_of s)) ≡ None
 unfolding next_kind
@@ -70,7 +70,7 @@ pub kind-there : (s : Tokenized) (k : ℕ) (t : Token) (kind : Kind) → slice_g
 unfolding next_kind
 kind-there s k t kind here some =
     let e : Some (kind_of_symbol (symbol_of s.text t)) ≡ Some kind = sym (ap next_kind (symbols-get s k t here)) ∙ some in
-    cc (kind-symbol t.kind (text_of s.text t))
+    cc (kind-symbol t.kind (token_text s.text t))
 
 token-there_by : (s : Tokenized) (k : ℕ) (kind : Kind) (o : Option Token) → slice_get s.tokens k ≡ o
     → next_kind (drop k (symbols_of s)) ≡ Some kind → IsSomeAnd o (λ t. t.kind ≡ kind)

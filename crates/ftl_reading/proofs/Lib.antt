@@ -19,3 +19,4 @@ pub mod InputLemmas
 pub mod StepLemmas
 pub mod ShallowLemmas
 pub mod TurnLemmas
+pub mod NarrowLemmas

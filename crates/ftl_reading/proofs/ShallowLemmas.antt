@@ -5,7 +5,7 @@ use Rattle.std.proofs.lemmas.List.{map_push}
 use Rattle.std.proofs.lemmas.List.Sums.{sum_by-append}
 use Rattle.ftl_tokens.specs.declared.kind.Kind.{Kind}
 use Rattle.ftl_tokens.specs.declared.kind.Token.{Token}
-use Rattle.ftl_tokens.specs.Tokenized.{Tokenized, Symbol, symbol_of, symbols_of, text_of}
+use Rattle.ftl_tokens.specs.Tokenized.{Tokenized, Symbol, symbol_of, symbols_of, token_text}
 use Rattle.ftl_reading.specs.Reader.{Tokens, same_kind}
 use Rattle.ftl_reading.specs.Depth.{Brackets, brackets_of, is_among, count_of, OpensAtMost, IsShallow, IsTooDeepAt}
 use Rattle.ftl_reading.proofs.InputLemmas.{kind-symbol}
@@ -46,7 +46,7 @@ count_of-more : (kinds : List Kind) (s : Tokenized) (k : ℕ) (d : Token) → k 
 count_of-more kinds s k d within =
     let t = get_or s.tokens k d in
     ap (λ kind. if list_any (same_kind kind) kinds then count_of kinds (said s k) + 1 else count_of kinds (said s k))
-    (sym (kind-symbol t.kind (text_of s.text t)))
+    (sym (kind-symbol t.kind (token_text s.text t)))
     ∙ sym (count_of-push kinds (said s k) (symbol_of s.text t))
     ∙ ap (count_of kinds) (sym (said-more s k d within))
 

@@ -1,9 +1,10 @@
 -- What the readers of one token give, by the kind of the next token.
 use Rattle.std.proofs.Common.{◌≡◌, ◌≢◌, ℕ, zero, suc, true, false, List, [], ◌∷◌, Some, None, Ok, Err, refl, sym, ap, ◌∙◌}
+use Rattle.std.specs.Str.{bytes_eq}
 use Rattle.ftl_tokens.specs.declared.kind.Kind.{Kind}
 use Rattle.ftl_tokens.specs.declared.kind.Kind.TheVariants as kinds
 use Rattle.ftl_tokens.specs.Tokenized.{name, number, fixed}
-use Rattle.ftl_reading.specs.Reader.{Tokens, next_kind, rest_of, same_kind, is_at, IsFixed, expect, take_name, take_number, take_positive, at_end}
+use Rattle.ftl_reading.specs.Reader.{Tokens, next_kind, rest_of, same_kind, is_at, IsFixed, expect, take_name, is_name, take_number, take_positive, at_end}
 
 -- at a name
 pub take_name-name : (ts : Tokens) (text : List ℕ) → ts ≡ name text ∷ rest_of ts → take_name ts ≡ Ok (text, rest_of ts)
@@ -17,6 +18,18 @@ take_name-other [] other = refl
 take_name-other (name text ∷ ts) other = absurd (other refl)
 take_name-other (number value ∷ ts) other = refl
 take_name-other (fixed kind ∷ ts) other = refl
+
+pub is_name-name : (ts : Tokens) (text found : List ℕ) → ts ≡ name found ∷ rest_of ts
+    → is_name text ts ≡ bytes_eq found text
+unfolding is_name
+is_name-name ts text found e = ap (is_name text) e
+
+pub is_name-other : (ts : Tokens) (text : List ℕ) → next_kind ts ≢ Some kinds.Name → is_name text ts ≡ false
+unfolding is_name next_kind
+is_name-other [] text other = refl
+is_name-other (name found ∷ ts) text other = absurd (other refl)
+is_name-other (number value ∷ ts) text other = refl
+is_name-other (fixed kind ∷ ts) text other = refl
 
 -- at a number
 pub take_number-number : (ts : Tokens) (value : ℕ) → ts ≡ number value ∷ rest_of ts → take_number ts ≡ Ok (value, rest_of ts)
@@ -102,4 +115,4 @@ pub expect-other : (kind : Kind) (ts : Tokens) → is_at kind ts ≡ false → e
 unfolding expect
 expect-other kind ts other = rw other refl
 
-pub ruleset steps = (take_name-name, take_name-other, take_number-number, take_number-other, take_positive-some, take_positive-zero, take_positive-other, at_end-none, at_end-some, is_at-some, is_at-none, expect-there, expect-other)
+pub ruleset steps = (take_name-name, take_name-other, is_name-name, is_name-other, take_number-number, take_number-other, take_positive-some, take_positive-zero, take_positive-other, at_end-none, at_end-some, is_at-some, is_at-none, expect-there, expect-other)

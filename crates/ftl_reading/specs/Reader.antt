@@ -1,5 +1,6 @@
 -- Readers of token lists: what they take from the front, and where they refuse.
-use Rattle.std.specs.Prelude.{◌≡◌, ◌≢◌, ℕ, zero, suc, Bool, false, List, [], ◌∷◌, ◌++◌, length, Option, Some, None, Result, Ok, Err, if◌then◌else◌}
+use Rattle.std.specs.Prelude.{◌≡◌, ◌≢◌, ◌≤◌, ◌⊎◌, ℕ, zero, suc, Bool, false, List, [], ◌∷◌, ◌++◌, length, Option, Some, None, Result, Ok, Err, if◌then◌else◌}
+use Rattle.std.specs.Str.{bytes_eq}
 use denote.Enum.Bare.{sameb}
 use Rattle.ftl_tokens.specs.contracts.kind.Kind.{the_type}
 use Rattle.ftl_tokens.specs.declared.kind.Kind.{Kind}
@@ -92,6 +93,11 @@ unfoldable pub take_name : Reader (List ℕ)
 take_name (name text ∷ ts) = Ok (text, ts)
 take_name ts = Err ts
 
+-- whether the next token is a name of this text
+unfoldable pub is_name : List ℕ → Tokens → Bool
+is_name text (name found ∷ ts) = bytes_eq found text
+is_name text _ = false
+
 -- takes a number
 unfoldable pub take_number : Reader ℕ
 take_number (number value ∷ ts) = Ok (value, ts)
@@ -106,6 +112,16 @@ take_positive ts = Err ts
 unfoldable pub at_end : Reader (Unit {0})
 at_end [] = Ok (tt, [])
 at_end (t ∷ ts) = Err (t ∷ ts)
+
+-- no token or the next one was taken
+abbrev pub IsStep : Tokens → Tokens → Type 0
+IsStep before after = (after ≡ before) ⊎ (after ≡ rest_of before)
+
+-- no number of these tokens is above the greatest
+abbrev pub AreAtMost : ℕ → Tokens → Type 0
+AreAtMost greatest [] = Unit {0}
+AreAtMost greatest (number value ∷ ts) = (value ≤ greatest) × AreAtMost greatest ts
+AreAtMost greatest (_ ∷ ts) = AreAtMost greatest ts
 
 -- ---- one after another, as long as they come
 

@@ -6,12 +6,12 @@ ghost use Rattle.ftl_tokens.specs.Tokenized.{symbols_of};
 ghost use Rattle.ftl_reading.specs.Reader.{same_kind};
 ghost use Rattle.ftl_reading.specs.Depth.{brackets_of, IsShallow, IsTooDeepAt};
 
-use ftl_tokens::{Kind, Scanned};
+use ftl_tokens::{Kind, Scanned, TokenizedText};
 
 /// The start of the first token at which more than `limit` brackets are open, where `opening` are
 /// the marks that open one and `closing` those that close one.
-pub fn first_too_deep(
-    scanned: &Scanned,
+pub fn first_too_deep_in(
+    scanned: &TokenizedText,
     opening: &[Kind],
     closing: &[Kind],
     limit: usize,
@@ -29,6 +29,19 @@ pub fn first_too_deep(
         }
     }
     None
+}
+
+/// `first_too_deep_in` of a text with narrow numbers.
+pub fn first_too_deep(
+    scanned: &Scanned,
+    opening: &[Kind],
+    closing: &[Kind],
+    limit: usize,
+) -> Option<u32>
+    ensures { MatchOption result (IsShallow (brackets_of opening.now closing.now) limit (symbols_of scanned.now))
+        (λ at. IsTooDeepAt (brackets_of opening.now closing.now) limit scanned.now at) }
+{
+    first_too_deep_in(scanned.tokenized(), opening, closing, limit)
 }
 
 fn counted(count: usize, kinds: &[Kind], kind: Kind) -> usize

@@ -1,33 +1,31 @@
 //! The tokens that are left to read.
 
-ghost use Rattle.std.specs.Prelude.{◌≡◌, ◌∷◌, ◌-◌, length};
-ghost use Rattle.ftl_tokens.specs.Tokenized.{name, number, symbols_of};
+ghost use Rattle.std.specs.Prelude.{◌≡◌, ◌≤◌, length, if◌then◌else◌, IfOk, MatchResult};
+ghost use Rattle.ftl_tokens.specs.Tokenized.{symbols_of};
 ghost use Rattle.ftl_reading.specs.Reader as spec;
 ghost use Rattle.ftl_reading.specs.Reader.{Reads, IsFixed};
-ghost use Rattle.ftl_reading.specs.Place.{place_of};
 
 use crate::fault::ReadFault;
+use crate::wide::WideInput;
 use ftl_tokens::{Kind, Name, Scanned};
 use std::alloc::Global;
 use std::marker::Model;
 
-/// The tokens of a text from some place on. Contracts see what they say, as a list of symbols.
+/// The tokens of a text from some place on, whose numbers fit 31 bits. Contracts see what they say,
+/// as a list of symbols.
 #[derive(Drop)]
 pub struct Input<'a> {
-    scanned: &'a Scanned,
-    at: usize,
+    wide: WideInput<'a>,
 }
 
 impl<'a> Model for Input<'a> {
-    ghost use Rattle.std.specs.Prelude.{◌≤◌, drop, length};
-    ghost use Rattle.ftl_tokens.specs.Tokenized.{symbols_of};
-    ghost use Rattle.ftl_reading.specs.Reader.{Tokens};
+    ghost use Rattle.ftl_reading.specs.Reader.{Tokens, AreAtMost};
 
     ghost Value = { Tokens };
 
-    ghost view = { λ i. drop i.at (symbols_of i.scanned.now) };
+    ghost view = { λ i. i.wide };
 
-    ghost invariant = { λ i. i.at ≤ length i.scanned.now.tokens };
+    ghost invariant = { λ i. AreAtMost 2147483647 i.wide };
 }
 
 impl<'a> Input<'a> {
@@ -35,151 +33,93 @@ impl<'a> Input<'a> {
     pub fn new(scanned: &'a Scanned) -> Input<'a>
         ensures { result ≡ symbols_of scanned.now }
     {
-        Input { scanned, at: 0 }
+        Input {
+            wide: WideInput::over(scanned.tokenized()),
+        }
     }
 
     /// The kind of the next token, if there is one.
     pub fn peek(&self) -> Option<Kind>
         ensures { result ≡ spec.next_kind self.now }
     {
-        let list = self.scanned.list();
-        if self.at < list.len() {
-            Some(list[self.at].kind)
-        } else {
-            None
-        }
+        self.wide.peek()
     }
 
     /// How many tokens are left.
     pub fn left(&self) -> usize
         ensures { result ≡ length self.now }
     {
-        self.scanned.list().len() - self.at
+        self.wide.left()
     }
 
     /// Takes the next token, if there is one.
     pub fn skip(&mut self)
         ensures { self.new ≡ spec.rest_of self.old }
     {
-        if self.at < self.scanned.list().len() {
-            self.at += 1;
-        }
+        self.wide.skip();
     }
 
     /// Whether the next token is the reserved word or the mark of this kind.
-    #[tactic(auto, using(crate::proofs::StepLemmas::steps), unfolding(crate::specs::Reader::same_kind))]
     pub fn is_at(&self, kind: Kind) -> bool
         requires { IsFixed kind }
         ensures { result ≡ spec.is_at kind self.now }
     {
-        match self.peek() {
-            Some(found) => found == kind,
-            None => false,
-        }
+        self.wide.is_at(kind)
     }
 
     /// Takes a reserved word or a mark.
-    #[tactic(auto, using(crate::proofs::StepLemmas::steps))]
     pub fn expect(&mut self, kind: Kind) -> Result<(), ReadFault>
         requires { IsFixed kind }
         ensures { Reads (spec.expect kind self.old) result self.new }
     {
-        if !self.is_at(kind) {
-            return Err(ReadFault::Refused);
-        }
-        self.skip();
-        Ok(())
+        self.wide.expect(kind)
     }
 
     /// Takes a name.
-    #[tactic(auto, using(crate::proofs::StepLemmas::steps))]
     pub fn name(&mut self, alloc: Global) -> Result<Name, ReadFault>
         ensures { Reads (spec.take_name self.old) result self.new }
     {
-        match self.peek() {
-            Some(Kind::Name) => {
-                let name = Name::new(alloc, self.text())?;
-                self.skip();
-                Ok(name)
-            }
-            _ => Err(ReadFault::Refused),
-        }
+        self.wide.name(alloc)
+    }
+
+    /// Takes a name, and lends its text. No memory is taken, so there is no other fault.
+    pub fn name_text(&mut self) -> Result<&'a str, ReadFault>
+        ensures { MatchResult result (λ text. spec.take_name self.old ≡ Ok (text.now, self.new))
+            (λ _. spec.take_name self.old ≡ Err self.new) }
+    {
+        self.wide.name_text()
+    }
+
+    /// Takes a name of this text, if one comes next, and tells whether it did.
+    pub fn take_name_of(&mut self, text: &str) -> bool
+        ensures taken { result ≡ spec.is_name text.now self.old }
+        ensures left { self.new ≡ (if result then spec.rest_of self.old else self.old) }
+    {
+        self.wide.take_name_of(text)
     }
 
     /// Takes a number.
-    #[tactic(auto, using(crate::proofs::StepLemmas::steps))]
     pub fn number(&mut self) -> Result<u32, ReadFault>
-        ensures { Reads (spec.take_number self.old) result self.new }
+        ensures reads { Reads (spec.take_number self.old) result self.new }
+        ensures small { IfOk result (λ n. n ≤ 2147483647) }
     {
-        match self.peek() {
-            Some(Kind::Number) => {
-                let value = self.value();
-                self.skip();
-                Ok(value)
-            }
-            _ => Err(ReadFault::Refused),
-        }
+        let number = self.wide.number()?;
+        Ok(number as u32)
     }
 
     /// Takes a number that isn't 0.
-    #[tactic(auto, using(crate::proofs::StepLemmas::steps))]
     pub fn positive(&mut self) -> Result<u32, ReadFault>
-        ensures { Reads (spec.take_positive self.old) result self.new }
+        ensures reads { Reads (spec.take_positive self.old) result self.new }
+        ensures small { IfOk result (λ n. n ≤ 2147483647) }
     {
-        match self.peek() {
-            Some(Kind::Number) => {
-                let value = self.value();
-                if value == 0 {
-                    return Err(ReadFault::Refused);
-                }
-                self.skip();
-                Ok(value)
-            }
-            _ => Err(ReadFault::Refused),
-        }
+        let number = self.wide.positive()?;
+        Ok(number as u32)
     }
 
     /// All tokens were taken.
-    #[tactic(auto, using(crate::proofs::StepLemmas::steps))]
     pub fn end(&self) -> Result<(), ReadFault>
         ensures { Reads (spec.at_end self.now) result self.now }
     {
-        match self.peek() {
-            Some(_) => Err(ReadFault::Refused),
-            None => Ok(()),
-        }
-    }
-
-    /// The characters of the next token, which is a name.
-    fn text(&self) -> &str
-        requires { spec.next_kind self.now ≡ Some Kind.Name }
-        ensures { self.now ≡ name result.now ∷ spec.rest_of self.now }
-    {
-        self.scanned.slice(self.at)
-    }
-
-    /// The value of the next token, which is a number.
-    fn value(&self) -> u32
-        requires { spec.next_kind self.now ≡ Some Kind.Number }
-        ensures { self.now ≡ number result ∷ spec.rest_of self.now }
-    {
-        self.scanned.number(self.at)
-    }
-}
-
-/// The byte at which the last `left` tokens of the text begin. Where there are none, it is the end of
-/// the last token, or 0 where the text has no token.
-pub fn place(scanned: &Scanned, left: usize) -> u32
-    ensures { result ≡ place_of scanned.now.tokens (length scanned.now.tokens - left) }
-{
-    let list = scanned.list();
-    let count = list.len();
-    let read = count.saturating_sub(left);
-    if read < count {
-        list[read].start
-    } else if count > 0 {
-        list[count - 1].end
-    } else {
-        0
+        self.wide.end()
     }
 }

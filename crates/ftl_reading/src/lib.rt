@@ -5,14 +5,18 @@
 #![tactic(auto)]
 
 mod brackets;
+mod bytes;
 mod chain_item;
 mod fault;
 mod input;
+mod wide;
 
-pub use brackets::first_too_deep;
+pub use brackets::{first_too_deep, first_too_deep_in};
+pub use bytes::{place, place_in};
 pub use chain_item::ChainItem;
 pub use fault::ReadFault;
-pub use input::{Input, place};
+pub use input::Input;
+pub use wide::WideInput;
 
 #[cfg(test)]
 mod tests;

@@ -1,5 +1,5 @@
-use crate::{Input, ReadFault, first_too_deep, place};
-use ftl_tokens::{Kind, Scanned, TokenFault, tokens};
+use crate::{Input, ReadFault, WideInput, first_too_deep, first_too_deep_in, place, place_in};
+use ftl_tokens::{Kind, Scanned, TokenFault, document_tokens, tokens};
 use std::process::Abort;
 use std::test::Fail;
 
@@ -35,6 +35,30 @@ fn a_refusal_takes_no_token(rt: HostRuntime) -> Result<(), Fail> {
     assert_eq!(rt; input.expect(Kind::Semicolon), Err(ReadFault::Refused));
     input.skip();
     assert_eq!(rt; input.left(), 0);
+    Ok(())
+}
+
+#[test]
+fn documents_have_wide_numbers(rt: HostRuntime) -> Result<(), Fail> {
+    let text = String::from_str(rt.alloc(), "Sheet kid 140737488355327 00 ( é")?;
+    let text = document_tokens(rt.alloc(), text, 140737488355327)?;
+    assert_eq!(rt; first_too_deep_in(text.tokenized(), &OPENING, &CLOSING, 0), Some(29));
+    assert_eq!(rt; place_in(text.tokenized(), 0), 33);
+    let mut input = WideInput::new(&text);
+    assert!(rt; !input.take_name_of("Shee"));
+    assert!(rt; !input.take_name_of("Sheets"));
+    assert!(rt; input.take_name_of("Sheet"));
+    assert!(rt; !input.take_name_of("Sheet"));
+    assert_eq!(rt; input.name_text(), Ok("kid"));
+    assert_eq!(rt; input.name_text(), Err(ReadFault::Refused));
+    assert!(rt; !input.take_name_of("140737488355327"));
+    assert_eq!(rt; input.number(), Ok(140_737_488_355_327));
+    assert_eq!(rt; input.positive(), Err(ReadFault::Refused));
+    assert_eq!(rt; input.number(), Ok(0));
+    assert_eq!(rt; input.expect(Kind::LeftParen), Ok(()));
+    assert_eq!(rt; input.name_text(), Ok("é"));
+    assert_eq!(rt; input.end(), Ok(()));
+    assert!(rt; !input.take_name_of(""));
     Ok(())
 }
 

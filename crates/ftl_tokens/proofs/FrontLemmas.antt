@@ -9,24 +9,24 @@ use Rattle.unicode_ident.proofs.IdentLemmas.{is_xid_start-is_xid_continue, is_xi
 use Rattle.ftl_tokens.specs.declared.kind.Kind.{Kind}
 use Rattle.ftl_tokens.specs.declared.kind.Kind.TheVariants.{Number}
 use Rattle.ftl_tokens.specs.Kinds.{begins_word, is_word, is_number, kind_of, kind_of_word, kind_of_mark}
-use Rattle.ftl_tokens.specs.Scan.{greatest, longest_token, token_front, token_if, token}
+use Rattle.ftl_tokens.specs.Scan.{last_passing, longest_token, token_front, token_if, token}
 use Rattle.ftl_tokens.specs.Piece.{StartsWord, StartsNumber}
 use Rattle.ftl_tokens.proofs.KindLemmas.{digit_begins_no_word, word_begins_no_number, begins_text-word, begins_text-digit, kind_of_mark-text, kind_of_mark-long}
 
--- where nothing above m passes the test, the greatest is at most m
-greatest-from : (test : ℕ → Bool) (n m : ℕ) → m ≤ n → ((k : ℕ) → m < k → k ≤ n → test k ≡ false)
-    → greatest test n ≡ greatest test m
-unfolding greatest
-greatest-from test zero m within above = let same : 0 ≡ m = omega arith in ap (greatest test) same
-greatest-from test (suc n) m within above =
+-- where nothing above m passes the test, the last is at most m
+last_passing-from : (test : ℕ → Bool) (n m : ℕ) → m ≤ n → ((k : ℕ) → m < k → k ≤ n → test k ≡ false)
+    → last_passing test n ≡ last_passing test m
+unfolding last_passing
+last_passing-from test zero m within above = let same : 0 ≡ m = omega arith in ap (last_passing test) same
+last_passing-from test (suc n) m within above =
     ⊎_elim
-    (λ below. cond-false (test (suc n)) (suc n) (greatest test n) (above (suc n) below (omega arith)) ∙ greatest-from test n m (omega arith) (λ k low high. above k low (omega arith)))
-    (λ at. let same : suc n ≡ m = omega arith in ap (greatest test) same)
+    (λ below. cond-false (test (suc n)) (suc n) (last_passing test n) (above (suc n) below (omega arith)) ∙ last_passing-from test n m (omega arith) (λ k low high. above k low (omega arith)))
+    (λ at. let same : suc n ≡ m = omega arith in ap (last_passing test) same)
     (cases_lt m (suc n))
 
-greatest-suc : (test : ℕ → Bool) (m : ℕ) → test (suc m) ≡ true → greatest test (suc m) ≡ suc m
-unfolding greatest
-greatest-suc test m passes = cond-true _ _ _ passes
+last_passing-suc : (test : ℕ → Bool) (m : ℕ) → test (suc m) ≡ true → last_passing test (suc m) ≡ suc m
+unfolding last_passing
+last_passing-suc test m passes = cond-true _ _ _ passes
 
 -- within a run each element passes, and past it one does not
 pub list_all-run : (p : ℕ → Bool) (n : ℕ) (xs : List ℕ) → n ≤ prefix_len p xs → list_all p (take n xs) ≡ true
@@ -90,8 +90,8 @@ unfolding longest_token
 longest_token-word c cs word =
     let run = prefix_len is_xid_continue cs in
     let is_run = kind_of-word (c ∷ take run cs) (and_from _ _ word (list_all-run is_xid_continue run cs (omega arith))) in
-    greatest-from (is_token (c ∷ cs)) (length (c ∷ cs)) (suc run) (omega (arith, prefix_len-le is_xid_continue cs)) (past_word c cs word)
-    ∙ greatest-suc (is_token (c ∷ cs)) run (ap is_some is_run)
+    last_passing-from (is_token (c ∷ cs)) (length (c ∷ cs)) (suc run) (omega (arith, prefix_len-le is_xid_continue cs)) (past_word c cs word)
+    ∙ last_passing-suc (is_token (c ∷ cs)) run (ap is_some is_run)
 
 -- what begins a word also continues one
 begins_word-continues : (c : ℕ) → begins_word c ≡ true → is_xid_continue c ≡ true
@@ -135,8 +135,8 @@ longest_token-number : (c : ℕ) (cs : List ℕ) → is_ascii_digit c ≡ true
 unfolding longest_token
 longest_token-number c cs digit =
     let run = prefix_len is_ascii_digit cs in
-    greatest-from (is_token (c ∷ cs)) (length (c ∷ cs)) (suc run) (omega (arith, prefix_len-le is_ascii_digit cs)) (past_number c cs digit)
-    ∙ greatest-suc (is_token (c ∷ cs)) run (ap is_some (number_run c cs digit))
+    last_passing-from (is_token (c ∷ cs)) (length (c ∷ cs)) (suc run) (omega (arith, prefix_len-le is_ascii_digit cs)) (past_number c cs digit)
+    ∙ last_passing-suc (is_token (c ∷ cs)) run (ap is_some (number_run c cs digit))
 
 pub number_front : (cs : List ℕ) → StartsNumber cs
     → token_front cs (longest_token cs) ≡ token Number (prefix_len is_ascii_digit cs)
@@ -177,9 +177,9 @@ kind_of-nil = refl
 
 -- a mark of one character, where no longer token begins there
 front_of_one : (c : ℕ) (cs : List ℕ) → begins_word c ≡ false → is_ascii_digit c ≡ false
-    → longest_token (c ∷ cs) ≡ greatest (is_token (c ∷ cs)) 1
+    → longest_token (c ∷ cs) ≡ last_passing (is_token (c ∷ cs)) 1
     → token_front (c ∷ cs) (longest_token (c ∷ cs)) ≡ token_if (kind_of_mark (c ∷ [])) 1
-unfolding greatest
+unfolding last_passing
 front_of_one c cs no_word no_digit one =
     let kind = other_kind c [] no_word no_digit in
     ⊎_elim
@@ -203,16 +203,16 @@ unfolding longest_token
 mark_front-long c d cs kind no_word no_digit mark =
     let all = c ∷ d ∷ cs in
     let found : kind_of (c ∷ d ∷ []) ≡ Some kind = other_kind c (d ∷ []) no_word no_digit ∙ mark in
-    let two = greatest-from (is_token all) (length all) 2 (omega arith) (past_mark c (d ∷ cs) no_word no_digit) ∙ greatest-suc (is_token all) 1 (ap is_some found) in
+    let two = last_passing-from (is_token all) (length all) 2 (omega arith) (past_mark c (d ∷ cs) no_word no_digit) ∙ last_passing-suc (is_token all) 1 (ap is_some found) in
     ap (token_front all) two ∙ ap (λ k. token_if k 2) found
 
 -- no mark of two characters
 pub mark_front-short : (c d : ℕ) (cs : List ℕ) → begins_word c ≡ false → is_ascii_digit c ≡ false
     → kind_of_mark (c ∷ d ∷ []) ≡ None
     → token_front (c ∷ d ∷ cs) (longest_token (c ∷ d ∷ cs)) ≡ token_if (kind_of_mark (c ∷ [])) 1
-unfolding longest_token greatest
+unfolding longest_token last_passing
 mark_front-short c d cs no_word no_digit none =
     let all = c ∷ d ∷ cs in
-    let two = greatest-from (is_token all) (length all) 2 (omega arith) (past_mark c (d ∷ cs) no_word no_digit) in
-    let one = cond-false (is_token all 2) 2 (greatest (is_token all) 1) (ap is_some (other_kind c (d ∷ []) no_word no_digit ∙ none)) in
+    let two = last_passing-from (is_token all) (length all) 2 (omega arith) (past_mark c (d ∷ cs) no_word no_digit) in
+    let one = cond-false (is_token all 2) 2 (last_passing (is_token all) 1) (ap is_some (other_kind c (d ∷ []) no_word no_digit ∙ none)) in
     front_of_one c (d ∷ cs) no_word no_digit (two ∙ one)

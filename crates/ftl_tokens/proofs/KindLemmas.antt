@@ -1,13 +1,14 @@
 -- What begins a word, a number and a mark, and that these are apart.
 use Rattle.std.proofs.Common.{◌≡◌, ℕ, ◌<◌, Bool, true, false, not, ◌&&◌, ◌||◌, eqb, List, [], ◌∷◌, length, get_or, None, sym, refl, ap, ◌∙◌, ⊎_elim, arith}
-use Rattle.std.specs.Prelude.{nat_le, encode_utf8_all}
-use Rattle.std.specs.Char.{is_ascii_digit, is_ascii_alphabetic}
+use Rattle.std.specs.Prelude.{nat_le, nat_lt, encode_utf8_all}
+use Rattle.std.specs.Char.{is_ascii_digit, is_ascii_alphabetic, is_ascii_alphanumeric}
 use Rattle.std.specs.Str.{bytes_eq}
-use Rattle.std.proofs.lemmas.Bool.{and_parts, or_left, not-true, cases_lt, cases_Bool, le-leb, leb-true, false_from_ne_true, false≢true, cond-false, cond-true}
+use Rattle.std.proofs.lemmas.Bool.{and_parts, and_left, or_left, not-true, cases_lt, cases_Bool, le-leb, le-ltb, leb-true, false_from_ne_true, false≢true, cond-false, cond-true}
 use Rattle.std.proofs.lemmas.Bool.Decides.{nat_tests}
 use Rattle.std.proofs.lemmas.Slice.Eq.{bytes_eq-Decides}
 use Rattle.std.proofs.lemmas.Str.{encodes_same}
-use Rattle.unicode_ident.proofs.IdentLemmas.{is_xid_start-ascii}
+use Rattle.unicode_ident.proofs.IdentLemmas.{is_xid_start-ascii, is_xid_continue-ascii}
+use Rattle.unicode_ident.specs.Ident.{is_xid_continue}
 use Rattle.ftl_tokens.specs.declared.kind.Kind.{Kind}
 use Rattle.ftl_tokens.specs.declared.kind.Kind.TheVariants.{Name}
 use Rattle.std.specs.Prelude.{unwrap_or}
@@ -18,8 +19,36 @@ use Rattle.ftl_tokens.specs.Kinds.{reserved_words, marks, look_up, begins_word, 
 abbrev pub begins_text : ℕ → Bool
 begins_text c = nat_le 128 c || (is_ascii_alphabetic c || (eqb c 95 || is_ascii_digit c))
 
+pub and_second : (a b : Bool) → a ≡ true → (a && b) ≡ false → b ≡ false
+and_second true b holds fails = fails
+and_second false b holds fails = absurd (false≢true holds)
+
+pub or_true : (a b : Bool) → a ≡ true → (a || b) ≡ true
+or_true true b is = refl
+or_true false b is = absurd (false≢true is)
+
+pub or_false : (a b : Bool) → a ≡ false → (a || b) ≡ b
+or_false true b is = absurd (false≢true (sym is))
+or_false false b is = refl
+
 pub begins_word-ascii : (c : ℕ) → c < 128 → begins_word c ≡ (is_ascii_alphabetic c || eqb c 95)
 begins_word-ascii c ascii = ap (λ b. b || eqb c 95) (is_xid_start-ascii c ascii)
+
+-- among ASCII the letters, digits and `_` continue a word
+pub continues-ascii : (c : ℕ) → (nat_lt c 128 && (is_ascii_alphanumeric c || eqb c 95)) ≡ (nat_lt c 128 && is_xid_continue c)
+continues-ascii c =
+    ⊎_elim
+    (λ ascii. ap (λ b. nat_lt c 128 && b) (sym (is_xid_continue-ascii c ascii)))
+    (λ beyond. and_left _ _ (le-ltb c 128 beyond) ∙ sym (and_left _ _ (le-ltb c 128 beyond)))
+    (cases_lt c 128)
+
+-- and the letters and `_` begin one
+pub begins-ascii : (c : ℕ) → (nat_lt c 128 && (is_ascii_alphabetic c || eqb c 95)) ≡ (nat_lt c 128 && begins_word c)
+begins-ascii c =
+    ⊎_elim
+    (λ ascii. ap (λ b. nat_lt c 128 && b) (sym (begins_word-ascii c ascii)))
+    (λ beyond. and_left _ _ (le-ltb c 128 beyond) ∙ sym (and_left _ _ (le-ltb c 128 beyond)))
+    (cases_lt c 128)
 
 pub digit_begins_no_word : (c : ℕ) → is_ascii_digit c ≡ true → begins_word c ≡ false
 digit_begins_no_word c digit =

@@ -1,3 +1,4 @@
+pub mod FirstLemmas
 pub mod FrontLemmas
 pub mod KindLemmas
 pub mod NumberLemmas
@@ -5,5 +6,6 @@ pub mod PieceLemmas
 pub mod RunLemmas
 pub mod ScanLemmas
 pub mod ScansLemmas
+pub mod TableLemmas
 pub mod TextLemmas
 pub mod TokenLemmas

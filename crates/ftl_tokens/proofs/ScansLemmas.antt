@@ -11,44 +11,44 @@ use Rattle.ftl_tokens.specs.declared.kind.Kind.TheVariants.{Number}
 use Rattle.ftl_tokens.specs.declared.kind.Token.{Token}
 use Rattle.ftl_tokens.specs.declared.fault.TokenFault.TheVariants.{BadChar, NumberTooLarge}
 use Rattle.ftl_tokens.specs.Kinds.{kind_of}
-use Rattle.ftl_tokens.specs.Scan.{is_white_space, stays_in_line, byte_length, greatest, longest_token, Front, gap, token, nothing, token_if, front_of, is_too_large, followed_by, scan_front, scan_from, scan}
+use Rattle.ftl_tokens.specs.Scan.{is_white_space, stays_in_line, byte_length, last_passing, longest_token, Front, gap, token, nothing, token_if, front_of, is_too_large, followed_by, scan_front, scan_from, scan}
 use Rattle.ftl_tokens.specs.Scans.{IsLineEnd, IsGap, white_space, comment, IsLongestToken, BeginsNothing, Scans, at_end, past_gap, past_token, large_number, bad_char}
 use Rattle.ftl_tokens.specs.Piece.{Spans}
 use Rattle.ftl_tokens.proofs.FrontLemmas.{kind_of-nil, list_all-run, prefix_len-le, none-from_is_some}
 use Rattle.ftl_tokens.proofs.ScanLemmas.{scan_after}
 
--- the greatest that passes: it passes or is 0, is no more than n, and what is above it fails
-greatest-le : (test : ℕ → Bool) (n : ℕ) → greatest test n ≤ n
-unfolding greatest
-greatest-le test zero = omega arith
-greatest-le test (suc n) =
+-- the last that passes: it passes or is 0, is no more than n, and what is above it fails
+last_passing-le : (test : ℕ → Bool) (n : ℕ) → last_passing test n ≤ n
+unfolding last_passing
+last_passing-le test zero = omega arith
+last_passing-le test (suc n) =
     ⊎_elim
-    (λ passes. omega (arith, cond-true (test (suc n)) (suc n) (greatest test n) passes))
-    (λ fails. omega (arith, cond-false (test (suc n)) (suc n) (greatest test n) fails, greatest-le test n))
+    (λ passes. omega (arith, cond-true (test (suc n)) (suc n) (last_passing test n) passes))
+    (λ fails. omega (arith, cond-false (test (suc n)) (suc n) (last_passing test n) fails, last_passing-le test n))
     (cases_Bool (test (suc n)))
 
-greatest-above : (test : ℕ → Bool) (n k : ℕ) → greatest test n < k → k ≤ n → test k ≡ false
-unfolding greatest
-greatest-above test zero k above within = absurd (omega arith)
-greatest-above test (suc n) k above within =
+last_passing-above : (test : ℕ → Bool) (n k : ℕ) → last_passing test n < k → k ≤ n → test k ≡ false
+unfolding last_passing
+last_passing-above test zero k above within = absurd (omega arith)
+last_passing-above test (suc n) k above within =
     ⊎_elim
-    (λ passes. absurd (omega (arith, cond-true (test (suc n)) (suc n) (greatest test n) passes)))
+    (λ passes. absurd (omega (arith, cond-true (test (suc n)) (suc n) (last_passing test n) passes)))
     (λ fails.
     ⊎_elim
-    (λ below. greatest-above test n k (omega (arith, cond-false (test (suc n)) (suc n) (greatest test n) fails)) (omega arith))
+    (λ below. last_passing-above test n k (omega (arith, cond-false (test (suc n)) (suc n) (last_passing test n) fails)) (omega arith))
     (λ at. let same : k ≡ suc n = omega arith in ap test same ∙ fails)
     (cases_lt k (suc n)))
     (cases_Bool (test (suc n)))
 
-greatest-passes : (test : ℕ → Bool) (n : ℕ) → 0 < greatest test n → test (greatest test n) ≡ true
-unfolding greatest
-greatest-passes test zero some = absurd (omega arith)
-greatest-passes test (suc n) some =
+last_passing-passes : (test : ℕ → Bool) (n : ℕ) → 0 < last_passing test n → test (last_passing test n) ≡ true
+unfolding last_passing
+last_passing-passes test zero some = absurd (omega arith)
+last_passing-passes test (suc n) some =
     ⊎_elim
-    (λ passes. ap test (cond-true (test (suc n)) (suc n) (greatest test n) passes) ∙ passes)
+    (λ passes. ap test (cond-true (test (suc n)) (suc n) (last_passing test n) passes) ∙ passes)
     (λ fails.
-    let lower = cond-false (test (suc n)) (suc n) (greatest test n) fails in
-    ap test lower ∙ greatest-passes test n (omega (arith, lower)))
+    let lower = cond-false (test (suc n)) (suc n) (last_passing test n) fails in
+    ap test lower ∙ last_passing-passes test n (omega (arith, lower)))
     (cases_Bool (test (suc n)))
 
 -- a text that is longer than the longest token is none
@@ -57,15 +57,15 @@ unfolding longest_token
 past_longest cs text rest split past =
     let fits : length text ≤ length cs = omega (arith, ap length split, length-append text rest) in
     let front : take (length text) cs ≡ text = ap (take (length text)) split ∙ take_at text rest (length text) refl in
-    ap kind_of (sym front) ∙ none-from_is_some _ (greatest-above (λ n. is_some (kind_of (take n cs))) (length cs) (length text) past fits)
+    ap kind_of (sym front) ∙ none-from_is_some _ (last_passing-above (λ n. is_some (kind_of (take n cs))) (length cs) (length text) past fits)
 
 longest_token-is : (cs : List ℕ) → 0 < longest_token cs → is_some (kind_of (take (longest_token cs) cs)) ≡ true
 unfolding longest_token
-longest_token-is cs some = greatest-passes (λ n. is_some (kind_of (take n cs))) (length cs) some
+longest_token-is cs some = last_passing-passes (λ n. is_some (kind_of (take n cs))) (length cs) some
 
 longest_token-le : (cs : List ℕ) → longest_token cs ≤ length cs
 unfolding longest_token
-longest_token-le cs = greatest-le (λ n. is_some (kind_of (take n cs))) (length cs)
+longest_token-le cs = last_passing-le (λ n. is_some (kind_of (take n cs))) (length cs)
 
 -- what is said of the front of some characters
 abbrev FrontFacts : List ℕ → Front → Type 0
@@ -129,7 +129,10 @@ unfolding front_of
 front_facts [] = tt
 front_facts (c ∷ cs) =
     ⊎_elim
-    (λ white. subst (FrontFacts (c ∷ cs)) (sym (cond-true _ _ _ white)) (white_space white, omega arith, omega arith))
+    (λ white.
+    let more : prefix_len is_white_space (c ∷ cs) ≡ suc (prefix_len is_white_space cs) = omega (arith, cond-true (is_white_space c) (1 + prefix_len is_white_space cs) 0 white) in
+    subst (FrontFacts (c ∷ cs)) (sym (cond-true _ _ _ white ∙ ap gap more))
+    (white_space white (list_all-run is_white_space (prefix_len is_white_space cs) cs (omega arith)), omega arith, omega (arith, prefix_len-le is_white_space cs)))
     (λ no_white.
     ⊎_elim
     (λ hash.
@@ -145,49 +148,49 @@ front_facts (c ∷ cs) =
     (cases_Bool (is_white_space c))
 
 -- a kind with a limit is that of numbers
-large_is_number : (kind : Kind) (text : List ℕ) → is_too_large kind text ≡ true → kind ≡ Number
-large_is_number Number text large = refl
-large_is_number _ text large = absurd (false≢true large)
+large_is_number : (greatest : ℕ) (kind : Kind) (text : List ℕ) → is_too_large greatest kind text ≡ true → kind ≡ Number
+large_is_number greatest Number text large = refl
+large_is_number greatest _ text large = absurd (false≢true large)
 
 -- one step of the scan, and the relation for what is left
-scans_step : (at c : ℕ) (cs : List ℕ) (f : Front) → front_of (c ∷ cs) ≡ f → FrontFacts (c ∷ cs) f
-    → ((n : ℕ) → 0 < n → n ≤ length (c ∷ cs) → Scans (at + byte_length (take n (c ∷ cs))) (drop n (c ∷ cs)) (scan_from (at + byte_length (take n (c ∷ cs))) 0 (drop n (c ∷ cs)))) → Scans at (c ∷ cs) (scan_from at 0 (c ∷ cs))
+scans_step : (greatest at c : ℕ) (cs : List ℕ) (f : Front) → front_of (c ∷ cs) ≡ f → FrontFacts (c ∷ cs) f
+    → ((n : ℕ) → 0 < n → n ≤ length (c ∷ cs) → Scans greatest (at + byte_length (take n (c ∷ cs))) (drop n (c ∷ cs)) (scan_from greatest (at + byte_length (take n (c ∷ cs))) 0 (drop n (c ∷ cs)))) → Scans greatest at (c ∷ cs) (scan_from greatest at 0 (c ∷ cs))
 unfolding scan_from
-scans_step at c cs (gap n) front facts rest =
+scans_step greatest at c cs (gap n) front facts rest =
     let all = c ∷ cs in
     let spans : Spans all n (byte_length (take n all)) = record { some = facts.1; within = facts.2; bytes = refl } in
-    let step = ap (λ f. scan_front at all f (λ k. scan_from (at + len_utf8 c) (k - 1) cs)) front ∙ scan_after at c n (byte_length (take n all)) cs spans in
-    subst (Scans at all) (sym step) (subst (λ l. Scans at l (scan_from (at + byte_length (take n all)) 0 (drop n all))) (take-append-drop n all) (past_gap facts.0 (rest n facts.1 facts.2)))
-scans_step at c cs (token kind n) front facts rest =
+    let step = ap (λ f. scan_front greatest at all f (λ k. scan_from greatest (at + len_utf8 c) (k - 1) cs)) front ∙ scan_after greatest at c n (byte_length (take n all)) cs spans in
+    subst (Scans greatest at all) (sym step) (subst (λ l. Scans greatest at l (scan_from greatest (at + byte_length (take n all)) 0 (drop n all))) (take-append-drop n all) (past_gap facts.0 (rest n facts.1 facts.2)))
+scans_step greatest at c cs (token kind n) front facts rest =
     let all = c ∷ cs in
     let spans : Spans all n (byte_length (take n all)) = record { some = facts.1; within = facts.2; bytes = refl } in
-    let step = ap (λ f. scan_front at all f (λ k. scan_from (at + len_utf8 c) (k - 1) cs)) front in
+    let step = ap (λ f. scan_front greatest at all f (λ k. scan_from greatest (at + len_utf8 c) (k - 1) cs)) front in
     let this : List Token = record { kind = kind; start = at; end = at + byte_length (take n all) } ∷ [] in
     ⊎_elim
     (λ large.
-    let is_number = large_is_number kind (take n all) large in
-    let stop : scan_from at 0 all ≡ Err (NumberTooLarge at) = step ∙ cond-true _ _ _ large in
-    subst (Scans at all) (sym stop)
-    (subst (λ l. Scans at l (Err (NumberTooLarge at))) (take-append-drop n all)
-    (large_number (subst (λ k. IsLongestToken k (take n all) (drop n all)) is_number facts.0) (subst (λ k. is_too_large k (take n all) ≡ true) is_number large))))
+    let is_number = large_is_number greatest kind (take n all) large in
+    let stop : scan_from greatest at 0 all ≡ Err (NumberTooLarge at) = step ∙ cond-true _ _ _ large in
+    subst (Scans greatest at all) (sym stop)
+    (subst (λ l. Scans greatest at l (Err (NumberTooLarge at))) (take-append-drop n all)
+    (large_number (subst (λ k. IsLongestToken k (take n all) (drop n all)) is_number facts.0) (subst (λ k. is_too_large greatest k (take n all) ≡ true) is_number large))))
     (λ small.
-    let go : scan_from at 0 all ≡ followed_by this (scan_from (at + byte_length (take n all)) 0 (drop n all)) = step ∙ cond-false _ _ _ small ∙ ap (followed_by this) (scan_after at c n (byte_length (take n all)) cs spans) in
-    subst (Scans at all) (sym go)
-    (subst (λ l. Scans at l (followed_by this (scan_from (at + byte_length (take n all)) 0 (drop n all)))) (take-append-drop n all) (past_token facts.0 small (rest n facts.1 facts.2))))
-    (cases_Bool (is_too_large kind (take n all)))
-scans_step at c cs nothing front facts rest =
-    let stop : scan_from at 0 (c ∷ cs) ≡ Err (BadChar at) = ap (λ f. scan_front at (c ∷ cs) f (λ k. scan_from (at + len_utf8 c) (k - 1) cs)) front in
-    subst (Scans at (c ∷ cs)) (sym stop) (bad_char facts)
+    let go : scan_from greatest at 0 all ≡ followed_by this (scan_from greatest (at + byte_length (take n all)) 0 (drop n all)) = step ∙ cond-false _ _ _ small ∙ ap (followed_by this) (scan_after greatest at c n (byte_length (take n all)) cs spans) in
+    subst (Scans greatest at all) (sym go)
+    (subst (λ l. Scans greatest at l (followed_by this (scan_from greatest (at + byte_length (take n all)) 0 (drop n all)))) (take-append-drop n all) (past_token facts.0 small (rest n facts.1 facts.2))))
+    (cases_Bool (is_too_large greatest kind (take n all)))
+scans_step greatest at c cs nothing front facts rest =
+    let stop : scan_from greatest at 0 (c ∷ cs) ≡ Err (BadChar at) = ap (λ f. scan_front greatest at (c ∷ cs) f (λ k. scan_from greatest (at + len_utf8 c) (k - 1) cs)) front in
+    subst (Scans greatest at (c ∷ cs)) (sym stop) (bad_char facts)
 
 -- at most so many characters are left
-scans_within : (left at : ℕ) (cs : List ℕ) → length cs ≤ left → Scans at cs (scan_from at 0 cs)
+scans_within : (greatest left at : ℕ) (cs : List ℕ) → length cs ≤ left → Scans greatest at cs (scan_from greatest at 0 cs)
 unfolding scan_from
-scans_within left at [] within = at_end
-scans_within zero at (c ∷ cs) within = absurd (omega arith)
-scans_within (suc left) at (c ∷ cs) within =
-    scans_step at c cs (front_of (c ∷ cs)) refl (front_facts (c ∷ cs))
-    (λ n some fits. scans_within left (at + byte_length (take n (c ∷ cs))) (drop n (c ∷ cs)) (omega (arith, length-drop n (c ∷ cs))))
+scans_within greatest left at [] within = at_end
+scans_within greatest zero at (c ∷ cs) within = absurd (omega arith)
+scans_within greatest (suc left) at (c ∷ cs) within =
+    scans_step greatest at c cs (front_of (c ∷ cs)) refl (front_facts (c ∷ cs))
+    (λ n some fits. scans_within greatest left (at + byte_length (take n (c ∷ cs))) (drop n (c ∷ cs)) (omega (arith, length-drop n (c ∷ cs))))
 
-pub scans : (text : List ℕ) → Scans 0 (chars text) (scan text)
+pub scans : (greatest : ℕ) (text : List ℕ) → Scans greatest 0 (chars text) (scan greatest text)
 unfolding scan
-scans text = scans_within (length (chars text)) 0 (chars text) (omega arith)
+scans greatest text = scans_within greatest (length (chars text)) 0 (chars text) (omega arith)

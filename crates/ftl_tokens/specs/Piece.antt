@@ -1,6 +1,7 @@
 -- What the front of a text is as the code sees it, with lengths in bytes.
 use Rattle.std.specs.Prelude.{◌≡◌, ℕ, ◌<◌, ◌≤◌, true, false, List, [], ◌∷◌, length, take}
 use Rattle.std.specs.Char.{is_ascii_digit}
+use Rattle.ftl_tokens.specs.declared.kind.Kind.TheVariants.{Number}
 use Rattle.ftl_tokens.specs.declared.piece.Piece.{Piece}
 use Rattle.ftl_tokens.specs.declared.piece.Piece.TheVariants.{Gap, Token, LargeNumber, Nothing}
 use Rattle.ftl_tokens.specs.Kinds.{begins_word}
@@ -12,21 +13,28 @@ pub record Spans (cs : List ℕ) (n len : ℕ) : Type 0 where
   pub within : n ≤ length cs
   pub bytes : len ≡ byte_length (take n cs)
 
--- the code's piece is this front of these characters
-abbrev pub IsPieceOf : Front → List ℕ → Piece → Type 0
-IsPieceOf (gap n) cs (Gap len) = Spans cs n len
-IsPieceOf (token kind n) cs (Token found len) = (found ≡ kind) × (is_too_large kind (take n cs) ≡ false) × Spans cs n len
-IsPieceOf (token kind n) cs LargeNumber = is_too_large kind (take n cs) ≡ true
-IsPieceOf nothing cs Nothing = Unit {0}
-IsPieceOf _ cs _ = ⊥
+-- the code's piece is this front of these characters, where numbers are at most `greatest`
+abbrev pub IsPieceOf : ℕ → Front → List ℕ → Piece → Type 0
+IsPieceOf greatest (gap n) cs (Gap len) = Spans cs n len
+IsPieceOf greatest (token kind n) cs (Token found len) =
+    (found ≡ kind) × (is_too_large greatest kind (take n cs) ≡ false) × Spans cs n len
+IsPieceOf greatest (token kind n) cs LargeNumber = is_too_large greatest kind (take n cs) ≡ true
+IsPieceOf greatest nothing cs Nothing = Unit {0}
+IsPieceOf greatest _ cs _ = ⊥
+
+-- the code's piece for a number that is written so long
+abbrev pub IsNumberPiece : ℕ → ℕ → ℕ → Piece → Type 0
+IsNumberPiece greatest number length LargeNumber = greatest < number
+IsNumberPiece greatest number length (Token Number len) = (number ≤ greatest) × (len ≡ length)
+IsNumberPiece greatest number length _ = ⊥
 
 -- the code's piece is the front of these characters
-abbrev pub IsFrontPiece : List ℕ → Piece → Type 0
-IsFrontPiece cs piece = IsPieceOf (front_of cs) cs piece
+abbrev pub IsFrontPiece : ℕ → List ℕ → Piece → Type 0
+IsFrontPiece greatest cs piece = IsPieceOf greatest (front_of cs) cs piece
 
 -- the code's piece is the longest token there, or nothing
-abbrev pub IsTokenPiece : List ℕ → Piece → Type 0
-IsTokenPiece cs piece = IsPieceOf (token_front cs (longest_token cs)) cs piece
+abbrev pub IsTokenPiece : ℕ → List ℕ → Piece → Type 0
+IsTokenPiece greatest cs piece = IsPieceOf greatest (token_front cs (longest_token cs)) cs piece
 
 -- the first character may begin a word
 abbrev pub StartsWord : List ℕ → Type 0
@@ -42,3 +50,8 @@ StartsNumber (c ∷ cs) = is_ascii_digit c ≡ true
 abbrev pub StartsOther : List ℕ → Type 0
 StartsOther [] = Unit {0}
 StartsOther (c ∷ cs) = (begins_word c ≡ false) × (is_ascii_digit c ≡ false)
+
+-- the first character is not ASCII
+abbrev pub StartsFar : List ℕ → Type 0
+StartsFar [] = ⊥
+StartsFar (c ∷ cs) = 128 ≤ c

@@ -14,7 +14,8 @@ IsLineEnd (c ∷ cs) = c ≡ 10
 
 -- what may stand between tokens, before the rest of the text
 pub data IsGap : List ℕ → List ℕ → Type 0 where
-  white_space : {c : ℕ} {rest : List ℕ} → is_white_space c ≡ true → IsGap (c ∷ []) rest
+  white_space : {c : ℕ} {more rest : List ℕ} → is_white_space c ≡ true → list_all is_white_space more ≡ true
+      → IsGap (c ∷ more) rest
   -- from `#` to the end of the line
   comment : {body rest : List ℕ} → list_all stays_in_line body ≡ true → IsLineEnd rest → IsGap (35 ∷ body) rest
 
@@ -29,14 +30,14 @@ pub record BeginsNothing (c : ℕ) (cs : List ℕ) : Type 0 where
   pub no_comment : c ≢ 35
   pub no_token : (text rest : List ℕ) → (c ∷ cs) ≡ text ++ rest → kind_of text ≡ None
 
--- the characters from byte `at` on have these tokens, or this first fault
-pub data Scans : ℕ → List ℕ → Scanning → Type 0 where
-  at_end : {at : ℕ} → Scans at [] (Ok [])
+-- the characters from byte `at` on have these tokens, whose numbers are at most `greatest`, or this first fault
+pub data Scans (greatest : ℕ) : ℕ → List ℕ → Scanning → Type 0 where
+  at_end : {at : ℕ} → Scans greatest at [] (Ok [])
   past_gap : {at : ℕ} {text rest : List ℕ} {scan : Scanning} → IsGap text rest
-      → Scans (at + byte_length text) rest scan → Scans at (text ++ rest) scan
+      → Scans greatest (at + byte_length text) rest scan → Scans greatest at (text ++ rest) scan
   past_token : {at : ℕ} {kind : Kind} {text rest : List ℕ} {scan : Scanning} → IsLongestToken kind text rest
-      → is_too_large kind text ≡ false → Scans (at + byte_length text) rest scan
-      → Scans at (text ++ rest) (followed_by (record { kind = kind; start = at; end = at + byte_length text } ∷ []) scan)
-  large_number : {at : ℕ} {text rest : List ℕ} → IsLongestToken Number text rest → is_too_large Number text ≡ true
-      → Scans at (text ++ rest) (Err (NumberTooLarge at))
-  bad_char : {at c : ℕ} {cs : List ℕ} → BeginsNothing c cs → Scans at (c ∷ cs) (Err (BadChar at))
+      → is_too_large greatest kind text ≡ false → Scans greatest (at + byte_length text) rest scan
+      → Scans greatest at (text ++ rest) (followed_by (record { kind = kind; start = at; end = at + byte_length text } ∷ []) scan)
+  large_number : {at : ℕ} {text rest : List ℕ} → IsLongestToken Number text rest → is_too_large greatest Number text ≡ true
+      → Scans greatest at (text ++ rest) (Err (NumberTooLarge at))
+  bad_char : {at c : ℕ} {cs : List ℕ} → BeginsNothing c cs → Scans greatest at (c ∷ cs) (Err (BadChar at))

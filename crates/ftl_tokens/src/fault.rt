@@ -10,7 +10,7 @@ use std::alloc::{AllocError, AllocFailed};
 pub enum TokenFault {
     /// Neither white space nor a comment nor a token begins at `at`.
     BadChar { at: u32 },
-    /// A number above 2147483647 begins at `at`.
+    /// A number above the greatest that the call allows begins at `at`.
     NumberTooLarge { at: u32 },
     /// No memory was left for the list of tokens.
     OutOfMemory,

@@ -6,7 +6,7 @@ ghost use Rattle.ftl_tokens.specs.Scan.{scan};
 ghost use Rattle.ftl_tokens.specs.Scans.{Scans};
 
 /// A scan cuts its text into white space, comments and longest tokens, up to the first place at which
-/// none of them begins or a number is too large.
+/// none of them begins or a number is above the greatest.
 pub fn law_of_scan()
-    ensures { (text : List ℕ) → Scans 0 (chars text) (scan text) }
+    ensures { (greatest : ℕ) (text : List ℕ) → Scans greatest 0 (chars text) (scan greatest text) }
 {}

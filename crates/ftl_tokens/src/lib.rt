@@ -12,14 +12,17 @@ mod piece;
 mod run;
 mod scan;
 mod scanned;
+mod tokenized;
 mod word;
 
 pub use fault::TokenFault;
 pub use kind::{Kind, Token};
 pub use laws::law_of_scan;
 pub use name::Name;
-pub use scan::tokens;
-pub use scanned::Scanned;
+pub use scan::{document_tokens, tokens};
+pub use scanned::{Scanned, WideScanned};
+pub use tokenized::TokenizedText;
+
 
 #[cfg(test)]
 mod tests;

@@ -1,72 +1,150 @@
-//! A text with its tokens.
+//! What the calls that scan a text give.
 
-ghost use Rattle.std.specs.Prelude.{◌≡◌, ◌<◌, ◌≤◌, Ok, length, string_bytes, slice_get, IfSome, IsSomeAnd};
+ghost use Rattle.std.specs.Prelude.{◌≡◌, ◌<◌, ◌≤◌, length, slice_get, IfSome, IsSomeAnd};
 ghost use Rattle.std.specs.Str.Parse.{digits_value};
-ghost use Rattle.ftl_tokens.specs.Scan.{scan};
-ghost use Rattle.ftl_tokens.specs.Tokenized.{text_of, IsTokenOf, AreTokensOf, symbol, symbols_of, number};
+ghost use Rattle.ftl_tokens.specs.Tokenized.{IsGreatestNumber, token_text, IsTokenOf, AreTokensOf, symbol, symbols_of, number};
 
 use crate::kind::{Kind, Token};
-use crate::piece::number_of;
+use crate::tokenized::TokenizedText;
 use std::marker::Model;
 
 /// A text with its tokens, as `tokens` gives them. Contracts see both, and readers above see the
 /// symbols of the tokens, by `symbols_of`.
 #[derive(Debug, Drop)]
 pub struct Scanned {
-    text: String,
-    list: Vec<Token>,
+    tokenized: TokenizedText,
 }
 
 impl Model for Scanned {
-    ghost use Rattle.std.specs.Prelude.{◌≡◌, Ok, string_bytes};
-    ghost use Rattle.ftl_tokens.specs.Tokenized.{Tokenized};
+    ghost use Rattle.ftl_tokens.specs.Tokenized.{Tokenized, AreTokensOf};
 
     ghost Value = { Tokenized };
 
-    ghost use Rattle.ftl_tokens.specs.Scan.{scan};
+    ghost view = { λ s. s.tokenized };
 
-    ghost view = { λ s. record { text = string_bytes s.text; tokens = s.list.items } };
-
-    ghost invariant = { λ s. scan (string_bytes s.text) ≡ Ok s.list.items };
+    ghost invariant = { λ s. AreTokensOf 2147483647 s.tokenized.text 0 s.tokenized.tokens };
 }
 
 impl Scanned {
-    pub(crate) fn new(text: String, list: Vec<Token>) -> Scanned
-        requires { scan (string_bytes text) ≡ Ok list.items }
-        ensures text { result.text ≡ string_bytes text }
-        ensures tokens { result.tokens ≡ list.items }
+    pub(crate) fn new(tokenized: TokenizedText) -> Scanned
+        requires { AreTokensOf 2147483647 tokenized.text 0 tokenized.tokens }
+        ensures { result ≡ tokenized }
     {
-        Scanned { text, list }
+        Scanned { tokenized }
+    }
+
+    /// The text with its tokens.
+    pub fn tokenized(&self) -> &TokenizedText
+        ensures tokenized { result.now ≡ self.now }
+        ensures tokens { AreTokensOf 2147483647 self.now.text 0 self.now.tokens }
+    {
+        &self.tokenized
     }
 
     /// The tokens, in order.
     pub fn list(&self) -> &[Token]
         ensures list { result.now ≡ self.now.tokens }
-        ensures tokens { AreTokensOf self.now.text 0 self.now.tokens }
+        ensures tokens { AreTokensOf 2147483647 self.now.text 0 self.now.tokens }
     {
-        self.list.as_slice()
+        self.tokenized().list()
     }
 
     /// The text of token `k`.
     pub fn slice(&self, k: usize) -> &str
         requires { k < length self.now.tokens }
-        ensures text { IfSome (slice_get self.now.tokens k) (λ t. result.now ≡ text_of self.now.text t) }
-        ensures token { IfSome (slice_get self.now.tokens k) (IsTokenOf self.now.text) }
+        ensures text { IfSome (slice_get self.now.tokens k) (λ t. result.now ≡ token_text self.now.text t) }
+        ensures token { IfSome (slice_get self.now.tokens k) (IsTokenOf 2147483647 self.now.text) }
         ensures symbol { IfSome (slice_get self.now.tokens k)
             (λ t. slice_get (symbols_of self.now) k ≡ Some (symbol t.kind result.now)) }
     {
-        let token = self.list[k];
-        &self.text.as_str()[token.start as usize..token.end as usize]
+        self.tokenized().slice(k)
     }
 
     /// The number that token `k` writes.
     pub fn number(&self, k: usize) -> u32
         requires { IsSomeAnd (slice_get self.now.tokens k) (λ t. t.kind ≡ Kind.Number) }
         ensures value { IfSome (slice_get self.now.tokens k)
-            (λ t. result ≡ digits_value 10 (text_of self.now.text t)) }
+            (λ t. result ≡ digits_value 10 (token_text self.now.text t)) }
         ensures symbol { slice_get (symbols_of self.now) k ≡ Some (number result) }
         ensures small { result ≤ 2147483647 }
     {
-        number_of(self.slice(k)).unwrap()
+        self.tokenized().number(k) as u32
+    }
+}
+
+/// A text with its tokens and their greatest number, as `document_tokens` gives them.
+#[derive(Debug, Drop)]
+pub struct WideScanned {
+    tokenized: TokenizedText,
+    greatest: u64,
+}
+
+impl Model for WideScanned {
+    ghost use Rattle.ftl_tokens.specs.Tokenized.{WideTokenized, IsGreatestNumber, AreTokensOf};
+
+    ghost Value = { WideTokenized };
+
+    ghost view = { λ s. record { tokenized = s.tokenized; greatest = s.greatest } };
+
+    ghost invariant = { λ s. AreTokensOf s.greatest s.tokenized.text 0 s.tokenized.tokens
+        × IsGreatestNumber s.greatest };
+}
+
+impl WideScanned {
+    pub(crate) fn new(tokenized: TokenizedText, greatest: u64) -> WideScanned
+        requires tokens { AreTokensOf greatest tokenized.text 0 tokenized.tokens }
+        requires limit { IsGreatestNumber greatest }
+        ensures tokenized { result.tokenized ≡ tokenized }
+        ensures greatest { result.greatest ≡ greatest }
+    {
+        WideScanned { tokenized, greatest }
+    }
+
+    /// The greatest number that the call allowed.
+    pub fn greatest(&self) -> u64
+        ensures greatest { result ≡ self.now.greatest }
+        ensures one_of_two { IsGreatestNumber self.now.greatest }
+    {
+        self.greatest
+    }
+
+    /// The text with its tokens.
+    pub fn tokenized(&self) -> &TokenizedText
+        ensures tokenized { result.now ≡ self.now.tokenized }
+        ensures tokens { AreTokensOf self.now.greatest self.now.tokenized.text 0 self.now.tokenized.tokens }
+    {
+        &self.tokenized
+    }
+
+    /// The tokens, in order.
+    pub fn list(&self) -> &[Token]
+        ensures list { result.now ≡ self.now.tokenized.tokens }
+        ensures tokens { AreTokensOf self.now.greatest self.now.tokenized.text 0 self.now.tokenized.tokens }
+    {
+        self.tokenized().list()
+    }
+
+    /// The text of token `k`.
+    pub fn slice(&self, k: usize) -> &str
+        requires { k < length self.now.tokenized.tokens }
+        ensures text { IfSome (slice_get self.now.tokenized.tokens k)
+            (λ t. result.now ≡ token_text self.now.tokenized.text t) }
+        ensures token { IfSome (slice_get self.now.tokenized.tokens k)
+            (IsTokenOf self.now.greatest self.now.tokenized.text) }
+        ensures symbol { IfSome (slice_get self.now.tokenized.tokens k)
+            (λ t. slice_get (symbols_of self.now.tokenized) k ≡ Some (symbol t.kind result.now)) }
+    {
+        self.tokenized().slice(k)
+    }
+
+    /// The number that token `k` writes.
+    pub fn number(&self, k: usize) -> u64
+        requires { IsSomeAnd (slice_get self.now.tokenized.tokens k) (λ t. t.kind ≡ Kind.Number) }
+        ensures value { IfSome (slice_get self.now.tokenized.tokens k)
+            (λ t. result ≡ digits_value 10 (token_text self.now.tokenized.text t)) }
+        ensures symbol { slice_get (symbols_of self.now.tokenized) k ≡ Some (number result) }
+        ensures small { result ≤ self.now.greatest }
+    {
+        self.tokenized().number(k)
     }
 }

@@ -6,39 +6,53 @@ ghost use Rattle.ftl_tokens.specs.Kinds.{kind_of_word, kind_of_mark};
 use crate::kind::Kind;
 
 /// The kind of a word.
+#[inline(always)]
 #[tactic(auto, unfolding(crate::specs::Kinds::kind_of_word))]
 pub fn word_kind(word: &str) -> Kind
     ensures { result ≡ kind_of_word word.now }
 {
-    match word {
-        "root" => Kind::Root,
-        "interface" => Kind::Interface,
-        "class" => Kind::Class,
-        "inh" => Kind::Inh,
-        "syn" => Kind::Syn,
-        "input" => Kind::Input,
-        "local" => Kind::Local,
-        "show" => Kind::Show,
-        "self" => Kind::SelfWord,
-        "this" => Kind::This,
-        "prev" => Kind::Prev,
-        "last" => Kind::Last,
-        "first" => Kind::First,
-        "then" => Kind::Then,
-        "fold" => Kind::Fold,
-        "from" => Kind::From,
-        "with" => Kind::With,
-        "acc" => Kind::Acc,
-        "if" => Kind::If,
-        "else" => Kind::Else,
-        "or" => Kind::Or,
-        "min" => Kind::Min,
-        "max" => Kind::Max,
+    match word.len() {
+        2 => match word {
+            "if" => Kind::If,
+            "or" => Kind::Or,
+            _ => Kind::Name,
+        },
+        3 => match word {
+            "inh" => Kind::Inh,
+            "syn" => Kind::Syn,
+            "acc" => Kind::Acc,
+            "min" => Kind::Min,
+            "max" => Kind::Max,
+            _ => Kind::Name,
+        },
+        4 => match word {
+            "root" => Kind::Root,
+            "show" => Kind::Show,
+            "self" => Kind::SelfWord,
+            "this" => Kind::This,
+            "prev" => Kind::Prev,
+            "last" => Kind::Last,
+            "then" => Kind::Then,
+            "fold" => Kind::Fold,
+            "from" => Kind::From,
+            "with" => Kind::With,
+            "else" => Kind::Else,
+            _ => Kind::Name,
+        },
+        5 => match word {
+            "class" => Kind::Class,
+            "input" => Kind::Input,
+            "local" => Kind::Local,
+            "first" => Kind::First,
+            _ => Kind::Name,
+        },
+        9 if word == "interface" => Kind::Interface,
         _ => Kind::Name,
     }
 }
 
 /// The kind of the mark of one character.
+#[inline(always)]
 #[tactic(auto, unfolding(crate::specs::Kinds::kind_of_mark))]
 pub fn short_mark(c: char) -> Option<Kind>
     ensures { result ≡ kind_of_mark (c ∷ []) }
@@ -67,6 +81,7 @@ pub fn short_mark(c: char) -> Option<Kind>
 }
 
 /// The kind of the mark of two characters.
+#[inline(always)]
 #[tactic(auto, unfolding(crate::specs::Kinds::kind_of_mark))]
 pub fn long_mark(first: char, second: char) -> Option<Kind>
     ensures { result ≡ kind_of_mark (first ∷ second ∷ []) }

@@ -1,35 +1,39 @@
-use Rattle.std.proofs.Common.{sym, ap, ◌∙◌, subst, arith}
-use Rattle.std.specs.List.{prefix_len}
-use Rattle.std.specs.Char.{is_ascii_digit}
-use Rattle.std.specs.Str.{chars, IsCharBoundary}
+use Rattle.std.proofs.Common.{◌≡◌, ◌+◌, length, take, min, sym, ap, ◌∙◌, arith}
 use Rattle.std.specs.Str.Parse.{digits_value}
-use Rattle.ftl_tokens.specs.Kinds.{is_number}
-use Rattle.ftl_tokens.proofs.TextLemmas.{is_cut}
-use Rattle.ftl_tokens.proofs.FrontLemmas.{run_is_number}
-use Rattle.ftl_tokens.proofs.PieceLemmas.{number_bytes, number_piece_is, large_number_is}
+use Rattle.ftl_tokens.proofs.NumberLemmas.{digits_value-cut, digit_ascii}
+use Rattle.ftl_tokens.proofs.PieceLemmas.{number_piece_by}
+use Rattle.ftl_tokens.proofs.RunLemmas.{runs_through_byte, runs_through_byte_other, runs_through_bytes_end}
 use Rattle.ftl_tokens.proofs.piece.number_piece.Goals as goal
-use Rattle.ftl_tokens.proofs.piece.number_piece.Goals.{After-range}
 
--- the number ends between characters
-pub range-requires-clause-end_boundary : goal.range-requires-clause-end_boundary
-range-requires-clause-end_boundary c =
-    subst (IsCharBoundary c.args.text.now) (sym c.run_length-length.ensures)
-    (is_cut c.args.text.now (prefix_len is_ascii_digit (chars c.args.text.now)) c.utf8.text).boundary
+-- the number ends before this byte
+pub returns-then-not-is_ascii_digit : goal.returns-then-not-is_ascii_digit
+returns-then-not-is_ascii_digit c =
+    let bytes = c.as_bytes-byte-items.result.now in
+    let stops = sym c.is_ascii_digit.ensures.value ∙ c.if-not-is_ascii_digit.true in
+    number_piece_by c.args.greatest c.args.text.now c.loop-at.number c.loop-at.at c.number_token.result c.utf8.text c.requires.number
+    (runs_through_byte_other c.loop-at.invariant.runs bytes c.as_bytes-byte-items.ensures.value digit_ascii c.loop-at-test.true stops)
+    c.loop-at.invariant.number c.number_token.ensures
 
--- what was cut out is the run of digits
-pub number_of-requires : goal.number_of-requires
-number_of-requires c =
-    let digits = c.range.ensures.value ∙ number_bytes c.args.text.now c.run_length-length.result c.utf8.text c.requires c.run_length-length.ensures in
-    ap is_number digits ∙ run_is_number (chars c.args.text.now) c.requires
+pub loop-at-preserved : goal.loop-at-preserved
+loop-at-preserved c =
+    let bytes = c.as_bytes-byte-items.result.now in
+    let same = c.as_bytes-byte-items.ensures.value in
+    let digit = sym c.is_ascii_digit.ensures.value ∙ c.if-not-is_ascii_digit.false in
+    record {
+      runs = runs_through_byte c.loop-at.invariant.runs bytes same c.loop-at-test.true (digit_ascii _ digit) digit;
+      number =
+          c.min-number.ensures
+          ∙ digits_value-cut c.args.text.now bytes c.loop-at.at c.loop-at.number c.from.result (c.args.greatest + 1) same c.loop-at-test.true digit
+          c.from.ensures (omega arith) c.loop-at.invariant.number;
+    }
 
-pub returns-in-Some : goal.returns-in-Some
-returns-in-Some c =
-    let digits = c.range.ensures.value ∙ number_bytes c.args.text.now c.run_length-length.result c.utf8.text c.requires c.run_length-length.ensures in
-    number_piece_is c.args.text.now c.run_length-length.result c.requires c.run_length-length.ensures
-    (omega (arith, ap (digits_value 10) digits, c.in-Some.ensures.0))
-
-pub returns-in-None : goal.returns-in-None
-returns-in-None c =
-    let digits = c.range.ensures.value ∙ number_bytes c.args.text.now c.run_length-length.result c.utf8.text c.requires c.run_length-length.ensures in
-    large_number_is c.args.text.now c.requires
-    (omega (arith, ap (digits_value 10) digits, c.in-None.ensures))
+-- no byte is left
+pub returns : goal.returns
+returns c =
+    let bytes = c.as_bytes-byte-items.result.now in
+    let same = c.as_bytes-byte-items.ensures.value in
+    let end : c.loop-at.at ≡ length c.args.text.now = omega (arith, c.loop-at-test.false, c.loop-at.auto.at-end, ap length same) in
+    number_piece_by c.args.greatest c.args.text.now c.loop-at.number (length c.args.text.now) c.number_token-2.result c.utf8.text c.requires.number
+    (runs_through_bytes_end c.loop-at.invariant.runs bytes same c.loop-at-test.false)
+    (c.loop-at.invariant.number ∙ ap (λ k. min (digits_value 10 (take k c.args.text.now)) (c.args.greatest + 1)) end)
+    c.number_token-2.ensures

@@ -15,5 +15,5 @@ range-requires-clause-end_boundary c =
 
 pub returns : goal.returns
 returns c =
-    word_piece_is c.args.text.now c.word_kind.result c.run_length-length.result c.utf8.text c.requires c.run_length-length.ensures
+    λ greatest. word_piece_is greatest c.args.text.now c.word_kind.result c.run_length-length.result c.utf8.text c.requires c.run_length-length.ensures
     (c.word_kind.ensures ∙ ap kind_of_word c.range.ensures.value)

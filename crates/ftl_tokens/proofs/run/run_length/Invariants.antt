@@ -1,11 +1,7 @@
-use Rattle.std.specs.Str.Iter.{char_indices_rest, char_indices_offset}
+use Rattle.std.proofs.Common.{drop}
 use Rattle.ftl_tokens.specs.Run.{goes_on}
 use Rattle.ftl_tokens.proofs.RunLemmas.{RunsThrough}
 use Rattle.ftl_tokens.proofs.run.run_length.Given as goal
 
-abbrev pub invariant-loop-place : goal.invariant-loop-place
-invariant-loop-place l = record {
-  can : (goal.iterator-loop-place).can_next l.place-iterator;
-  finite : (goal.iterator-loop-place).is_finite l.place-iterator;
-  runs : RunsThrough (goes_on l.run) l.text (char_indices_offset l.place-iterator) (char_indices_rest l.place-iterator);
-}
+abbrev pub invariant-loop-at : goal.invariant-loop-at
+invariant-loop-at l = RunsThrough (goes_on l.run) l.text l.at (drop l.at l.text)

@@ -1,13 +1,6 @@
-use Rattle.std.proofs.Common.{◌≤◌, length, sym, ap, ◌∙◌, arith}
-use Rattle.ftl_reading.specs.Reader.{rest_of}
-use Rattle.ftl_reading.proofs.InputLemmas.{rest_of-drop, rest_of-past}
+use Rattle.std.proofs.Common.{inr}
+use Rattle.ftl_reading.proofs.NarrowLemmas.{at_most-step}
 use Rattle.ftl_reading.proofs.input.Input.skip.Goals as goal
 
-pub returns-then-self-list : goal.returns-then-self-list
-returns-then-self-list c = sym (rest_of-drop _ c.self.inside.at) ∙ ap rest_of c.self.view_is
-
-pub returns-else-self-list : goal.returns-else-self-list
-returns-else-self-list c =
-    let s = c.self.inside.scanned.now in
-    let past : length s.tokens ≤ c.self.inside.at = omega (arith, c.if-self-list.false, ap length c.list.ensures.list) in
-    sym c.self.view_is ∙ sym (rest_of-past s c.self.inside.at past) ∙ ap rest_of c.self.view_is
+pub invariant_of-self : goal.invariant_of-self
+invariant_of-self c = at_most-step 2147483647 _ _ c.self.invariant (inr c.skip.ensures)
