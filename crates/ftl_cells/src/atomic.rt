@@ -48,34 +48,49 @@ impl<W: Work> Cells<W> {
         shared.compare_exchange::<ClaimPlay>(seat, at, 0, 1)
     }
 
-    /// Loads the cell of a read.
-    pub(crate) fn load_cell(&self, seat: &mut Seat<u8, Told>, item: u32, step: u32, k: u32) -> u64
+    /// Loads the cell of a read. Where the hand stands is for the contract alone.
+    pub(crate) fn load_cell(
+        &self,
+        seat: &mut Seat<u8, Told>,
+        _item: u32,
+        _step: u32,
+        _k: u32,
+        cell: u32,
+    ) -> u64
         requires seat { IsSeatOf (W.meaning self.now.1) self.now.0 seat.old }
-        requires working { seat.old.me.0.place ≡ live (Working item step k) }
-        requires step { IsStep (W.meaning self.now.1) item step }
-        requires place { k < read_total (W.meaning self.now.1) item step }
+        requires working { seat.old.me.0.place ≡ live (Working _item _step _k) }
+        requires step { IsStep (W.meaning self.now.1) _item _step }
+        requires place { _k < read_total (W.meaning self.now.1) _item _step }
+        requires cell { cell ≡ read_of (W.meaning self.now.1) _item _step _k }
         ensures table { seat.new.table_id ≡ seat.old.table_id }
         ensures reached { IsStepOf seat.old.me.0 seat.new.me.0 }
-        ensures told { ReadTold seat.old.me item step k result seat.new.me }
-        ensures counted { read_total (W.meaning self.now.1) item step < 2 ^ 32 }
+        ensures told { ReadTold seat.old.me _item _step _k result seat.new.me }
+        ensures counted { read_total (W.meaning self.now.1) _item _step < 2 ^ 32 }
     {
-        let cell = self.work.read(item, step, k);
         self.table.shared.load::<ReadPlay>(seat, 1 + cell as usize)
     }
 
-    pub(crate) fn store_cell(&self, seat: &mut Seat<u8, Told>, item: u32, step: u32, word: u64)
+    /// Stores the word in the target of a step. Where the hand stands is for the contract alone.
+    pub(crate) fn store_cell(
+        &self,
+        seat: &mut Seat<u8, Told>,
+        _item: u32,
+        _step: u32,
+        cell: u32,
+        word: u64,
+    )
         requires seat { IsSeatOf (W.meaning self.now.1) self.now.0 seat.old }
         requires working { seat.old.me.0.place
-            ≡ live (Working item step (read_total (W.meaning self.now.1) item step)) }
-        requires step { IsStep (W.meaning self.now.1) item step }
+            ≡ live (Working _item _step (read_total (W.meaning self.now.1) _item _step)) }
+        requires step { IsStep (W.meaning self.now.1) _item _step }
+        requires cell { cell ≡ target_of (W.meaning self.now.1) _item _step }
         requires word { word
-            ≡ solved_word (W.meaning self.now.1) (target_of (W.meaning self.now.1) item step) }
+            ≡ solved_word (W.meaning self.now.1) (target_of (W.meaning self.now.1) _item _step) }
         ensures table { seat.new.table_id ≡ seat.old.table_id }
         ensures reached { IsStepOf seat.old.me.0 seat.new.me.0 }
-        ensures told { FillTold seat.old.me item step seat.new.me }
-        ensures counted { step_total (W.meaning self.now.1) item < 2 ^ 32 }
+        ensures told { FillTold seat.old.me _item _step seat.new.me }
+        ensures counted { step_total (W.meaning self.now.1) _item < 2 ^ 32 }
     {
-        let cell = self.work.target(item, step);
         self.table
             .shared
             .store::<FillPlay>(seat, 1 + cell as usize, word);

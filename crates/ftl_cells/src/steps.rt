@@ -4,6 +4,7 @@ ghost use Rattle.ftl_model.specs.Values.{word_of_value};
 ghost use Rattle.ftl_cells.specs.Work.{item_total};
 ghost use Rattle.ftl_cells.specs.State.{live, IsFree, newcomer, after, split, join, end_word};
 ghost use Rattle.ftl_cells.specs.Calls.{IsMadeBy, CanClaim, CanRead, CanFill, CanMark, CanDeliver};
+ghost use Rattle.ftl_cells.specs.Calls.{IsNextRead, IsNextTarget};
 ghost use Rattle.ftl_cells.specs.Calls.{LookSteps, ClaimSteps, ReadAnswers, ReadSteps, FillSteps};
 ghost use Rattle.ftl_cells.specs.Calls.{MarkSteps, DeliverSteps, LeftSteps};
 ghost use Rattle.ftl_cells.specs.Interleavings.{IsStepOf, IsSplitOf, IsJoinOf};
@@ -75,7 +76,25 @@ impl<W: Work> Cells<W> {
         let HandPlace::Working { item, step, reads } = hand.place else {
             unreachable!()
         };
-        let word = self.load_cell(&mut hand.seat, item, step, reads);
+        let cell = self.work.read(item, step, reads);
+        self.read_at(hand, cell)
+    }
+
+    /// Loads the cell of the next read, which the caller tells.
+    pub fn read_at(&self, hand: &mut Hand, cell: u32) -> Val
+        requires made { IsMadeBy (W.meaning self.now.1) self.now.0 hand.old }
+        requires working { CanRead (W.meaning self.now.1) hand.old.state.place }
+        requires cell { IsNextRead (W.meaning self.now.1) hand.old.state.place cell }
+        ensures table { hand.new.table ≡ hand.old.table }
+        ensures reached { IsStepOf hand.old.state hand.new.state }
+        ensures value { ReadAnswers (W.meaning self.now.1) hand.old.state.place result }
+        ensures step { ReadSteps hand.old.state hand.old.state.place (word_of_value result)
+            hand.new.state }
+    {
+        let HandPlace::Working { item, step, reads } = hand.place else {
+            unreachable!()
+        };
+        let word = self.load_cell(&mut hand.seat, item, step, reads, cell);
         hand.place = HandPlace::Working {
             item,
             step,
@@ -95,7 +114,23 @@ impl<W: Work> Cells<W> {
         let HandPlace::Working { item, step, .. } = hand.place else {
             unreachable!()
         };
-        self.store_cell(&mut hand.seat, item, step, word_of(val));
+        let cell = self.work.target(item, step);
+        self.fill_at(hand, cell, val);
+    }
+
+    /// Stores the value in the step's target, which the caller tells.
+    pub fn fill_at(&self, hand: &mut Hand, cell: u32, val: Val)
+        requires made { IsMadeBy (W.meaning self.now.1) self.now.0 hand.old }
+        requires working { CanFill (W.meaning self.now.1) hand.old.state.place val }
+        requires cell { IsNextTarget (W.meaning self.now.1) hand.old.state.place cell }
+        ensures table { hand.new.table ≡ hand.old.table }
+        ensures reached { IsStepOf hand.old.state hand.new.state }
+        ensures step { FillSteps hand.old.state hand.old.state.place hand.new.state }
+    {
+        let HandPlace::Working { item, step, .. } = hand.place else {
+            unreachable!()
+        };
+        self.store_cell(&mut hand.seat, item, step, cell, word_of(val));
         hand.place = HandPlace::Working {
             item,
             step: step + 1,
