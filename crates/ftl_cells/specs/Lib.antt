@@ -10,3 +10,4 @@ pub mod Shape
 pub mod Chain
 pub mod Lent
 pub mod Interleavings
+pub mod Filling

@@ -1,8 +1,11 @@
-ghost use Rattle.std.specs.Prelude.{◌≡◌, ◌<◌, ◌≤◌, length};
+ghost use Rattle.std.specs.Prelude.{◌≡◌, ◌<◌, ◌≤◌, length, vec_capacity};
 ghost use Rattle.ftl_cells.specs.Work.{Meaning, IsLawful, IsStep, cell_total, kind_at, item_total};
 ghost use Rattle.ftl_cells.specs.Work.{pred_total, next_total, next_at, step_total, target_of};
 ghost use Rattle.ftl_cells.specs.Work.{read_total, read_of, solved_reads, solution_at};
+ghost use Rattle.ftl_cells.specs.State.{live};
+ghost use Rattle.ftl_cells.specs.declared.place.HandPlace.TheVariants.{Working};
 
+use crate::filler::Filler;
 use crate::kind::CellKind;
 use ftl_base::{CodeStack, Val};
 
@@ -77,4 +80,39 @@ pub trait Work: Sync {
         ensures value { reads.now ≡ solved_reads (meaning self.now) item step
             → result ≡ solution_at (meaning self.now) (target_of (meaning self.now) item step) }
         ensures room { stack.new.room ≡ stack.old.room };
+
+    /// Drives a filler through an item: it goes through the steps in order, has the cells of each
+    /// read in order, and then its target filled with the solution's value.
+    fn run_item<F: Filler>(
+        &self,
+        item: u32,
+        filler: &mut F,
+        reads: &mut Vec<Val>,
+        stack: &mut CodeStack,
+    )
+        requires item { item < item_total (meaning self.now) }
+        requires of { F.of filler.old ≡ meaning self.now }
+        requires working { F.place filler.old ≡ live (Working item 0 0) }
+        requires reads { (meaning self.now).max_reads ≤ vec_capacity reads.old }
+        requires room { (meaning self.now).max_stack ≤ stack.old.room }
+        ensures of { F.of filler.new ≡ F.of filler.old }
+        ensures filled { F.place filler.new
+            ≡ live (Working item (step_total (meaning self.now) item) 0) }
+        ensures keeps { F.keeps filler.old filler.new }
+        ensures reads { vec_capacity reads.old ≤ vec_capacity reads.new }
+        ensures room { stack.new.room ≡ stack.old.room }
+    {
+        // Each work is lawful, so no step has more reads than the buffer has room for.
+        let _items = self.items();
+        for step in 0..self.step_count(item) {
+            reads.clear();
+            for k in 0..self.read_count(item, step) {
+                reads
+                    .push(filler.read(self.read(item, step, k)))
+                    .unwrap();
+            }
+            let val = self.result(item, step, reads.as_slice(), stack);
+            filler.fill(self.target(item, step), val);
+        }
+    }
 }
