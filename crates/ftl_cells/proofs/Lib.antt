@@ -11,6 +11,7 @@ pub mod Found
 pub mod Plays
 pub mod Seats
 pub mod Ready
+pub mod Driven
 pub mod Opening
 pub mod Closing
 pub mod Consequences

@@ -1,6 +1,6 @@
 -- How a work drives a filler through the steps of an item, and how a hand goes that is driven so.
 use Rattle.std.specs.Prelude.{◌≡◌, ℕ, ◌+◌, ◌⊎◌, Some}
-use Rattle.ftl_cells.specs.Work.{target_of, read_of}
+use Rattle.ftl_cells.specs.Work.{Meaning, step_total, target_of, read_of}
 use Rattle.ftl_cells.specs.State.{Place, live, HandState, after, load_cell, store_cell, cell_word}
 use Rattle.ftl_cells.specs.Interleavings.{IsStepOf}
 use Rattle.ftl_cells.specs.declared.place.HandPlace.TheVariants.{Working}
@@ -27,3 +27,18 @@ ReadsOrFills v p w = ⊥
 pub data Fills (v : HandState) : HandState → Type 0 where
   stays : Fills v v
   goes_on : {w x : HandState} → Fills v w → IsStepOf w x → ReadsOrFills w w.place x → Fills v x
+
+-- two such ways, one after the other, are one
+pub fills_further : {v w x : HandState} → Fills v w → Fills w x → Fills v x
+fills_further a stays = a
+fills_further a (goes_on b s r) = goes_on (fills_further a b) s r
+
+-- the place is Working, before the first read of the first step
+abbrev pub CanStart : Place → Type 0
+CanStart (live (Working item step reads)) = (step ≡ 0) × (reads ≡ 0)
+CanStart p = ⊥
+
+-- the second place is Working the item of the first, with all steps filled
+abbrev pub IsDoneFrom : Meaning → Place → Place → Type 0
+IsDoneFrom m (live (Working item step reads)) q = q ≡ live (Working item (step_total m item) 0)
+IsDoneFrom m p q = ⊥

@@ -18,10 +18,10 @@ use crate::rule::{
     ClaimPlay, FillPlay, FinishPlay, JoinPlay, LeftPlay, LookPlay, MarkPlay, ReadPlay, SendPlay,
     SplitPlay,
 };
-use crate::work::Work;
+use crate::work::Meant;
 use atomic_table::Seat;
 
-impl<W: Work> Cells<W> {
+impl<W: Meant> Cells<W> {
     pub(crate) fn load_counter(&self, seat: &mut Seat<u8, Told>, item: u32) -> u64
         requires seat { IsSeatOf (W.meaning self.now.1) self.now.0 seat.old }
         requires idle { seat.old.me.0.place ≡ live Idle }

@@ -2,7 +2,7 @@ ghost use Rattle.std.specs.Prelude.{◌≡◌};
 
 use crate::hand::Told;
 use crate::rule::Law;
-use crate::work::Work;
+use crate::work::Meant;
 use atomic_table::Table;
 use std::alloc::Global;
 use std::marker::Model;
@@ -10,7 +10,7 @@ use std::marker::Model;
 /// The words of a work that threads share: the common end's counter, the cells, the states of the
 /// items and their counters.
 #[derive(Drop)]
-pub struct Cells<W: Work> {
+pub struct Cells<W: Meant> {
     pub(crate) table: Table<u8, Told, W, Law, Global>,
     pub(crate) work: W,
     /// Where the states and the counters of the items begin.
@@ -18,7 +18,7 @@ pub struct Cells<W: Work> {
     pub(crate) counters: usize,
 }
 
-impl<W: Work> Model for Cells<W> {
+impl<W: Meant> Model for Cells<W> {
     ghost use Rattle.std.specs.Prelude.{◌≡◌};
     ghost use Rattle.atomic_table.specs.Seated.{TableId};
     ghost use Rattle.ftl_cells.specs.Table.{IsTableOf};
@@ -31,7 +31,7 @@ impl<W: Work> Model for Cells<W> {
         × IsTableOf (W.meaning c.work) c.table.shared.table_id c.states c.counters };
 }
 
-impl<W: Work> Cells<W> {
+impl<W: Meant> Cells<W> {
     pub fn work(&self) -> &W
         ensures { result.now ≡ self.now.1 }
     {

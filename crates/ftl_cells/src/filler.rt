@@ -15,22 +15,29 @@ pub trait Filler {
     /// Where it stands, as a hand does.
     ghost place: { Self → Place };
 
-    /// What no read and no fill changes.
+    /// What holds of it before and after each call.
+    ghost fit: { Self → Type 0 };
+
+    /// What no call changes.
     ghost keeps: { Self → Self → Type 0 };
 
     /// The solution's value at the cell of the next read.
     fn read(&mut self, cell: u32) -> Val
+        requires fit { fit self.old }
         requires working { CanRead (of self.old) (place self.old) }
         requires cell { IsNextRead (of self.old) (place self.old) cell }
         ensures value { result ≡ solution_at (of self.old) cell }
+        ensures fit { fit self.new }
         ensures of { of self.new ≡ of self.old }
         ensures place { place self.new ≡ after_read (place self.old) }
         ensures keeps { keeps self.old self.new };
 
     /// Fills the step's target, and goes to the next step.
     fn fill(&mut self, cell: u32, val: Val)
+        requires fit { fit self.old }
         requires working { CanFill (of self.old) (place self.old) val }
         requires cell { IsNextTarget (of self.old) (place self.old) cell }
+        ensures fit { fit self.new }
         ensures of { of self.new ≡ of self.old }
         ensures place { place self.new ≡ after_fill (place self.old) }
         ensures keeps { keeps self.old self.new };

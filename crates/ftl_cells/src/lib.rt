@@ -16,6 +16,7 @@ pub mod laws;
 mod open;
 mod place;
 mod rule;
+mod shared_filler;
 mod steps;
 #[cfg(test)]
 mod tests;
@@ -28,4 +29,5 @@ pub use filler::Filler;
 pub use hand::Hand;
 pub use kind::CellKind;
 pub use place::HandPlace;
-pub use work::Work;
+pub use shared_filler::SharedFiller;
+pub use work::{Meant, Work};

@@ -5,13 +5,13 @@ ghost use Rattle.ftl_cells.specs.Told.{send_told, finish_told, left_told};
 ghost use Rattle.std.specs.Prelude.{None};
 
 use crate::hand::Told;
-use crate::work::Work;
+use crate::work::Meant;
 use atomic_table::{Join, Play, Split, TableRule};
 
 /// The words and the hands are in a state that steps lead to from an opening.
 pub(crate) struct Law;
 
-impl<W: Work> TableRule<u8, Told, W> for Law {
+impl<W: Meant> TableRule<u8, Told, W> for Law {
     ghost holds = { λ work s. Reached (W.meaning work) s.words s.views };
 
     ghost first = { λ work. newcomer (W.meaning work) };

@@ -14,7 +14,7 @@ use crate::answer::{Claim, Deliver, Look};
 use crate::cells::Cells;
 use crate::hand::Hand;
 use crate::place::HandPlace;
-use crate::work::Work;
+use crate::work::{Meant, Work};
 use ftl_base::{Val, val_of, word_of};
 
 impl<W: Work> Cells<W> {
@@ -80,29 +80,6 @@ impl<W: Work> Cells<W> {
         self.read_at(hand, cell)
     }
 
-    /// Loads the cell of the next read, which the caller tells.
-    pub fn read_at(&self, hand: &mut Hand, cell: u32) -> Val
-        requires made { IsMadeBy (W.meaning self.now.1) self.now.0 hand.old }
-        requires working { CanRead (W.meaning self.now.1) hand.old.state.place }
-        requires cell { IsNextRead (W.meaning self.now.1) hand.old.state.place cell }
-        ensures table { hand.new.table ≡ hand.old.table }
-        ensures reached { IsStepOf hand.old.state hand.new.state }
-        ensures value { ReadAnswers (W.meaning self.now.1) hand.old.state.place result }
-        ensures step { ReadSteps hand.old.state hand.old.state.place (word_of_value result)
-            hand.new.state }
-    {
-        let HandPlace::Working { item, step, reads } = hand.place else {
-            unreachable!()
-        };
-        let word = self.load_cell(&mut hand.seat, item, step, reads, cell);
-        hand.place = HandPlace::Working {
-            item,
-            step,
-            reads: reads + 1,
-        };
-        val_of(word).unwrap()
-    }
-
     /// Stores the value in the step's target, and goes to the next step.
     pub fn fill(&self, hand: &mut Hand, val: Val)
         requires made { IsMadeBy (W.meaning self.now.1) self.now.0 hand.old }
@@ -116,26 +93,6 @@ impl<W: Work> Cells<W> {
         };
         let cell = self.work.target(item, step);
         self.fill_at(hand, cell, val);
-    }
-
-    /// Stores the value in the step's target, which the caller tells.
-    pub fn fill_at(&self, hand: &mut Hand, cell: u32, val: Val)
-        requires made { IsMadeBy (W.meaning self.now.1) self.now.0 hand.old }
-        requires working { CanFill (W.meaning self.now.1) hand.old.state.place val }
-        requires cell { IsNextTarget (W.meaning self.now.1) hand.old.state.place cell }
-        ensures table { hand.new.table ≡ hand.old.table }
-        ensures reached { IsStepOf hand.old.state hand.new.state }
-        ensures step { FillSteps hand.old.state hand.old.state.place hand.new.state }
-    {
-        let HandPlace::Working { item, step, .. } = hand.place else {
-            unreachable!()
-        };
-        self.store_cell(&mut hand.seat, item, step, cell, word_of(val));
-        hand.place = HandPlace::Working {
-            item,
-            step: step + 1,
-            reads: 0,
-        };
     }
 
     /// Marks the item as filled.
@@ -228,5 +185,51 @@ impl<W: Work> Cells<W> {
     {
         let Hand { seat, .. } = other;
         self.join(&mut hand.seat, seat);
+    }
+}
+
+// The steps whose cells the caller tells ask the work nothing.
+impl<W: Meant> Cells<W> {
+    /// Loads the cell of the next read, which the caller tells.
+    pub fn read_at(&self, hand: &mut Hand, cell: u32) -> Val
+        requires made { IsMadeBy (W.meaning self.now.1) self.now.0 hand.old }
+        requires working { CanRead (W.meaning self.now.1) hand.old.state.place }
+        requires cell { IsNextRead (W.meaning self.now.1) hand.old.state.place cell }
+        ensures table { hand.new.table ≡ hand.old.table }
+        ensures reached { IsStepOf hand.old.state hand.new.state }
+        ensures value { ReadAnswers (W.meaning self.now.1) hand.old.state.place result }
+        ensures step { ReadSteps hand.old.state hand.old.state.place (word_of_value result)
+            hand.new.state }
+    {
+        let HandPlace::Working { item, step, reads } = hand.place else {
+            unreachable!()
+        };
+        let word = self.load_cell(&mut hand.seat, item, step, reads, cell);
+        hand.place = HandPlace::Working {
+            item,
+            step,
+            reads: reads + 1,
+        };
+        val_of(word).unwrap()
+    }
+
+    /// Stores the value in the step's target, which the caller tells.
+    pub fn fill_at(&self, hand: &mut Hand, cell: u32, val: Val)
+        requires made { IsMadeBy (W.meaning self.now.1) self.now.0 hand.old }
+        requires working { CanFill (W.meaning self.now.1) hand.old.state.place val }
+        requires cell { IsNextTarget (W.meaning self.now.1) hand.old.state.place cell }
+        ensures table { hand.new.table ≡ hand.old.table }
+        ensures reached { IsStepOf hand.old.state hand.new.state }
+        ensures step { FillSteps hand.old.state hand.old.state.place hand.new.state }
+    {
+        let HandPlace::Working { item, step, .. } = hand.place else {
+            unreachable!()
+        };
+        self.store_cell(&mut hand.seat, item, step, cell, word_of(val));
+        hand.place = HandPlace::Working {
+            item,
+            step: step + 1,
+            reads: 0,
+        };
     }
 }

@@ -4,7 +4,7 @@ ghost use Rattle.ftl_cells.specs.Shape.{listed};
 ghost use Rattle.ftl_cells.specs.Chain.{chain};
 ghost use Rattle.ftl_cells.specs.State.{AreFirst};
 
-use crate::{CellKind, Work};
+use crate::{CellKind, Meant, Work};
 use ftl_base::{CodeStack, Val, add, word_of};
 use std::alloc::{AllocError, Global};
 
@@ -14,13 +14,15 @@ pub(crate) struct Chain {
     pub(crate) items: u8,
 }
 
-#[tactic(auto, using(crate::proofs::ChainLaws::chain_facts))]
-impl Work for Chain {
+impl Meant for Chain {
     ghost use Rattle.ftl_cells.specs.Shape.{listed};
     ghost use Rattle.ftl_cells.specs.Chain.{chain};
 
     ghost meaning = { λ w. listed (chain w.items) };
+}
 
+#[tactic(auto, using(crate::proofs::ChainLaws::chain_facts))]
+impl Work for Chain {
     fn items(&self) -> u32 {
         self.items as u32
     }

@@ -5,7 +5,7 @@ ghost use Rattle.ftl_cells.specs.Shape.{listed};
 ghost use Rattle.ftl_cells.specs.Lent.{lent};
 ghost use Rattle.ftl_cells.specs.State.{AreFirst};
 
-use crate::{CellKind, Work};
+use crate::{CellKind, Meant, Work};
 use ftl_base::{CodeStack, Val};
 use std::alloc::{AllocError, Global};
 
@@ -16,13 +16,15 @@ pub(crate) struct Lent<'a> {
     pub(crate) ghost few: { length numbers.now < 2 ^ 32 },
 }
 
-#[tactic(auto, using(crate::proofs::LentLaws::lent_facts))]
-impl<'a> Work for Lent<'a> {
+impl<'a> Meant for Lent<'a> {
     ghost use Rattle.ftl_cells.specs.Shape.{listed};
     ghost use Rattle.ftl_cells.specs.Lent.{lent};
 
     ghost meaning = { λ w. listed (lent w.numbers.now) };
+}
 
+#[tactic(auto, using(crate::proofs::LentLaws::lent_facts))]
+impl<'a> Work for Lent<'a> {
     fn items(&self) -> u32 {
         self.numbers.len() as u32
     }

@@ -12,10 +12,10 @@ returns g c =
     let seat = c.hand.inside.seat in
     let table = c.self.invariant.1 in
     let closed = c.close_with-closed.result in
-    subst (λ z. AreLast (g.W.Work.meaning z.1) c.copy_cells.new.words.items) c.self.view_is
-    (are_last (g.W.Work.meaning inside.work) table.lawful seat.id seat.me.0 (slots_items closed.words)
+    subst (λ z. AreLast (g.W.Meant.meaning z.1) c.copy_cells.new.words.items) c.self.view_is
+    (are_last (g.W.Meant.meaning inside.work) table.lawful seat.id seat.me.0 (slots_items closed.words)
     (slots_items closed.slots)
     (ap (λ h. h.state.place) c.hand.view_is ∙ c.requires.ended)
-    (subst (λ w. Final (Seen (Holds (g.W.Work.meaning w)) seat.id seat.me.0) (slots_items closed.words)
+    (subst (λ w. Final (Seen (Holds (g.W.Meant.meaning w)) seat.id seat.me.0) (slots_items closed.words)
     (slots_items closed.slots)) c.self.invariant.0 c.close_with-closed.ensures.values.2)
     c.cells-cells.result c.copy_cells.new.words.items c.cells-cells.ensures c.copy_cells.ensures)

@@ -6,9 +6,9 @@ use Rattle.ftl_cells.proofs.tests.runs.take_turns.Given as goal
 
 abbrev pub invariant-loop-item : goal.invariant-loop-item
 invariant-loop-item g l = record {
-  one : IsMadeBy (g.W.Work.meaning l.cells.1) l.cells.0 l.a;
-  two : IsMadeBy (g.W.Work.meaning l.cells.1) l.cells.0 l.b;
-  three : IsMadeBy (g.W.Work.meaning l.cells.1) l.cells.0 l.c;
+  one : IsMadeBy (g.W.Meant.meaning l.cells.1) l.cells.0 l.a;
+  two : IsMadeBy (g.W.Meant.meaning l.cells.1) l.cells.0 l.b;
+  three : IsMadeBy (g.W.Meant.meaning l.cells.1) l.cells.0 l.c;
   one_idle : l.a.state.place ≡ live Idle;
   two_idle : l.b.state.place ≡ live Idle;
   three_idle : l.c.state.place ≡ live Idle;

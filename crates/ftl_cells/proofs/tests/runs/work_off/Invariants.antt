@@ -6,6 +6,6 @@ use Rattle.ftl_cells.proofs.tests.runs.work_off.Given as goal
 
 abbrev pub invariant-loop : goal.invariant-loop
 invariant-loop g l = record {
-  made : IsMadeBy (g.W.Work.meaning l.cells.1) l.cells.0 l.hand;
+  made : IsMadeBy (g.W.Meant.meaning l.cells.1) l.cells.0 l.hand;
   idle : l.hand.state.place ≡ live Idle;
 }
