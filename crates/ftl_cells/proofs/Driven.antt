@@ -1,5 +1,5 @@
 -- A hand that is driven through an item makes reads and fills alone.
-use Rattle.std.proofs.Common.{◌≡◌, ℕ, inl, inr}
+use Rattle.std.proofs.Common.{◌≡◌, ℕ, inl, inr, ⊎_elim, refl, ap, ◌∙◌}
 use Rattle.ftl_model.specs.Values.{Value}
 use Rattle.ftl_cells.specs.Work.{Meaning}
 use Rattle.ftl_cells.specs.State.{Place, live, spent, HandState}
@@ -35,3 +35,18 @@ reads_one m v w n can one step = goes_on stays one (read_is_one m v v.place n w 
 pub fills_one : (m : Meaning) (v w : HandState) (x : Value) → CanFill m v.place x → IsStepOf v w
     → FillSteps v v.place w → Fills v w
 fills_one m v w x can one step = goes_on stays one (fill_is_one m v v.place x w can step)
+
+one_releases_none : (v : HandState) (p : Place) (w : HandState) → ReadsOrFills v p w → w.released ≡ v.released
+one_releases_none v (live Idle) w o = absurd o
+one_releases_none v (live (Looked item)) w o = absurd o
+one_releases_none v (live (Working item step reads)) w o = ⊎_elim (λ a. ap (λ h. h.released) a.1)
+    (λ e. ap (λ h. h.released) e) o
+one_releases_none v (live (Filled item)) w o = absurd o
+one_releases_none v (live (Sending item sent)) w o = absurd o
+one_releases_none v (live Ended) w o = absurd o
+one_releases_none v spent w o = absurd o
+
+-- reads and fills release no item
+pub fills_release_none : {v w : HandState} → Fills v w → w.released ≡ v.released
+fills_release_none stays = refl
+fills_release_none (goes_on {w} {x} a s o) = one_releases_none w w.place x o ∙ fills_release_none a

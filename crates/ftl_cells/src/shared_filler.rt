@@ -57,16 +57,18 @@ impl<'a, W: Meant> Filler for SharedFiller<'a, W> {
 }
 
 impl<W: Work> Cells<W> {
+    #[tactic(auto, using(crate::proofs::Driven::fills_release_none))]
     /// Fills all steps of the item that the hand claimed, as the work goes through them.
     pub fn fill_item(&self, hand: &mut Hand, reads: &mut Vec<Val>, stack: &mut CodeStack)
         requires made { IsMadeBy (W.meaning self.now.1) self.now.0 hand.old }
         requires claimed { CanStart hand.old.state.place }
         requires reads { (W.meaning self.now.1).max_reads ≤ vec_capacity reads.old }
         requires room { (W.meaning self.now.1).max_stack ≤ stack.old.room }
-        ensures table { hand.new.table ≡ hand.old.table }
+        ensures made { IsMadeBy (W.meaning self.now.1) self.now.0 hand.new }
         ensures steps { Fills hand.old.state hand.new.state }
         ensures filled { IsDoneFrom (W.meaning self.now.1) hand.old.state.place
             hand.new.state.place }
+        ensures released { hand.new.state.released ≡ hand.old.state.released }
         ensures reads { vec_capacity reads.old ≤ vec_capacity reads.new }
         ensures room { stack.new.room ≡ stack.old.room }
     {
