@@ -13,13 +13,16 @@ use std::marker::Model;
 pub struct Cells<W: Meant> {
     pub(crate) table: Table<u8, Told, W, Law, Global>,
     pub(crate) work: W,
+    /// The row that the table was made from, which `close` gives back.
+    pub(crate) row: Vec<u64>,
     /// Where the states and the counters of the items begin.
     pub(crate) states: usize,
     pub(crate) counters: usize,
 }
 
 impl<W: Meant> Model for Cells<W> {
-    ghost use Rattle.std.specs.Prelude.{◌≡◌};
+    ghost use Rattle.std.specs.Prelude.{◌≡◌, ◌≤◌, length};
+    ghost use Rattle.ftl_cells.specs.Work.{cell_total};
     ghost use Rattle.atomic_table.specs.Seated.{TableId};
     ghost use Rattle.ftl_cells.specs.Table.{IsTableOf};
 
@@ -28,7 +31,8 @@ impl<W: Meant> Model for Cells<W> {
     ghost view = { λ c. (c.table.shared.table_id, c.work) };
 
     ghost invariant = { λ c. (c.table.shared.key ≡ c.work)
-        × IsTableOf (W.meaning c.work) c.table.shared.table_id c.states c.counters };
+        × IsTableOf (W.meaning c.work) c.table.shared.table_id c.states c.counters
+        × (cell_total (W.meaning c.work) ≤ length c.row.items) };
 }
 
 impl<W: Meant> Cells<W> {
