@@ -18,5 +18,3 @@ pub mod Consequences
 pub mod Runs
 pub mod DiamondLaws
 pub mod Shapes
-pub mod ChainLaws
-pub mod LentLaws

@@ -6,7 +6,7 @@ use Rattle.std.specs.Prelude.{ℤ, pos, negsuc, ◌≤ℤ◌}
 
 word_of_number_pos : (n : ℤ) → least_number ≤ℤ n → word_of_number n ≢ 0
 word_of_number_pos (pos n) low z = omega arith
-word_of_number_pos (negsuc n) low z = let b : n ≤ 2147483647 = omega (arith, ints) in omega arith
+word_of_number_pos (negsuc n) low z = omega (arith, ints)
 
 pub word_of_value_pos : (v : Value) → IsValue v → word_of_value v ≢ 0
 word_of_value_pos (number n) h = word_of_number_pos n h.0

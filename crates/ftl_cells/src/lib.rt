@@ -18,8 +18,6 @@ mod place;
 mod rule;
 mod shared_filler;
 mod steps;
-#[cfg(test)]
-mod tests;
 mod work;
 
 pub use answer::{Claim, Deliver, Look};
