@@ -9,7 +9,7 @@ use lib.ListN.{get_elem?}
 use Rattle.atomic_table.proofs.Lists.{set_else}
 use Rattle.ftl_cells.specs.Count.{Counts}
 use Rattle.ftl_cells.specs.Work.{Meaning, cell_total, kind_at, item_total, next_at, target_of, solved_word, IsStep, IsNext, IsLawful}
-use Rattle.ftl_cells.specs.State.{split, join, Place, live, spent, HandState, newcomer, given_up, after, released_after, Sends, IsFree, Steps, finds_ready, finds_waiting, claims, misses, reads, fills, marks, sends, finishes, ends, finds_left, Makes, steps, splits, joins, IsOpening, first_word_of, Reached, begins, goes_on, end_word, cell_word, state_word, count_word, word_total}
+use Rattle.ftl_cells.specs.State.{split, Place, live, spent, HandState, newcomer, first_name, next_name, given_up, after, after_join, released_after, Sends, IsFree, Steps, finds_ready, finds_waiting, claims, misses, reads, fills, marks, sends, finishes, ends, finds_left, Makes, steps, splits, joins, IsOpening, first_word_of, Reached, begins, goes_on, end_word, cell_word, state_word, count_word, word_total}
 use Rattle.ftl_cells.specs.Kept.{Stage, hand_at, stage_of, Looks, Works, HasEnded, Has, IsInRange, CellHolds, Owes, IsUndone, AreReleased, IsKeptBy}
 use Rattle.ftl_cells.specs.declared.kind.CellKind.{CellKind}
 use Rattle.ftl_cells.specs.declared.kind.CellKind.TheVariants.{Given, Target, Later}
@@ -114,28 +114,28 @@ module _ (m : Meaning) (law : IsLawful m) (words : List ℕ) (hands : List HandS
       }
 
   -- a hand comes
-  pub hand_comes : IsKeptBy m words (hands ++ newcomer m ∷ [])
-  hand_comes =
+  pub hand_comes : (name : List ℕ) → IsKeptBy m words (hands ++ newcomer m name ∷ [])
+  hand_comes name =
       let rule = k.rule in
-      let all : List HandState = hands ++ newcomer m ∷ [] in
-      let is : hand_at (hands ++ newcomer m ∷ []) (length hands) ≡ newcomer m = snoc_here hands
-      (newcomer m) given_up in
+      let all : List HandState = hands ++ newcomer m name ∷ [] in
+      let is : hand_at (hands ++ newcomer m name ∷ []) (length hands) ≡ newcomer m name = snoc_here hands
+      (newcomer m name) given_up in
       let was : hand_at hands (length hands) ≡ given_up = past_end hands given_up (length hands) (omega arith) in
-      let other : (g : ℕ) → g ≢ length hands → hand_at (hands ++ newcomer m ∷ []) g ≡ hand_at hands g =
-      λ g ne. snoc_other hands (newcomer m) given_up g ne in
-      let each : (P : HandState → Type 0) → P (newcomer m) → (g : ℕ) → (g ≢ length hands → P (hand_at hands g)) → P
-      (hand_at (hands ++ newcomer m ∷ []) g) = λ P here g there. dite (ℕ_discrete g (length hands))
-      (λ e. subst (λ y. P (hand_at (hands ++ newcomer m ∷ []) y)) (sym e) (subst P (sym is) here))
+      let other : (g : ℕ) → g ≢ length hands → hand_at (hands ++ newcomer m name ∷ []) g ≡ hand_at hands g =
+      λ g ne. snoc_other hands (newcomer m name) given_up g ne in
+      let each : (P : HandState → Type 0) → P (newcomer m name) → (g : ℕ) → (g ≢ length hands → P (hand_at hands g)) → P
+      (hand_at (hands ++ newcomer m name ∷ []) g) = λ P here g there. dite (ℕ_discrete g (length hands))
+      (λ e. subst (λ y. P (hand_at (hands ++ newcomer m name ∷ []) y)) (sym e) (subst P (sym is) here))
       (λ ne. subst P (sym (other g ne)) (there ne)) in
       record {
         count = k.count;
-        rule = loads_keep m (stage_of m words hands) (λ g. (hand_at (hands ++ newcomer m ∷ []) g).place)
-            (λ g. (hand_at (hands ++ newcomer m ∷ []) g).released) rule
+        rule = loads_keep m (stage_of m words hands) (λ g. (hand_at (hands ++ newcomer m name ∷ []) g).place)
+            (λ g. (hand_at (hands ++ newcomer m name ∷ []) g).released) rule
             (λ g. dite (ℕ_discrete g (length hands))
-            (λ e. subst (λ y. Alike (hand_at hands y).place (hand_at (hands ++ newcomer m ∷ []) y).place) (sym e)
-            (subst (λ y. Alike y.place (hand_at (hands ++ newcomer m ∷ []) (length hands)).place) (sym was)
+            (λ e. subst (λ y. Alike (hand_at hands y).place (hand_at (hands ++ newcomer m name ∷ []) y).place) (sym e)
+            (subst (λ y. Alike y.place (hand_at (hands ++ newcomer m name ∷ []) (length hands)).place) (sym was)
             (subst (λ y. Alike spent y.place) (sym is) (alike_none spent (live Idle) (λ i w. w) (λ i w. w)))))
-            (λ ne. alike_self (hand_at hands g).place (hand_at (hands ++ newcomer m ∷ []) g).place
+            (λ ne. alike_self (hand_at hands g).place (hand_at (hands ++ newcomer m name ∷ []) g).place
             (ap (λ y. y.place) (other g ne))))
             (λ g. each (λ y. IsInRange m y.place) tt g (λ ne. rule.in_range g))
             (λ g. each (λ y. (i : ℕ) → Looks y.place i → get_or words (count_word m i) 0 ≡ 0) (λ i w. absurd w) g
@@ -330,11 +330,11 @@ kept_after m law words next hands more k (steps h v w after at step) = kept_step
     w step
 kept_after m law words next hands more k (splits h v at e) =
     hand_comes m law words (set hands h (after v v.place split end_word None))
-    (stays m law words hands k h v at (after v v.place split end_word None) refl refl)
+    (stays m law words hands k h v at (after v v.place split end_word None) refl refl) (next_name v)
 kept_after m law words next hands more k (joins h other v w ne at there f g) =
-    goes m law words (set hands h (after v v.place join end_word None))
-    (stays m law words hands k h v at (after v v.place join end_word None) refl refl) other w
-    (set_else hands h other (after v v.place join end_word None) ne ∙ there) g
+    goes m law words (set hands h (after_join v w))
+    (stays m law words hands k h v at (after_join v w) refl refl) other w
+    (set_else hands h other (after_join v w) ne ∙ there) g
 
 -- what a cell holds at the opening
 opening_holds : (q : CellKind) (n word : ℕ) → n ≡ first_word_of q word → CellHolds q n word
@@ -347,15 +347,15 @@ opening_empty q n word e f = f ∙ ap (λ y. first_word_of y word) e
 
 -- at the opening one hand is Idle and no other is there
 one_hand : (m : Meaning) (P : Place → Type 0) → P (live Idle) → P spent → (g : ℕ)
-    → P (hand_at (newcomer m ∷ []) g).place
+    → P (hand_at (newcomer m first_name ∷ []) g).place
 one_hand m P a b zero = a
 one_hand m P a b (suc g) = b
 
 pub kept_opening : (m : Meaning) → IsLawful m → (words : List ℕ) → IsOpening m words
-    → IsKeptBy m words (newcomer m ∷ [])
+    → IsKeptBy m words (newcomer m first_name ∷ [])
 kept_opening m law words o =
     let none : (P : Place → Type 0) → (P (live Idle) → ⊥) → (P spent → ⊥) → (g : ℕ) → P
-    (hand_at (newcomer m ∷ []) g).place → ⊥ = λ P a b g. one_hand m (λ p. P p → ⊥) a b g in
+    (hand_at (newcomer m first_name ∷ []) g).place → ⊥ = λ P a b g. one_hand m (λ p. P p → ⊥) a b g in
     record {
       count = o.count;
       rule = record {
@@ -370,8 +370,8 @@ kept_opening m law words o =
         working = λ h i j w. absurd (none (λ p. Works p i j) (λ x. x) (λ x. x) h w);
         sending = λ h i n w. absurd (none (λ p. Sends p i n) (λ x. x) (λ x. x) h w);
         alone = λ h g i a b. absurd (none (λ p. Has p i) (λ x. x) (λ x. x) h a);
-        counters = λ i l. subst (Counts (Owes m (stage_of m words (newcomer m ∷ [])) i) i) (sym (o.counters i l))
-            (same_count (λ p. IsNext m p i) (Owes m (stage_of m words (newcomer m ∷ [])) i)
+        counters = λ i l. subst (Counts (Owes m (stage_of m words (newcomer m first_name ∷ [])) i) i) (sym (o.counters i l))
+            (same_count (λ p. IsNext m p i) (Owes m (stage_of m words (newcomer m first_name ∷ [])) i)
             (λ p b next. record {
               next = next;
               waits = λ d. let y : get_or words
@@ -380,17 +380,17 @@ kept_opening m law words o =
             })
             (λ p b owes. owes.next)
             (law.preds i l));
-        end = subst (Counts (IsUndone (stage_of m words (newcomer m ∷ []))) (item_total m)) (sym o.end)
-            (all_of (IsUndone (stage_of m words (newcomer m ∷ []))) (item_total m)
+        end = subst (Counts (IsUndone (stage_of m words (newcomer m first_name ∷ []))) (item_total m)) (sym o.end)
+            (all_of (IsUndone (stage_of m words (newcomer m first_name ∷ []))) (item_total m)
             (λ p l. inl (λ z. let y : get_or words (state_word m p) 0 ≡ 0 = o.states p l in omega arith)));
         looked = λ h i w. absurd (none (λ p. Looks p i) (λ x. x) (λ x. x) h w);
         started = λ i l ne. absurd (ne (o.states i l));
         ended = λ h w. absurd (none HasEnded (λ x. x) (λ x. x) h w);
         released =
             λ h. elim
-            h as (λ y. AreReleased m (stage_of m words (newcomer m ∷ [])) (hand_at (newcomer m ∷ []) y).released) [
-              | zero ↦ none_released m (stage_of m words (newcomer m ∷ []))
-              | suc g ↦ none_released m (stage_of m words (newcomer m ∷ []))
+            h as (λ y. AreReleased m (stage_of m words (newcomer m first_name ∷ [])) (hand_at (newcomer m first_name ∷ []) y).released) [
+              | zero ↦ none_released m (stage_of m words (newcomer m first_name ∷ []))
+              | suc g ↦ none_released m (stage_of m words (newcomer m first_name ∷ []))
             ];
       };
     }

@@ -1,5 +1,5 @@
 -- Each kind of step, made on the table with the right word, is a step of the state.
-use Rattle.std.proofs.Common.{◌≡◌, ℕ, suc, ◌+◌, ◌-◌, ◌%◌, ◌^◌, ◌<◌, ◌≤◌, subst, refl, sym, ap, ◌∙◌, arith, List, [], ◌∷◌, ◌++◌, get_or, set, eqb}
+use Rattle.std.proofs.Common.{◌≡◌, ℕ, suc, ◌+◌, ◌-◌, ◌%◌, ◌^◌, ◌<◌, ◌≤◌, subst, refl, sym, ap, ◌∙◌, arith, List, get_or, set, eqb}
 use Rattle.std.specs.Prelude.{Some, None}
 use Rattle.std.proofs.lemmas.List.{set-get_or}
 use mathlib.Core.Logic.{dite}
@@ -10,10 +10,10 @@ use prog.Atomic.{either}
 use Rattle.atomic_table.specs.Table.{State, step, keeps, Allows, Splits, Joins}
 use Rattle.atomic_table.proofs.Lists.{set_here, set_else, exchanged}
 use Rattle.ftl_cells.specs.Work.{Meaning, item_total, next_total, next_at, step_total, target_of, read_total, read_of, solved_word, IsStep, IsLawful}
-use Rattle.ftl_cells.specs.State.{Place, live, HandState, newcomer, given_up, after, after_delivery, load_counter, claim, load_cell, store_cell, mark, delivery, split, join, Sends, IsFree, Steps, finds_ready, finds_waiting, claims, misses, reads, fills, marks, sends, finishes, ends, finds_left, Makes, steps, splits, joins, Reached, goes_on, end_word, cell_word, state_word, count_word}
+use Rattle.ftl_cells.specs.State.{Place, live, HandState, newcomer, next_name, given_up, after, after_join, after_delivery, load_counter, claim, load_cell, store_cell, mark, delivery, split, Sends, IsFree, Steps, finds_ready, finds_waiting, claims, misses, reads, fills, marks, sends, finishes, ends, finds_left, Makes, steps, splits, joins, Reached, goes_on, end_word, cell_word, state_word, count_word}
 use Rattle.ftl_cells.specs.Kept.{stage_of, Works, IsInRange, IsHalfFilled, IsKeptBy}
 use Rattle.ftl_cells.specs.Told.{Known, LookTold, LookTells, look_told, ClaimTold, ClaimTells, claim_told, ReadTells, read_told, FillTells, fill_told, MarkTells, mark_told, SendTold, SendTells, send_told, FinishTold, finish_told, LeftTold, left_told}
-use Rattle.ftl_cells.specs.Interleavings.{IsStepOf, IsSplitOf, IsJoinOf}
+use Rattle.ftl_cells.specs.Interleavings.{IsStepOf}
 use Rattle.ftl_cells.specs.declared.place.HandPlace.TheVariants.{Idle, Looked, Working, Filled, Ended}
 use Rattle.ftl_cells.proofs.Moves.{sends_has, has_one, sends_one}
 use Rattle.ftl_cells.proofs.Deliveries.{next_counter, end_counter}
@@ -254,23 +254,10 @@ module _ (n id : ℕ) (me : Known) (law : IsLawful me.0.of) where
       )))
 
 pub split_plays : (id : ℕ) (v : HandState) → v.place ≡ live Idle
-    → Splits (Holds v.of) id v (after v v.place split end_word None) (newcomer v.of)
+    → Splits (Holds v.of) id v (after v v.place split end_word None) (newcomer v.of (next_name v))
 split_plays id v idle s r at = goes_on r (splits id v at idle)
 
 pub join_plays : (id other : ℕ) (v w : HandState) → IsFree v.place → IsFree w.place
-    → Joins (Holds v.of) id v other w (after v v.place join end_word None) given_up
+    → Joins (Holds v.of) id v other w (after_join v w) given_up
 join_plays id other v w f g s r at ne there = goes_on r
-    (joins id other v w ne at (sym (set_else s.views id other (after v v.place join end_word None) ne) ∙ there) f g)
-
-pub split_is : (v w new : HandState) → v.place ≡ live Idle → w ≡ after v v.place split end_word None → new ≡ newcomer v.of
-    → IsSplitOf v w new
-split_is v w new idle e f words hands h at =
-    let one : HandState = after v v.place split end_word None in
-    subst (λ y. Makes v.of words hands words (set hands h y ++ new ∷ [])) (sym e)
-    (subst (λ y. Makes v.of words hands words (set hands h one ++ y ∷ [])) (sym f) (splits h v at idle))
-
-pub join_is : (v w gone : HandState) → IsFree v.place → IsFree gone.place → w ≡ after v v.place join end_word None
-    → IsJoinOf v w gone
-join_is v w gone f b e words hands h other apart at there = subst
-    (λ y. Makes v.of words hands words (set (set hands h y) other given_up)) (sym e)
-    (joins h other v gone apart at there f b)
+    (joins id other v w ne at (sym (set_else s.views id other (after_join v w) ne) ∙ there) f g)

@@ -7,7 +7,7 @@ use mathlib.Core.Option.{some}
 use native.Mathlib.Decide.{ℕ_discrete}
 use lib.ListN.{get_elem?}
 use Rattle.ftl_cells.specs.Work.{Meaning, cell_total, kind_at, item_total, solved_word, IsLawful}
-use Rattle.ftl_cells.specs.State.{Place, live, spent, HandState, newcomer, given_up, after, released_after, split, join, IsFree, Steps, finds_ready, finds_waiting, claims, misses, reads, fills, marks, sends, finishes, ends, finds_left, Makes, steps, splits, joins, goes_on, end_word, cell_word, state_word, claim, last_word_of}
+use Rattle.ftl_cells.specs.State.{Place, live, spent, HandState, newcomer, next_name, given_up, after, after_join, released_after, split, IsFree, Steps, finds_ready, finds_waiting, claims, misses, reads, fills, marks, sends, finishes, ends, finds_left, Makes, steps, splits, joins, goes_on, end_word, cell_word, state_word, claim, last_word_of}
 use Rattle.ftl_cells.specs.Kept.{hand_at, Looks, Works, HasEnded, IsInRange, IsKeptBy}
 use Rattle.ftl_cells.specs.Calls.{ClaimSteps, SendsOn}
 use Rattle.ftl_cells.specs.Interleavings.{LeadsTo, stays, goes_further, IsStepOf, AreReleasedOnce, WinsClaim}
@@ -108,12 +108,12 @@ module _ (m : Meaning) (law : IsLawful m) (words : List ℕ) (hands : List HandS
         let few : List HandState = set hands g (after v v.place split end_word None) in
         absurd (dite (ℕ_discrete h (length few))
         (λ q. subst (λ y. Works y.place i 0)
-        (ap (hand_at (few ++ newcomer m ∷ [])) q ∙ snoc_here few (newcomer m) given_up) works)
+        (ap (hand_at (few ++ newcomer m (next_name v) ∷ [])) q ∙ snoc_here few (newcomer m (next_name v)) given_up) works)
         (λ ne. one_other g v one at (λ w. free_works v.place (subst IsFree (sym e) tt) w)
-        (subst (λ y. Works y.place i 0) (snoc_other few (newcomer m) given_up h ne) works)))
+        (subst (λ y. Works y.place i 0) (snoc_other few (newcomer m (next_name v)) given_up h ne) works)))
     won next more (joins g other v w apart at there f b) works =
-        let one : HandState = after v v.place join end_word None in
-        let few : List HandState = set hands g (after v v.place join end_word None) in
+        let one : HandState = after_join v w in
+        let few : List HandState = set hands g (after_join v w) in
         let l : other < length few = omega (arith, length-set hands g one, elem_below hands other w there) in
         absurd (dite (ℕ_discrete h other)
         (λ q. subst (λ y. Works y.place i 0)

@@ -6,7 +6,7 @@ use prog.Atomic.{either}
 use Rattle.atomic_table.specs.Seated.{TableId}
 use Rattle.atomic_table.specs.Table.{step, Allows, Splits, Joins}
 use Rattle.ftl_cells.specs.Work.{Meaning, cell_total, item_total, next_total, next_at, step_total, target_of, read_total, read_of, solved_word, IsStep, IsLawful}
-use Rattle.ftl_cells.specs.State.{live, HandState, newcomer, given_up, after, split, join, Sends, IsFree, end_word}
+use Rattle.ftl_cells.specs.State.{live, HandState, newcomer, next_name, given_up, after, after_join, split, Sends, IsFree, end_word}
 use Rattle.ftl_cells.specs.Table.{IsTableOf}
 use Rattle.ftl_cells.specs.Told.{Known, look_told, claim_told, read_told, fill_told, mark_told, send_told, finish_told, left_told}
 use Rattle.ftl_cells.specs.declared.place.HandPlace.TheVariants.{Idle, Looked, Working}
@@ -124,19 +124,19 @@ module _ (said told laid : Meaning) (table : TableId) (states counters id : ℕ)
   )
 
   pub split_asks : me.0.place ≡ live Idle
-      → (0 < table.words) × Splits (Holds told) id me.0 (after me.0 me.0.place split end_word None) (newcomer me.0.of)
+      → (0 < table.words) × Splits (Holds told) id me.0 (after me.0 me.0.place split end_word None) (newcomer me.0.of (next_name me.0))
   split_asks idle = let h = here in (
     omega (arith, h.words),
     subst
-        (λ x. Splits (Holds x) id me.0 (after me.0 me.0.place split end_word None) (newcomer me.0.of)) same
+        (λ x. Splits (Holds x) id me.0 (after me.0 me.0.place split end_word None) (newcomer me.0.of (next_name me.0))) same
         (split_plays id me.0 idle),
   )
 
   pub join_asks : (other : ℕ) (w : HandState) → IsFree me.0.place → IsFree w.place
-      → (0 < table.words) × Joins (Holds told) id me.0 other w (after me.0 me.0.place join end_word None) given_up
+      → (0 < table.words) × Joins (Holds told) id me.0 other w (after_join me.0 w) given_up
   join_asks other w f g = let h = here in (
     omega (arith, h.words),
     subst
-        (λ x. Joins (Holds x) id me.0 other w (after me.0 me.0.place join end_word None) given_up) same
+        (λ x. Joins (Holds x) id me.0 other w (after_join me.0 w) given_up) same
         (join_plays id other me.0 w f g),
   )

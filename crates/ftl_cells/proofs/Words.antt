@@ -1,5 +1,5 @@
 -- The word of a value is not that of an empty cell.
-use Rattle.std.proofs.Common.{◌≢◌, ◌≤◌, arith}
+use Rattle.std.proofs.Common.{◌≢◌, arith}
 use Rattle.std.proofs.lemmas.Int.{ints}
 use Rattle.ftl_model.specs.Values.{Value, number, overflow, IsValue, word_of_value, word_of_number, least_number}
 use Rattle.std.specs.Prelude.{ℤ, pos, negsuc, ◌≤ℤ◌}

@@ -3,12 +3,12 @@ ghost use Rattle.std.specs.Prelude.{◌≡◌, ℕ, ◌<◌, ◌^◌, []};
 ghost use Rattle.ftl_model.specs.Values.{word_of_value};
 ghost use Rattle.ftl_cells.specs.Work.{IsStep, item_total, next_total, next_at, step_total};
 ghost use Rattle.ftl_cells.specs.Work.{target_of, read_total, read_of, solved_word};
-ghost use Rattle.ftl_cells.specs.State.{live, Sends, IsFree, newcomer, after, split, join};
-ghost use Rattle.ftl_cells.specs.State.{end_word};
+ghost use Rattle.ftl_cells.specs.State.{live, Sends, IsFree, newcomer, next_name, after};
+ghost use Rattle.ftl_cells.specs.State.{after_join, split, end_word};
 ghost use Rattle.ftl_cells.specs.Table.{IsSeatOf};
 ghost use Rattle.ftl_cells.specs.Told.{LookTold, ClaimTold, ReadTold, FillTold, MarkTold, SendTold};
 ghost use Rattle.ftl_cells.specs.Told.{FinishTold, LeftTold};
-ghost use Rattle.ftl_cells.specs.Interleavings.{IsStepOf, IsSplitOf, IsJoinOf};
+ghost use Rattle.ftl_cells.specs.Interleavings.{IsStepOf};
 ghost use Rattle.ftl_cells.specs.declared.place.HandPlace.TheVariants.{Idle, Looked, Working};
 ghost use Rattle.std.specs.Prelude.{None};
 
@@ -153,9 +153,8 @@ impl<W: Meant> Cells<W> {
         ensures table { seat.new.table_id ≡ seat.old.table_id }
         ensures kept { seat.new.me
             ≡ (after seat.old.me.0 seat.old.me.0.place split end_word None, seat.old.me.1) }
-        ensures reached { IsSplitOf seat.old.me.0 seat.new.me.0 result.me.0 }
         ensures made { result.table_id ≡ seat.old.table_id }
-        ensures newcomer { result.me ≡ (newcomer seat.old.me.0.of, []) }
+        ensures newcomer { result.me ≡ (newcomer seat.old.me.0.of (next_name seat.old.me.0), []) }
     {
         self.table.shared.split_seat::<SplitPlay>(seat)
     }
@@ -167,9 +166,8 @@ impl<W: Meant> Cells<W> {
         requires free { IsFree seat.old.me.0.place }
         requires other_free { IsFree other.me.0.place }
         ensures table { seat.new.table_id ≡ seat.old.table_id }
-        ensures reached { IsJoinOf seat.old.me.0 seat.new.me.0 other.me.0 }
         ensures kept { seat.new.me
-            ≡ (after seat.old.me.0 seat.old.me.0.place join end_word None, seat.old.me.1) }
+            ≡ (after_join seat.old.me.0 other.me.0, seat.old.me.1) }
     {
         self.table.shared.join_seat::<JoinPlay>(seat, other);
     }

@@ -4,7 +4,7 @@ ghost use Rattle.std.specs.Prelude.{vec_len};
 ghost use Rattle.std.specs.List.{range_with_len};
 ghost use Rattle.std.specs.Slots.{slots_items, slots_len, IsFull};
 ghost use Rattle.ftl_cells.specs.Work.{item_total, pred_total};
-ghost use Rattle.ftl_cells.specs.State.{live, newcomer, AreFirst, AreLast, opening_words};
+ghost use Rattle.ftl_cells.specs.State.{live, newcomer, first_name, AreFirst, AreLast, opening_words};
 ghost use Rattle.ftl_cells.specs.Calls.{IsMadeBy};
 ghost use Rattle.ftl_cells.specs.declared.place.HandPlace.TheVariants.{Ended};
 
@@ -25,7 +25,7 @@ impl<W: Work + Drop> Cells<W> {
         requires { AreFirst (W.meaning work) words.items }
         ensures work { IfOk result (λ r. r.0.1 ≡ work) }
         ensures made { IfOk result (λ r. IsMadeBy (W.meaning work) r.0.0 r.1) }
-        ensures new { IfOk result (λ r. r.1.state ≡ newcomer (W.meaning work)) }
+        ensures new { IfOk result (λ r. r.1.state ≡ newcomer (W.meaning work) first_name) }
     {
         build_row(&work, &mut words)?;
         let (table, seat) = Table::of_words(alloc, words.as_slice(), &work)?;

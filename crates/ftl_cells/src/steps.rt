@@ -2,12 +2,13 @@
 ghost use Rattle.std.specs.Prelude.{◌≡◌, ◌<◌, None};
 ghost use Rattle.ftl_model.specs.Values.{word_of_value};
 ghost use Rattle.ftl_cells.specs.Work.{item_total};
-ghost use Rattle.ftl_cells.specs.State.{live, IsFree, newcomer, after, split, join, end_word};
+ghost use Rattle.ftl_cells.specs.State.{live, IsFree, newcomer, next_name, after, after_join};
+ghost use Rattle.ftl_cells.specs.State.{split, end_word};
 ghost use Rattle.ftl_cells.specs.Calls.{IsMadeBy, CanClaim, CanRead, CanFill, CanMark, CanDeliver};
 ghost use Rattle.ftl_cells.specs.Calls.{IsNextRead, IsNextTarget};
 ghost use Rattle.ftl_cells.specs.Calls.{LookSteps, ClaimSteps, ReadAnswers, ReadSteps, FillSteps};
 ghost use Rattle.ftl_cells.specs.Calls.{MarkSteps, DeliverSteps, LeftSteps};
-ghost use Rattle.ftl_cells.specs.Interleavings.{IsStepOf, IsSplitOf, IsJoinOf};
+ghost use Rattle.ftl_cells.specs.Interleavings.{IsStepOf};
 ghost use Rattle.ftl_cells.specs.declared.place.HandPlace.TheVariants.{Idle, Looked, Working};
 
 use crate::answer::{Claim, Deliver, Look};
@@ -161,10 +162,10 @@ impl<W: Work> Cells<W> {
         requires made { IsMadeBy (W.meaning self.now.1) self.now.0 hand.old }
         requires idle { hand.old.state.place ≡ live Idle }
         ensures table { hand.new.table ≡ hand.old.table }
-        ensures reached { IsSplitOf hand.old.state hand.new.state result.state }
         ensures step { hand.new.state ≡ after hand.old.state (live Idle) split end_word None }
         ensures made { IsMadeBy (W.meaning self.now.1) self.now.0 result }
-        ensures new { result.state ≡ newcomer (W.meaning self.now.1) }
+        ensures new { result.state
+            ≡ newcomer (W.meaning self.now.1) (next_name hand.old.state) }
     {
         Hand {
             place: HandPlace::Idle,
@@ -179,9 +180,7 @@ impl<W: Work> Cells<W> {
         requires free { IsFree hand.old.state.place }
         requires other_free { IsFree other.state.place }
         ensures table { hand.new.table ≡ hand.old.table }
-        ensures reached { IsJoinOf hand.old.state hand.new.state other.state }
-        ensures step { hand.new.state
-            ≡ after hand.old.state hand.old.state.place join end_word None }
+        ensures step { hand.new.state ≡ after_join hand.old.state other.state }
     {
         let Hand { seat, .. } = other;
         self.join(&mut hand.seat, seat);

@@ -1,6 +1,5 @@
 use Rattle.std.proofs.Common.{ap, sym, ◌∙◌}
 use Rattle.ftl_cells.proofs.Seats.{join_asks}
-use Rattle.ftl_cells.proofs.Plays.{join_is}
 use Rattle.ftl_cells.proofs.cells.Cells.join.Goals as goal
 
 pub join_seat-requires : goal.join_seat-requires
@@ -19,7 +18,3 @@ join_seat-requires g c =
       asks.0,
       asks.1,
     )
-
-pub returns-clause-reached : goal.returns-clause-reached
-returns-clause-reached g c = join_is c.args.seat.now.me.0 c.join_seat.new.seat.me.0 c.args.other.me.0 c.requires.free
-    c.requires.other_free (ap (λ z. z.0) c.join_seat.ensures.2)

@@ -1,5 +1,5 @@
 use Rattle.std.proofs.Common.{◌∙◌, ap, sym, subst, arith, [], ◌∷◌, length}
-use Rattle.ftl_cells.specs.State.{Reached, begins, newcomer, opening_words}
+use Rattle.ftl_cells.specs.State.{Reached, begins, newcomer, first_name, opening_words}
 use Rattle.ftl_cells.proofs.Opening.{opening_is, table_is, length-opening_words}
 use Rattle.ftl_cells.proofs.cells.Cells.open.Goals as goal
 
@@ -7,7 +7,7 @@ pub of_words-requires : goal.of_words-requires
 of_words-requires g c =
     let m = g.W.Meant.meaning c.args.work in
     let rows = c.as_slice.ensures.value ∙ c.in_ok-build_row.ensures in
-    subst (λ ws. Reached (g.W.Meant.meaning c.args.work) ws (newcomer (g.W.Meant.meaning c.args.work) ∷ [])) (sym rows)
+    subst (λ ws. Reached (g.W.Meant.meaning c.args.work) ws (newcomer (g.W.Meant.meaning c.args.work) first_name ∷ [])) (sym rows)
     (begins (opening_words (g.W.Meant.meaning c.args.work) c.args.words.items)
     (opening_is (g.W.Meant.meaning c.args.work) c.args.words.items c.requires))
 
