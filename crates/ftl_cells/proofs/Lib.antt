@@ -12,6 +12,7 @@ pub mod Plays
 pub mod Seats
 pub mod Ready
 pub mod Driven
+pub mod Names
 pub mod Opening
 pub mod Closing
 pub mod Consequences

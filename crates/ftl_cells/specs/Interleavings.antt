@@ -3,7 +3,7 @@ use Rattle.std.specs.Prelude.{◌≡◌, ◌≢◌, ℕ, ◌<◌, List, length, 
 use Rattle.ftl_cells.specs.Work.{Meaning, cell_total, kind_at, item_total, step_total, target_of, read_total, read_of, solved_word, IsNext}
 use mathlib.Core.Option.{some}
 use lib.ListN.{get_elem?}
-use Rattle.ftl_cells.specs.State.{live, HandState, Makes, Reached, cell_word, state_word, last_word_of}
+use Rattle.ftl_cells.specs.State.{live, spent, HandState, Makes, Reached, cell_word, state_word, last_word_of}
 use Rattle.ftl_cells.specs.Kept.{hand_at}
 use Rattle.ftl_cells.specs.declared.place.HandPlace.TheVariants.{Looked, Working}
 
@@ -25,6 +25,10 @@ pub record IsStepOf (v w : HandState) : Type 0 where
   pub before : get_elem? hands hand ≡ some v
   pub made : Makes v.of words hands next more
   pub after : get_elem? more hand ≡ some w
+
+-- the hand was made, and was not given up
+abbrev pub IsThere : List HandState → ℕ → Type 0
+IsThere hands h = (hand_at hands h).place ≢ spent
 
 -- each of the items waits for others, and stands once in the list
 pub record AreReleasedOnce (m : Meaning) (items : List ℕ) : Type 0 where

@@ -1,15 +1,17 @@
 //! What holds over all interleavings of the steps of any number of hands, and of works that are
 //! given by functions.
-ghost use Rattle.std.specs.Prelude.{◌≡◌, ◌≢◌, ℕ, ◌<◌, true, List, length, slice_index};
+ghost use Rattle.std.specs.Prelude.{◌≡◌, ◌≢◌, ℕ, ◌<◌, true, List, [], ◌∷◌, ◌++◌, length};
+ghost use Rattle.std.specs.Prelude.{slice_index};
 ghost use Rattle.ftl_cells.specs.Work.{Meaning, IsLawful};
 ghost use Rattle.ftl_cells.specs.Shape.{Shape, IsLawfulShape, listed};
-ghost use Rattle.ftl_cells.specs.State.{live, HandState, Makes, Reached, end_word};
+ghost use Rattle.ftl_cells.specs.State.{live, HandState, newcomer, first_name, Makes, IsOpening};
+ghost use Rattle.ftl_cells.specs.State.{Reached, end_word};
 ghost use Rattle.ftl_cells.specs.Kept.{IsKeptBy, HasEnded, hand_at};
 ghost use Rattle.ftl_cells.specs.Calls.{ClaimSteps, SendsOn};
 ghost use Rattle.ftl_cells.specs.declared.place.HandPlace.TheVariants.{Looked};
 ghost use Rattle.ftl_cells.specs.declared.answer.Claim.TheVariants.{Mine};
 ghost use Rattle.ftl_cells.specs.Interleavings.{LeadsTo, WinsClaim, ReadsFindValues, IsStepOf};
-ghost use Rattle.ftl_cells.specs.Interleavings.{AreReleasedOnce};
+ghost use Rattle.ftl_cells.specs.Interleavings.{AreReleasedOnce, IsThere};
 ghost use Rattle.ftl_cells.specs.Interleavings.{FillsFindEmpty, ClaimsStay, AllFilled, HoldSolution};
 
 /// A work that is given by functions is lawful where they are.
@@ -97,4 +99,26 @@ pub fn items_are_released_once()
     ensures last { (v w : HandState) (item sent next k : ℕ) → IsLawful v.of → IsStepOf v w
         → SendsOn v item sent next true w → k < length v.released
         → slice_index v.released k ≢ next }
+{}
+
+/// Where the first hand has made no step, none was made: no other hand is there, and the words are
+/// those of the opening. `open` answers such a hand.
+pub fn the_first_hand_begins()
+    ensures words { (m : Meaning) (words : List ℕ) (hands : List HandState) (h : ℕ)
+        → Reached m words hands → hand_at hands h ≡ newcomer m first_name → IsOpening m words }
+    ensures alone { (m : Meaning) (words : List ℕ) (hands : List HandState) (h : ℕ)
+        → Reached m words hands → hand_at hands h ≡ newcomer m first_name
+        → hands ≡ newcomer m first_name ∷ [] }
+{}
+
+/// A hand that was not given up is the only one of its name, and each hand whose name goes on from
+/// that name stems from an earlier step of it. So a hand that has made no step has made no hand.
+pub fn hands_have_names()
+    ensures once { (m : Meaning) (words : List ℕ) (hands : List HandState) (h g : ℕ)
+        → Reached m words hands → IsThere hands h → IsThere hands g
+        → (hand_at hands h).name ≡ (hand_at hands g).name → h ≡ g }
+    ensures makers { (m : Meaning) (words : List ℕ) (hands : List HandState) (h g step : ℕ)
+        (rest : List ℕ) → Reached m words hands → IsThere hands h → IsThere hands g
+        → (hand_at hands g).name ≡ (hand_at hands h).name ++ step ∷ rest
+        → step < (hand_at hands h).count }
 {}
