@@ -5,15 +5,15 @@ use mathlib.Core.Logic.{dite}
 use native.Mathlib.Decide.{ℕ_discrete}
 use Rattle.std.proofs.lemmas.List.{get_or-set_same, get_or-set_other}
 use Rattle.atomic_table.specs.Table.{Final, Seen}
-use Rattle.ftl_cells.specs.Work.{Meaning, cell_total, kind_at, solved_word, IsLawful}
+use Rattle.ftl_cells.specs.Work.{Meaning, cell_total, kind_at, solved_word, IsLawfulWork}
 use Rattle.ftl_cells.specs.State.{live, HandState, AreLast, last_word_of}
-use Rattle.ftl_cells.specs.Kept.{stage_of, HasEnded}
+use Rattle.ftl_cells.specs.Kept.{stage_now, HasEnded}
 use Rattle.ftl_cells.specs.declared.place.HandPlace.TheVariants.{Ended}
 use Rattle.ftl_cells.proofs.KeptSteps.{kept, hand_is}
 use Rattle.ftl_cells.proofs.Found.{last_holds}
 use Rattle.ftl_cells.proofs.Plays.{Holds}
 
-module _ (m : Meaning) (law : IsLawful m) (id : ℕ) (v : HandState) (ws homes : List ℕ) (ended : v.place ≡ live Ended)
+module _ (m : Meaning) (law : IsLawfulWork m) (id : ℕ) (v : HandState) (ws homes : List ℕ) (ended : v.place ≡ live Ended)
     (final : Final (Seen (Holds m) id v) ws homes) where
   pub final_holds : (c : ℕ) → c < cell_total m → get_or ws (1 + c) 0 ≡ last_word_of (kind_at m c) (solved_word m c)
   final_holds c l =
@@ -24,7 +24,7 @@ module _ (m : Meaning) (law : IsLawful m) (id : ℕ) (v : HandState) (ws homes :
       (subst (λ y. HasEnded y.place) (sym (hand_is m law s.words s.views k id v final.1.1))
       (subst HasEnded (sym ended) tt)) in
       subst (λ x. get_or x (1 + c) 0 ≡ last_word_of (kind_at m c) (solved_word m c)) final.2
-      (last_holds m law (stage_of m s.words s.views) rule end c l)
+      (last_holds m law (stage_now m s.words s.views) rule end c l)
 
   pub are_last : (words : List ℕ) → length words ≡ cell_total m
       → ((c : ℕ) → c < length words → get_or words c 0 ≡ get_or ws (1 + c) 0) → AreLast m words

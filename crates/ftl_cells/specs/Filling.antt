@@ -6,14 +6,14 @@ use Rattle.ftl_cells.specs.Interleavings.{IsStepOf}
 use Rattle.ftl_cells.specs.declared.place.HandPlace.TheVariants.{Working}
 
 -- the place after one more read
-abbrev pub after_read : Place → Place
-after_read (live (Working item step reads)) = live (Working item step (reads + 1))
-after_read p = p
+abbrev pub place_after_read : Place → Place
+place_after_read (live (Working item step reads)) = live (Working item step (reads + 1))
+place_after_read p = p
 
 -- the place after a fill
-abbrev pub after_fill : Place → Place
-after_fill (live (Working item step reads)) = live (Working item (step + 1) 0)
-after_fill p = p
+abbrev pub place_after_fill : Place → Place
+place_after_fill (live (Working item step reads)) = live (Working item (step + 1) 0)
+place_after_fill p = p
 
 -- a load of the cell of the next read, or a store in the step's target, which was empty
 abbrev pub ReadsOrFills : HandState → Place → HandState → Type 0

@@ -1,7 +1,7 @@
 // Each kind of step, as one atomic instruction on a seat.
 ghost use Rattle.std.specs.Prelude.{◌≡◌, ℕ, ◌<◌, ◌^◌, []};
 ghost use Rattle.ftl_model.specs.Values.{word_of_value};
-ghost use Rattle.ftl_cells.specs.Work.{IsStep, item_total, next_total, next_at, step_total};
+ghost use Rattle.ftl_cells.specs.Work.{IsStepOfItem, item_total, next_total, next_at, step_total};
 ghost use Rattle.ftl_cells.specs.Work.{target_of, read_total, read_of, solved_word};
 ghost use Rattle.ftl_cells.specs.State.{live, Sends, IsFree, newcomer, next_name, after};
 ghost use Rattle.ftl_cells.specs.State.{after_join, split, end_word};
@@ -59,7 +59,7 @@ impl<W: Meant> Cells<W> {
     ) -> u64
         requires seat { IsSeatOf (W.meaning self.now.1) self.now.0 seat.old }
         requires working { seat.old.me.0.place ≡ live (Working _item _step _k) }
-        requires step { IsStep (W.meaning self.now.1) _item _step }
+        requires step { IsStepOfItem (W.meaning self.now.1) _item _step }
         requires place { _k < read_total (W.meaning self.now.1) _item _step }
         requires cell { cell ≡ read_of (W.meaning self.now.1) _item _step _k }
         ensures table { seat.new.table_id ≡ seat.old.table_id }
@@ -82,7 +82,7 @@ impl<W: Meant> Cells<W> {
         requires seat { IsSeatOf (W.meaning self.now.1) self.now.0 seat.old }
         requires working { seat.old.me.0.place
             ≡ live (Working _item _step (read_total (W.meaning self.now.1) _item _step)) }
-        requires step { IsStep (W.meaning self.now.1) _item _step }
+        requires step { IsStepOfItem (W.meaning self.now.1) _item _step }
         requires cell { cell ≡ target_of (W.meaning self.now.1) _item _step }
         requires word { word
             ≡ solved_word (W.meaning self.now.1) (target_of (W.meaning self.now.1) _item _step) }

@@ -12,7 +12,7 @@ impl Meant for Diamond {
     ghost meaning = { λ _. diamond };
 }
 
-#[tactic(auto, using(crate::proofs::DiamondLaws::diamond_is_lawful, crate::proofs::DiamondLaws::only_step), unfolding(crate::specs::Work::cell_total, crate::specs::Work::kind_at, crate::specs::Work::solution_at, crate::specs::Work::item_total, crate::specs::Work::pred_total, crate::specs::Work::next_total, crate::specs::Work::next_at, crate::specs::Work::step_total, crate::specs::Work::target_of, crate::specs::Work::reads_of))]
+#[tactic(auto, using(crate::proofs::DiamondLaws::diamond_is_lawful, crate::proofs::DiamondLaws::only_step), unfolding(crate::specs::Work::cell_total, crate::specs::Work::kind_at, crate::specs::Work::solution_at, crate::specs::Work::item_total, crate::specs::Work::pred_total, crate::specs::Work::next_total, crate::specs::Work::next_at, crate::specs::Work::step_total, crate::specs::Work::target_of, crate::specs::Work::reads_of_step))]
 impl Work for Diamond {
     fn items(&self) -> u32 {
         4

@@ -3,7 +3,7 @@ ghost use Rattle.std.specs.Prelude.{◌≡◌};
 ghost use Rattle.ftl_cells.specs.Work.{Meaning, solution_at};
 ghost use Rattle.ftl_cells.specs.State.{Place};
 ghost use Rattle.ftl_cells.specs.Calls.{CanRead, CanFill, IsNextRead, IsNextTarget};
-ghost use Rattle.ftl_cells.specs.Filling.{after_read, after_fill};
+ghost use Rattle.ftl_cells.specs.Filling.{place_after_read, place_after_fill};
 
 use ftl_base::Val;
 
@@ -29,7 +29,7 @@ pub trait Filler {
         ensures value { result ≡ solution_at (of self.old) cell }
         ensures fit { fit self.new }
         ensures of { of self.new ≡ of self.old }
-        ensures place { place self.new ≡ after_read (place self.old) }
+        ensures place { place self.new ≡ place_after_read (place self.old) }
         ensures keeps { keeps self.old self.new };
 
     /// Fills the step's target, and goes to the next step.
@@ -39,7 +39,7 @@ pub trait Filler {
         requires cell { IsNextTarget (of self.old) (place self.old) cell }
         ensures fit { fit self.new }
         ensures of { of self.new ≡ of self.old }
-        ensures place { place self.new ≡ after_fill (place self.old) }
+        ensures place { place self.new ≡ place_after_fill (place self.old) }
         ensures keeps { keeps self.old self.new };
 
     ghost keeps_self: { (f : Self) → keeps f f };

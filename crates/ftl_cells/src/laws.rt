@@ -2,8 +2,8 @@
 //! given by functions.
 ghost use Rattle.std.specs.Prelude.{◌≡◌, ◌≢◌, ℕ, ◌<◌, true, List, [], ◌∷◌, ◌++◌, length};
 ghost use Rattle.std.specs.Prelude.{slice_index};
-ghost use Rattle.ftl_cells.specs.Work.{Meaning, IsLawful};
-ghost use Rattle.ftl_cells.specs.Shape.{Shape, IsLawfulShape, listed};
+ghost use Rattle.ftl_cells.specs.Work.{Meaning, IsLawfulWork};
+ghost use Rattle.ftl_cells.specs.Shape.{WorkShape, IsLawfulWorkShape, listed};
 ghost use Rattle.ftl_cells.specs.State.{live, HandState, newcomer, first_name, Makes, IsOpening};
 ghost use Rattle.ftl_cells.specs.State.{Reached, end_word};
 ghost use Rattle.ftl_cells.specs.Kept.{IsKeptBy, HasEnded, hand_at};
@@ -16,27 +16,27 @@ ghost use Rattle.ftl_cells.specs.Interleavings.{FillsFindEmpty, ClaimsStay, AllF
 
 /// A work that is given by functions is lawful where they are.
 pub fn shapes_are_lawful()
-    ensures { (s : Shape) → IsLawfulShape s → IsLawful (listed s) }
+    ensures { (s : WorkShape) → IsLawfulWorkShape s → IsLawfulWork (listed s) }
 {}
 
 /// Between any two steps the rule is kept: the words of the cells and the states of all hands are
 /// always ones that steps lead to, since that is the rule of their table.
 pub fn rule_is_kept()
-    ensures { (m : Meaning) (words : List ℕ) (hands : List HandState) → IsLawful m
+    ensures { (m : Meaning) (words : List ℕ) (hands : List HandState) → IsLawfulWork m
         → Reached m words hands → IsKeptBy m words hands }
 {}
 
 /// Each step keeps the rule, and so does any number of steps.
 pub fn steps_keep_the_rule()
-    ensures one { (m : Meaning) (words next : List ℕ) (hands more : List HandState) → IsLawful m
+    ensures one { (m : Meaning) (words next : List ℕ) (hands more : List HandState) → IsLawfulWork m
         → IsKeptBy m words hands → Makes m words hands next more → IsKeptBy m next more }
-    ensures many { (m : Meaning) (words next : List ℕ) (hands more : List HandState) → IsLawful m
+    ensures many { (m : Meaning) (words next : List ℕ) (hands more : List HandState) → IsLawfulWork m
         → IsKeptBy m words hands → LeadsTo m words hands next more → IsKeptBy m next more }
 {}
 
 /// A read never finds its cell empty, but always the solution's word.
 pub fn reads_find_values()
-    ensures { (m : Meaning) (words : List ℕ) (hands : List HandState) → IsLawful m
+    ensures { (m : Meaning) (words : List ℕ) (hands : List HandState) → IsLawfulWork m
         → IsKeptBy m words hands → ReadsFindValues m words hands }
 {}
 
@@ -48,7 +48,7 @@ pub fn fills_find_empty_cells()
 
 /// However many steps follow, an item that was claimed is never free again.
 pub fn claims_stay()
-    ensures { (m : Meaning) (words next : List ℕ) (hands more : List HandState) → IsLawful m
+    ensures { (m : Meaning) (words next : List ℕ) (hands more : List HandState) → IsLawfulWork m
         → IsKeptBy m words hands → LeadsTo m words hands next more → ClaimsStay m words next }
 {}
 
@@ -56,7 +56,7 @@ pub fn claims_stay()
 /// hands come between: at most one claim of an item is won.
 pub fn claims_win_once()
     ensures { (m : Meaning) (first next later last : List ℕ) (all more many most : List HandState)
-        (h g i : ℕ) → IsLawful m → IsKeptBy m first all → WinsClaim m first all h i next more
+        (h g i : ℕ) → IsLawfulWork m → IsKeptBy m first all → WinsClaim m first all h i next more
         → LeadsTo m next more later many → WinsClaim m later many g i last most → ⊥ }
 {}
 
@@ -70,9 +70,9 @@ pub fn mine_wins_the_claim()
 /// Where the common end's counter is 0, each item was claimed and filled, and the cells hold the
 /// solution.
 pub fn end_means_all()
-    ensures items { (m : Meaning) (words : List ℕ) (hands : List HandState) → IsLawful m
+    ensures items { (m : Meaning) (words : List ℕ) (hands : List HandState) → IsLawfulWork m
         → IsKeptBy m words hands → slice_index words end_word ≡ 0 → AllFilled m words }
-    ensures cells { (m : Meaning) (words : List ℕ) (hands : List HandState) → IsLawful m
+    ensures cells { (m : Meaning) (words : List ℕ) (hands : List HandState) → IsLawfulWork m
         → IsKeptBy m words hands → slice_index words end_word ≡ 0 → HoldSolution m words }
 {}
 
@@ -85,18 +85,18 @@ pub fn ended_means_the_end()
 
 /// Where a step leaves its hand Ended, each item is filled then, and the cells hold the solution.
 pub fn ended_hands_saw_all()
-    ensures items { (v w : HandState) (step : IsStepOf v w) → IsLawful v.of → HasEnded w.place
+    ensures items { (v w : HandState) (step : IsStepOf v w) → IsLawfulWork v.of → HasEnded w.place
         → AllFilled v.of step.next }
-    ensures cells { (v w : HandState) (step : IsStepOf v w) → IsLawful v.of → HasEnded w.place
+    ensures cells { (v w : HandState) (step : IsStepOf v w) → IsLawfulWork v.of → HasEnded w.place
         → HoldSolution v.of step.next }
 {}
 
 /// After a step, the list of items that the hand released names none twice. So where a delivery is
 /// the last that an item waits for, the hand had not released it before.
 pub fn items_are_released_once()
-    ensures once { (v w : HandState) → IsLawful v.of → IsStepOf v w
+    ensures once { (v w : HandState) → IsLawfulWork v.of → IsStepOf v w
         → AreReleasedOnce v.of w.released }
-    ensures last { (v w : HandState) (item sent next k : ℕ) → IsLawful v.of → IsStepOf v w
+    ensures last { (v w : HandState) (item sent next k : ℕ) → IsLawfulWork v.of → IsStepOf v w
         → SendsOn v item sent next true w → k < length v.released
         → slice_index v.released k ≢ next }
 {}

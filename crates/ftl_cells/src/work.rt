@@ -1,5 +1,5 @@
 ghost use Rattle.std.specs.Prelude.{◌≡◌, ◌<◌, ◌≤◌, length, vec_capacity};
-ghost use Rattle.ftl_cells.specs.Work.{Meaning, IsLawful, IsStep, cell_total, kind_at, item_total};
+ghost use Rattle.ftl_cells.specs.Work.{Meaning, IsLawfulWork, IsStepOfItem, cell_total, kind_at, item_total};
 ghost use Rattle.ftl_cells.specs.Work.{pred_total, next_total, next_at, step_total, target_of};
 ghost use Rattle.ftl_cells.specs.Work.{read_total, read_of, solved_reads, solution_at};
 ghost use Rattle.ftl_cells.specs.State.{live};
@@ -22,7 +22,7 @@ pub trait Work: Meant + Sync {
         ensures count { result ≡ item_total (Self.meaning self.now) }
 
         // Each work is lawful.
-        ensures lawful { IsLawful (Self.meaning self.now) };
+        ensures lawful { IsLawfulWork (Self.meaning self.now) };
 
     fn cells(&self) -> u32
         ensures { result ≡ cell_total (Self.meaning self.now) };
@@ -52,16 +52,16 @@ pub trait Work: Meant + Sync {
 
     /// The cell that a step fills.
     fn target(&self, item: u32, step: u32) -> u32
-        requires { IsStep (Self.meaning self.now) item step }
+        requires { IsStepOfItem (Self.meaning self.now) item step }
         ensures { result ≡ target_of (Self.meaning self.now) item step };
 
     fn read_count(&self, item: u32, step: u32) -> u32
-        requires { IsStep (Self.meaning self.now) item step }
+        requires { IsStepOfItem (Self.meaning self.now) item step }
         ensures { result ≡ read_total (Self.meaning self.now) item step };
 
     /// The cells that a step reads, by place.
     fn read(&self, item: u32, step: u32, k: u32) -> u32
-        requires step { IsStep (Self.meaning self.now) item step }
+        requires step { IsStepOfItem (Self.meaning self.now) item step }
         requires place { k < read_total (Self.meaning self.now) item step }
         ensures { result ≡ read_of (Self.meaning self.now) item step k };
 
@@ -75,7 +75,7 @@ pub trait Work: Meant + Sync {
 
     /// The value that a step gives its target, from what it read.
     fn result(&self, item: u32, step: u32, reads: &[Val], stack: &mut CodeStack) -> Val
-        requires step { IsStep (Self.meaning self.now) item step }
+        requires step { IsStepOfItem (Self.meaning self.now) item step }
         requires reads { length reads.now ≡ read_total (Self.meaning self.now) item step }
         requires room { (Self.meaning self.now).max_stack ≤ stack.old.room }
 

@@ -6,13 +6,13 @@ use Rattle.std.proofs.lemmas.Bool.Decides.{nat_tests}
 use Rattle.std.proofs.lemmas.List.{get_or-replicate, length-replicate}
 use Rattle.ftl_model.specs.Values.{Value, number, sum_of, value_of, word_of_value}
 use Rattle.ftl_cells.specs.Count.{Counts, at_zero, counts_it}
-use Rattle.ftl_cells.specs.Work.{cell_total, kind_at, solution_at, item_total, pred_total, next_total, next_at, step_total, target_of, read_total, read_of, solved_reads, solved_word, IsStep, IsLawful}
+use Rattle.ftl_cells.specs.Work.{cell_total, kind_at, solution_at, item_total, pred_total, next_total, next_at, step_total, target_of, read_total, read_of, solved_reads, solved_word, IsStepOfItem, IsLawfulWork}
 use Rattle.ftl_cells.specs.State.{AreFirst, first_word_of}
-use Rattle.ftl_cells.specs.Shape.{listed, ComesNext, IsPassedCell, IsLawfulShape}
+use Rattle.ftl_cells.specs.Shape.{listed, ComesNext, IsPassedCell, IsLawfulWorkShape}
 use Rattle.ftl_cells_tests.specs.Chain.{chain, chain_kind}
 use Rattle.ftl_cells.specs.declared.kind.CellKind.TheVariants.{Given, Target}
 use Rattle.ftl_cells.proofs.Counting.{none_of}
-use Rattle.ftl_cells.proofs.Shapes.{cell_total-listed, kind_at-listed, solution_at-listed, item_total-listed, pred_total-listed, next_total-listed, next_at-listed, step_total-listed, target_of-listed, reads_of-listed, read_total-listed, read_of-listed, item_below, has_step, is_lawful}
+use Rattle.ftl_cells.proofs.Shapes.{cell_total-listed, kind_at-listed, solution_at-listed, item_total-listed, pred_total-listed, next_total-listed, next_at-listed, step_total-listed, target_of-listed, reads_of_step-listed, read_total-listed, read_of-listed, item_below, has_step, is_lawful}
 
 chain_counts : (n i : ℕ) → i < n → Counts (λ p. ComesNext (chain n) p i) i (min i 1)
 chain_counts n zero l = at_zero
@@ -42,7 +42,7 @@ chain_given : (c : ℕ) → chain_kind c ≡ Target → c ≢ 0
 chain_given zero e = cc
 chain_given (suc c) e = λ z. omega arith
 
-chain_shape : (n : ℕ) → n < 2 ^ 8 → IsLawfulShape (chain n)
+chain_shape : (n : ℕ) → n < 2 ^ 8 → IsLawfulWorkShape (chain n)
 chain_shape n few = record {
   values = λ c l. (omega (arith, ints), omega (arith, ints));
   next_in_range = λ i k l b. omega arith;
@@ -66,7 +66,7 @@ chain_shape n few = record {
   reads_counted = λ i j st. omega arith;
 }
 
-pub chain_is_lawful : (n : ℕ) → n < 2 ^ 8 → IsLawful (listed (chain n))
+pub chain_is_lawful : (n : ℕ) → n < 2 ^ 8 → IsLawfulWork (listed (chain n))
 chain_is_lawful n few = is_lawful (chain n) (chain_shape n few)
 
 pub chain_cells : (n : ℕ) → cell_total (listed (chain n)) ≡ n + 1
@@ -93,13 +93,13 @@ chain_next n i k l b = next_at-listed (chain n) i k (item_below (chain n) i l)
 pub chain_steps : (n i : ℕ) → i < item_total (listed (chain n)) → step_total (listed (chain n)) i ≡ 1
 chain_steps n i l = step_total-listed (chain n) i (item_below (chain n) i l)
 
-pub chain_targets : (n i j : ℕ) → IsStep (listed (chain n)) i j → target_of (listed (chain n)) i j ≡ i + 1
+pub chain_targets : (n i j : ℕ) → IsStepOfItem (listed (chain n)) i j → target_of (listed (chain n)) i j ≡ i + 1
 chain_targets n i j st = target_of-listed (chain n) i j (has_step (chain n) i j st)
 
-pub chain_read_count : (n i j : ℕ) → IsStep (listed (chain n)) i j → read_total (listed (chain n)) i j ≡ 1
+pub chain_read_count : (n i j : ℕ) → IsStepOfItem (listed (chain n)) i j → read_total (listed (chain n)) i j ≡ 1
 chain_read_count n i j st = read_total-listed (chain n) i j (has_step (chain n) i j st)
 
-pub chain_read : (n i j r : ℕ) → IsStep (listed (chain n)) i j → r < read_total (listed (chain n)) i j
+pub chain_read : (n i j r : ℕ) → IsStepOfItem (listed (chain n)) i j → r < read_total (listed (chain n)) i j
     → read_of (listed (chain n)) i j r ≡ i
 chain_read n i j r st b = read_of-listed (chain n) i j r (has_step (chain n) i j st)
     (subst (λ x. r < x) (chain_read_count n i j st) b)
@@ -116,14 +116,14 @@ value_in_range : (k : ℕ) → k < 300 → value_of (pos k) ≡ number (pos k)
 value_in_range k h = grind (arith, nat_tests)
 
 -- a step over the solution's value gives the next value
-pub chain_result : (n i j : ℕ) (a : Value) (reads : List Value) → n < 2 ^ 8 → IsStep (listed (chain n)) i j
+pub chain_result : (n i j : ℕ) (a : Value) (reads : List Value) → n < 2 ^ 8 → IsStepOfItem (listed (chain n)) i j
     → a ≡ get_or reads 0 a → reads ≡ solved_reads (listed (chain n)) i j
     → sum_of a (number (pos 1)) ≡ solution_at (listed (chain n)) (target_of (listed (chain n)) i j)
 chain_result n i j a reads few st one all =
     let st' = has_step (chain n) i j st in
     let l : i < n = st'.item in
     let read : reads ≡ solution_at (listed (chain n)) i ∷ [] = all ∙ ap (map (solution_at (listed (chain n))))
-    (reads_of-listed (chain n) i j st') in
+    (reads_of_step-listed (chain n) i j st') in
     let is : a ≡ number (pos i) = one ∙ ap (λ xs. get_or xs 0 a) read ∙ solution_at-listed (chain n) i
     (omega arith) in
     let sum : sum_of (number (pos i)) (number (pos 1)) ≡ number (pos (i + 1)) = value_in_range (i + 1)

@@ -5,17 +5,17 @@ use Rattle.std.proofs.lemmas.Int.{ints}
 use Rattle.std.proofs.lemmas.Bool.Decides.{nat_tests}
 use Rattle.std.proofs.lemmas.List.{get_or-replicate, length-replicate}
 use Rattle.ftl_model.specs.Values.{Value, number, value_of}
-use Rattle.ftl_cells.specs.Work.{cell_total, kind_at, solution_at, item_total, pred_total, next_total, step_total, target_of, read_total, solved_word, IsStep, IsLawful}
+use Rattle.ftl_cells.specs.Work.{cell_total, kind_at, solution_at, item_total, pred_total, next_total, step_total, target_of, read_total, solved_word, IsStepOfItem, IsLawfulWork}
 use Rattle.ftl_cells.specs.State.{live, AreFirst, first_word_of}
 use Rattle.ftl_cells.specs.Calls.{CanFill}
 use Rattle.ftl_cells.specs.declared.place.HandPlace.TheVariants.{Working}
-use Rattle.ftl_cells.specs.Shape.{listed, ComesNext, IsLawfulShape}
+use Rattle.ftl_cells.specs.Shape.{listed, ComesNext, IsLawfulWorkShape}
 use Rattle.ftl_cells_tests.specs.Lent.{lent}
 use Rattle.ftl_cells.specs.declared.kind.CellKind.TheVariants.{Target}
 use Rattle.ftl_cells.proofs.Counting.{none_of}
 use Rattle.ftl_cells.proofs.Shapes.{cell_total-listed, kind_at-listed, solution_at-listed, item_total-listed, pred_total-listed, next_total-listed, step_total-listed, target_of-listed, read_total-listed, item_below, has_step, is_lawful}
 
-lent_shape : (xs : List ℕ) → IsLawfulShape (lent xs)
+lent_shape : (xs : List ℕ) → IsLawfulWorkShape (lent xs)
 lent_shape xs = record {
   values = λ c l. (omega (arith, ints), omega (arith, ints));
   next_in_range = λ i k l b. absurd (omega arith);
@@ -34,7 +34,7 @@ lent_shape xs = record {
   reads_counted = λ i j st. omega arith;
 }
 
-pub lent_is_lawful : (xs : List ℕ) → IsLawful (listed (lent xs))
+pub lent_is_lawful : (xs : List ℕ) → IsLawfulWork (listed (lent xs))
 lent_is_lawful xs = is_lawful (lent xs) (lent_shape xs)
 
 pub lent_cells : (xs : List ℕ) → cell_total (listed (lent xs)) ≡ length xs
@@ -55,10 +55,10 @@ lent_next_count xs i l = next_total-listed (lent xs) i (item_below (lent xs) i l
 pub lent_steps : (xs : List ℕ) (i : ℕ) → i < item_total (listed (lent xs)) → step_total (listed (lent xs)) i ≡ 1
 lent_steps xs i l = step_total-listed (lent xs) i (item_below (lent xs) i l)
 
-pub lent_targets : (xs : List ℕ) (i j : ℕ) → IsStep (listed (lent xs)) i j → target_of (listed (lent xs)) i j ≡ i
+pub lent_targets : (xs : List ℕ) (i j : ℕ) → IsStepOfItem (listed (lent xs)) i j → target_of (listed (lent xs)) i j ≡ i
 lent_targets xs i j st = target_of-listed (lent xs) i j (has_step (lent xs) i j st)
 
-pub lent_read_count : (xs : List ℕ) (i j : ℕ) → IsStep (listed (lent xs)) i j → read_total (listed (lent xs)) i j ≡ 0
+pub lent_read_count : (xs : List ℕ) (i j : ℕ) → IsStepOfItem (listed (lent xs)) i j → read_total (listed (lent xs)) i j ≡ 0
 lent_read_count xs i j st = read_total-listed (lent xs) i j (has_step (lent xs) i j st)
 
 pub lent_most : (xs : List ℕ) → (listed (lent xs)).max_reads ≡ 0
@@ -69,10 +69,10 @@ pub lent_room : (xs : List ℕ) → (listed (lent xs)).max_stack ≡ 0
 unfolding listed
 lent_room xs = refl
 
-pub lent_below : (xs : List ℕ) (i j : ℕ) → IsStep (listed (lent xs)) i j → i < length xs
+pub lent_below : (xs : List ℕ) (i j : ℕ) → IsStepOfItem (listed (lent xs)) i j → i < length xs
 lent_below xs i j st = let st' = has_step (lent xs) i j st in st'.item
 
-pub lent_result : (xs : List ℕ) (i j : ℕ) → IsStep (listed (lent xs)) i j
+pub lent_result : (xs : List ℕ) (i j : ℕ) → IsStepOfItem (listed (lent xs)) i j
     → number (pos (min 255 (get_or xs i 0))) ≡ solution_at (listed (lent xs)) (target_of (listed (lent xs)) i j)
 lent_result xs i j st = sym (solution_at-listed (lent xs) i (lent_below xs i j st))
     ∙ ap (solution_at (listed (lent xs))) (sym (lent_targets xs i j st))
@@ -81,7 +81,7 @@ pub lent_can_fill : (xs : List ℕ) (i : ℕ) (v : Value) → i < item_total (li
     → v ≡ number (pos (min 255 (get_or xs i 0))) → CanFill (listed (lent xs)) (live (Working i 0 0)) v
 lent_can_fill xs i v l e =
     let one : 0 < step_total (listed (lent xs)) i = omega (arith, lent_steps xs i l) in
-    let st : IsStep (listed (lent xs)) i 0 = record { item = l; step = one } in
+    let st : IsStepOfItem (listed (lent xs)) i 0 = record { item = l; step = one } in
     (one, sym (lent_read_count xs i 0 st), e ∙ lent_result xs i 0 st)
 
 -- the words of its cells before are all 0

@@ -1,7 +1,7 @@
 -- A chain of items, for tests: each reads the cell that the one before it filled, and adds 1.
 use Rattle.std.specs.Prelude.{ℕ, zero, suc, ◌+◌, ◌-◌, min, pos}
 use Rattle.ftl_model.specs.Values.{number}
-use Rattle.ftl_cells.specs.Shape.{Shape}
+use Rattle.ftl_cells.specs.Shape.{WorkShape}
 use Rattle.ftl_cells.specs.declared.kind.CellKind.{CellKind}
 use Rattle.ftl_cells.specs.declared.kind.CellKind.TheVariants.{Given, Target}
 
@@ -10,7 +10,7 @@ chain_kind zero = Given
 chain_kind (suc c) = Target
 
 -- cell 0 is Given with 0, and item i fills the cell after i
-abbrev pub chain : ℕ → Shape
+abbrev pub chain : ℕ → WorkShape
 chain n = record {
   cells = n + 1;
   kind = chain_kind;

@@ -1,11 +1,11 @@
 -- Items that fill a cell each with a number of a list, for tests: none waits for another, and none reads.
 use Rattle.std.specs.Prelude.{ℕ, List, length, slice_index, min, pos}
 use Rattle.ftl_model.specs.Values.{number}
-use Rattle.ftl_cells.specs.Shape.{Shape}
+use Rattle.ftl_cells.specs.Shape.{WorkShape}
 use Rattle.ftl_cells.specs.declared.kind.CellKind.TheVariants.{Target}
 
 -- the numbers are at most 255
-abbrev pub lent : List ℕ → Shape
+abbrev pub lent : List ℕ → WorkShape
 lent numbers = record {
   cells = length numbers;
   kind = λ c. Target;
