@@ -13,6 +13,7 @@ pub mod Seats
 pub mod Ready
 pub mod Driven
 pub mod Names
+pub mod Preceded
 pub mod Opening
 pub mod Closing
 pub mod Consequences

@@ -2,7 +2,8 @@
 //! given by functions.
 ghost use Rattle.std.specs.Prelude.{◌≡◌, ◌≢◌, ℕ, ◌<◌, true, List, [], ◌∷◌, ◌++◌, length};
 ghost use Rattle.std.specs.Prelude.{slice_index};
-ghost use Rattle.ftl_cells.specs.Work.{Meaning, IsLawfulWork};
+ghost use Rattle.ftl_cells.specs.Work.{Meaning, IsLawfulWork, item_total, pred_total, next_total};
+ghost use Rattle.ftl_cells.specs.Work.{next_at};
 ghost use Rattle.ftl_cells.specs.Shape.{WorkShape, IsLawfulWorkShape, listed};
 ghost use Rattle.ftl_cells.specs.State.{live, HandState, newcomer, first_name, Makes, IsOpening};
 ghost use Rattle.ftl_cells.specs.State.{Reached, end_word};
@@ -17,6 +18,13 @@ ghost use Rattle.ftl_cells.specs.Interleavings.{FillsFindEmpty, ClaimsStay, AllF
 /// A work that is given by functions is lawful where they are.
 pub fn shapes_are_lawful()
     ensures { (s : WorkShape) → IsLawfulWorkShape s → IsLawfulWork (listed s) }
+{}
+
+/// An item in a list of next items has a predecessor, so it is none of those that may be taken at
+/// once.
+pub fn next_items_have_predecessors()
+    ensures { (m : Meaning) (item k : ℕ) → IsLawfulWork m → item < item_total m
+        → k < next_total m item → pred_total m (next_at m item k) ≢ 0 }
 {}
 
 /// Between any two steps the rule is kept: the words of the cells and the states of all hands are
