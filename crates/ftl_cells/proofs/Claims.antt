@@ -3,14 +3,14 @@ use Rattle.std.proofs.Common.{◌≡◌, ◌≢◌, ℕ, ◌<◌, inl, ⊎_elim,
 use mathlib.Core.Logic.{dite}
 use native.Mathlib.Decide.{ℕ_discrete}
 use Rattle.ftl_cells.specs.Count.{Counts}
-use Rattle.ftl_cells.specs.Work.{Meaning, cell_total, kind_at, item_total, target_of, solved_word, IsStep, IsLawful}
+use Rattle.ftl_cells.specs.Work.{Meaning, cell_total, kind_at, item_total, target_of, solved_word, IsStepOfItem, IsLawfulWork}
 use Rattle.ftl_cells.specs.State.{live, Sends}
-use Rattle.ftl_cells.specs.Kept.{Stage, Looks, Works, HasEnded, Has, CellHolds, IsHalfFilled, HasDelivered, Owes, IsUndone, AreReleased, IsKept}
+use Rattle.ftl_cells.specs.Kept.{Stage, Looks, Works, HasEnded, HasItem, CellHolds, IsHalfFilled, HasDelivered, Owes, IsUndone, AreReleased, IsKept}
 use Rattle.ftl_cells.specs.declared.place.HandPlace.TheVariants.{Looked, Working}
 use Rattle.ftl_cells.proofs.Counting.{same_count}
 use Rattle.ftl_cells.proofs.Moves.{Same, Puts, Turns, sends_has, works_has, looks_in_range, has_in_range, after_turn, old, new, range_after, half_same, delivered_same, owes_same, undone_same, released_same, held_state}
 
-module _ (m : Meaning) (law : IsLawful m) (s t : Stage) (h i : ℕ)
+module _ (m : Meaning) (law : IsLawfulWork m) (s t : Stage) (h i : ℕ)
     (turn : Turns s t h (live (Looked i)) (live (Working i 0 0))) (k : IsKept m s) where
   looks : Looks (s.place h) i
   looks = subst (λ x. Looks x i) (sym turn.was) refl
@@ -27,15 +27,15 @@ module _ (m : Meaning) (law : IsLawful m) (s t : Stage) (h i : ℕ)
   pub claims_keep : s.state i ≡ 0 → Same (cell_total m) s.cell t.cell → Puts (item_total m) s.state t.state i 1
       → Same (item_total m) s.counter t.counter → t.end ≡ s.end → ((g : ℕ) → t.released g ≡ s.released g) → IsKept m t
   claims_keep free cells states counters end released =
-      let target_same : (x n : ℕ) → IsStep m x n → t.cell (target_of m x n) ≡ s.cell (target_of m x n) =
+      let target_same : (x n : ℕ) → IsStepOfItem m x n → t.cell (target_of m x n) ≡ s.cell (target_of m x n) =
       λ x n st. cells (target_of m x n) (law.target_in_range x n st) in
       let half : IsHalfFilled m t i 0 = record {
         state = states.here;
         before = λ n a b. absurd (omega arith);
-        rest = λ n a b. let st : IsStep m i n = record { item = known; step = b } in target_same i n st
+        rest = λ n a b. let st : IsStepOfItem m i n = record { item = known; step = b } in target_same i n st
             ∙ k.free i n st free;
       } in
-      let alone_with : (g x : ℕ) → g ≢ h → Has (t.place g) x → Has (s.place g) x = λ g x ne. subst (λ p. Has p x)
+      let alone_with : (g x : ℕ) → g ≢ h → HasItem (t.place g) x → HasItem (s.place g) x = λ g x ne. subst (λ p. HasItem p x)
       (turn.others g ne) in
       let delivered_old : (x p : ℕ) → p < item_total m → HasDelivered m t p x → HasDelivered m s p x = λ x p l d. dite
       (ℕ_discrete p i)
@@ -85,11 +85,11 @@ module _ (m : Meaning) (law : IsLawful m) (s t : Stage) (h i : ℕ)
         alone = λ a b x u v. ⊎_elim
             (λ c. ⊎_elim (λ d. c.0 ∙ sym d.0)
             (λ d. absurd (held_state m s k b x d.1 (ap s.state (sym c.1) ∙ free)))
-            (after_turn s t h (live (Looked i)) (live (Working i 0 0)) turn (λ p. Has p x) b v))
+            (after_turn s t h (live (Looked i)) (live (Working i 0 0)) turn (λ p. HasItem p x) b v))
             (λ c. ⊎_elim (λ d. absurd (held_state m s k a x c.1 (ap s.state (sym d.1) ∙ free)))
             (λ d. k.alone a b x c.1 d.1)
-            (after_turn s t h (live (Looked i)) (live (Working i 0 0)) turn (λ p. Has p x) b v))
-            (after_turn s t h (live (Looked i)) (live (Working i 0 0)) turn (λ p. Has p x) a u);
+            (after_turn s t h (live (Looked i)) (live (Working i 0 0)) turn (λ p. HasItem p x) b v))
+            (after_turn s t h (live (Looked i)) (live (Working i 0 0)) turn (λ p. HasItem p x) a u);
         counters = λ x l. subst (Counts (Owes m t x) x) (sym (counters x l)) (same_count (Owes m s x) (Owes m t x)
             (λ p b o. owes_same m s t p x (delivered_old x p o.next.known) o)
             (λ p b o. owes_same m t s p x (delivered_new x p o.next.known) o)

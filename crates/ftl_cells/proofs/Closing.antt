@@ -1,17 +1,19 @@
 -- The words of a table at the end.
-use Rattle.std.proofs.Common.{◌≡◌, ℕ, ◌+◌, ◌<◌, subst, sym, ap, ◌∙◌, arith, List, [], ◌∷◌, ◌++◌, length, get_or, map}
-use Rattle.std.specs.List.{range_with_len}
-use Rattle.std.proofs.lemmas.List.FromFn.{length-map-range_with_len, get_or-map-range_with_len, map-range_with_len_more}
+use Rattle.std.proofs.Common.{◌≡◌, ℕ, ◌+◌, ◌<◌, subst, sym, ◌∙◌, arith, List, length, get_or}
+use Rattle.std.proofs.Math.ListN.{set}
+use mathlib.Core.Logic.{dite}
+use native.Mathlib.Decide.{ℕ_discrete}
+use Rattle.std.proofs.lemmas.List.{get_or-set_same, get_or-set_other}
 use Rattle.atomic_table.specs.Table.{Final, Seen}
-use Rattle.ftl_cells.specs.Work.{Meaning, cell_total, kind_at, solved_word, IsLawful}
+use Rattle.ftl_cells.specs.Work.{Meaning, cell_total, kind_at, solved_word, IsLawfulWork}
 use Rattle.ftl_cells.specs.State.{live, HandState, AreLast, last_word_of}
-use Rattle.ftl_cells.specs.Kept.{stage_of, HasEnded}
+use Rattle.ftl_cells.specs.Kept.{stage_now, HasEnded}
 use Rattle.ftl_cells.specs.declared.place.HandPlace.TheVariants.{Ended}
 use Rattle.ftl_cells.proofs.KeptSteps.{kept, hand_is}
 use Rattle.ftl_cells.proofs.Found.{last_holds}
 use Rattle.ftl_cells.proofs.Plays.{Holds}
 
-module _ (m : Meaning) (law : IsLawful m) (id : ℕ) (v : HandState) (ws homes : List ℕ) (ended : v.place ≡ live Ended)
+module _ (m : Meaning) (law : IsLawfulWork m) (id : ℕ) (v : HandState) (ws homes : List ℕ) (ended : v.place ≡ live Ended)
     (final : Final (Seen (Holds m) id v) ws homes) where
   pub final_holds : (c : ℕ) → c < cell_total m → get_or ws (1 + c) 0 ≡ last_word_of (kind_at m c) (solved_word m c)
   final_holds c l =
@@ -22,18 +24,20 @@ module _ (m : Meaning) (law : IsLawful m) (id : ℕ) (v : HandState) (ws homes :
       (subst (λ y. HasEnded y.place) (sym (hand_is m law s.words s.views k id v final.1.1))
       (subst HasEnded (sym ended) tt)) in
       subst (λ x. get_or x (1 + c) 0 ≡ last_word_of (kind_at m c) (solved_word m c)) final.2
-      (last_holds m law (stage_of m s.words s.views) rule end c l)
+      (last_holds m law (stage_now m s.words s.views) rule end c l)
 
-  pub are_last : (cells : ℕ) (words : List ℕ) → cells ≡ cell_total m
-      → words ≡ map (λ c. get_or ws (1 + c) 0) (range_with_len 0 cells) → AreLast m words
-  are_last cells words is e = record {
-    count = ap length e ∙ length-map-range_with_len (λ c. get_or ws (1 + c) 0) 0 cells ∙ is;
-    each = λ c l. ap (λ xs. get_or xs c 0) e ∙ get_or-map-range_with_len (λ c. get_or ws (1 + c) 0) 0 cells c c 0
-        (omega (arith, is)) (omega arith) ∙ final_holds c l;
+  pub are_last : (words : List ℕ) → length words ≡ cell_total m
+      → ((c : ℕ) → c < length words → get_or words c 0 ≡ get_or ws (1 + c) 0) → AreLast m words
+  are_last words count copied = record {
+    count = count;
+    each = λ c l. copied c (subst (λ n. c < n) (sym count) l) ∙ final_holds c l;
   }
 
 -- one more word copied
-pub copied_more : (f : ℕ → ℕ) (before after : List ℕ) (n x : ℕ) → before ≡ map f (range_with_len 0 n)
-    → after ≡ before ++ x ∷ [] → f n ≡ x → after ≡ map f (range_with_len 0 (n + 1))
-copied_more f before after n x e push is = push ∙ ap (λ ys. ys ++ x ∷ []) e ∙ ap
-    (λ y. map f (range_with_len 0 n) ++ y ∷ []) (sym is) ∙ sym (map-range_with_len_more f 0 n n (omega arith))
+pub copied_more : (ws before : List ℕ) (n x : ℕ) → n < length before
+    → ((c : ℕ) → c < n → get_or before c 0 ≡ get_or ws (1 + c) 0) → get_or ws (1 + n) 0 ≡ x
+    → (c : ℕ) → c < n + 1 → get_or (set before n x) c 0 ≡ get_or ws (1 + c) 0
+copied_more ws before n x room copied is c l = dite (ℕ_discrete c n)
+    (λ e. subst (λ k. get_or (set before n x) k 0 ≡ get_or ws (1 + k) 0) (sym e)
+    (get_or-set_same before n x 0 room ∙ sym is))
+    (λ ne. get_or-set_other before n c x 0 ne ∙ copied c (omega arith))

@@ -5,18 +5,18 @@ use mathlib.Core.Logic.{dite}
 use mathlib.Core.Option.{some}
 use native.Mathlib.Decide.{ℕ_discrete}
 use lib.ListN.{get_elem?}
-use Rattle.ftl_cells.specs.Work.{Meaning, cell_total, kind_at, item_total, next_at, step_total, target_of, read_total, read_of, solved_word, IsLawful}
+use Rattle.ftl_cells.specs.Work.{Meaning, cell_total, kind_at, item_total, next_at, step_total, target_of, read_total, read_of, solved_word, IsLawfulWork}
 use Rattle.ftl_cells.specs.State.{live, HandState, Steps, finds_ready, finds_waiting, claims, misses, reads, fills, marks, sends, finishes, ends, finds_left, Makes, steps, splits, joins, end_word, cell_word, state_word, count_word, last_word_of}
-use Rattle.ftl_cells.specs.Kept.{hand_at, stage_of, Works, HasEnded, IsInRange, IsHalfFilled, IsKeptBy}
+use Rattle.ftl_cells.specs.Kept.{hand_at, stage_now, Works, HasEnded, IsInRange, IsHalfFilled, IsKeptBy}
 use Rattle.ftl_cells.specs.declared.place.HandPlace.TheVariants.{Working}
 use Rattle.ftl_cells.proofs.KeptSteps.{range_of}
 use Rattle.ftl_cells.proofs.Found.{read_is, all_filled, last_holds}
 
-pub read_finds : (m : Meaning) (words : List ℕ) (hands : List HandState) (h i j r : ℕ) → IsLawful m
+pub read_finds : (m : Meaning) (words : List ℕ) (hands : List HandState) (h i j r : ℕ) → IsLawfulWork m
     → IsKeptBy m words hands → (hand_at hands h).place ≡ live (Working i j r) → j < step_total m i
     → r < read_total m i j
     → get_or words (cell_word (read_of m i j r)) 0 ≡ solved_word m (read_of m i j r)
-read_finds m words hands h i j r law k e b c = read_is m law (stage_of m words hands) k.rule h i j r
+read_finds m words hands h i j r law k e b c = read_is m law (stage_now m words hands) k.rule h i j r
     (subst (λ p. Works p i j) (sym e) (refl, refl)) b c
 
 pub fill_finds : (m : Meaning) (words : List ℕ) (hands : List HandState) (h i j r : ℕ) → IsKeptBy m words hands
@@ -24,11 +24,11 @@ pub fill_finds : (m : Meaning) (words : List ℕ) (hands : List HandState) (h i 
     → get_or words (cell_word (target_of m i j)) 0 ≡ 0
 fill_finds m words hands h i j r k e b =
     let rule = k.rule in
-    let half : IsHalfFilled m (stage_of m words hands) i j = rule.working h i j
+    let half : IsHalfFilled m (stage_now m words hands) i j = rule.working h i j
     (subst (λ p. Works p i j) (sym e) (refl, refl)) in
     half.rest j (omega arith) b
 
-module _ (m : Meaning) (law : IsLawful m) (words : List ℕ) (hands : List HandState) (k : IsKeptBy m words hands)
+module _ (m : Meaning) (law : IsLawfulWork m) (words : List ℕ) (hands : List HandState) (k : IsKeptBy m words hands)
     (i : ℕ) (l : i < item_total m) (ne : get_or words (state_word m i) 0 ≢ 0) where
   elsewhere : (a x : ℕ) → a ≢ state_word m i → get_or (set words a x) (state_word m i) 0 ≢ 0
   elsewhere a x apart z = ne (sym (get_or-set_other words a (state_word m i) x 0 (λ e. apart (sym e))) ∙ z)
@@ -66,14 +66,14 @@ module _ (m : Meaning) (law : IsLawful m) (words : List ℕ) (hands : List HandS
   claim_stays next more (splits h v at e) = ne
   claim_stays next more (joins h other v w apart at there f g) = ne
 
-pub end_tells : (m : Meaning) (words : List ℕ) (hands : List HandState) → IsLawful m → IsKeptBy m words hands
+pub end_tells : (m : Meaning) (words : List ℕ) (hands : List HandState) → IsLawfulWork m → IsKeptBy m words hands
     → get_or words end_word 0 ≡ 0 → (i : ℕ) → i < item_total m → get_or words (state_word m i) 0 ≡ 2
-end_tells m words hands law k z = all_filled m law (stage_of m words hands) k.rule z
+end_tells m words hands law k z = all_filled m law (stage_now m words hands) k.rule z
 
-pub end_holds : (m : Meaning) (words : List ℕ) (hands : List HandState) → IsLawful m → IsKeptBy m words hands
+pub end_holds : (m : Meaning) (words : List ℕ) (hands : List HandState) → IsLawfulWork m → IsKeptBy m words hands
     → get_or words end_word 0 ≡ 0 → (c : ℕ) → c < cell_total m
     → get_or words (cell_word c) 0 ≡ last_word_of (kind_at m c) (solved_word m c)
-end_holds m words hands law k z = last_holds m law (stage_of m words hands) k.rule z
+end_holds m words hands law k z = last_holds m law (stage_now m words hands) k.rule z
 
 pub ended_tells : (m : Meaning) (words : List ℕ) (hands : List HandState) (h : ℕ) → IsKeptBy m words hands
     → HasEnded (hand_at hands h).place → get_or words end_word 0 ≡ 0

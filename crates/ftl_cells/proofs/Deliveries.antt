@@ -4,9 +4,9 @@ use Rattle.std.proofs.lemmas.List.{get_or_append_left, get_or-append_right}
 use mathlib.Core.Logic.{dite}
 use native.Mathlib.Decide.{ℕ_discrete}
 use Rattle.ftl_cells.specs.Count.{Counts}
-use Rattle.ftl_cells.specs.Work.{Meaning, cell_total, kind_at, item_total, next_total, next_at, target_of, solved_word, IsStep, IsNext, IsLawful}
+use Rattle.ftl_cells.specs.Work.{Meaning, cell_total, kind_at, item_total, next_total, next_at, target_of, solved_word, IsStepOfItem, IsNext, IsLawfulWork}
 use Rattle.ftl_cells.specs.State.{Place, live, Sends, released_after}
-use Rattle.ftl_cells.specs.Kept.{Stage, Looks, Works, HasEnded, Has, CellHolds, HasDelivered, Owes, IsUndone, AreReleased, IsKept}
+use Rattle.ftl_cells.specs.Kept.{Stage, Looks, Works, HasEnded, HasItem, CellHolds, HasDelivered, Owes, IsUndone, AreReleased, IsKept}
 use Rattle.ftl_cells.specs.declared.place.HandPlace.TheVariants.{Idle, Sending}
 use Rattle.ftl_cells.proofs.Counting.{same_count, falls, some_left}
 use Rattle.ftl_cells.proofs.Moves.{Same, Puts, Turns, sends_has, works_has, has_one, sends_one, sends_or_works, looks_in_range, has_in_range, after_turn, before_turn, old, new, range_after, alone_after, half_same, delivered_same, owes_same, undone_same, released_same}
@@ -40,14 +40,14 @@ released_more m s xs x r known waits p next apart =
           (sym (before k d) ∙ e ∙ before l c)));
     }
 
-module _ (m : Meaning) (law : IsLawful m) (s : Stage) (h i n : ℕ) (sent : Sends (s.place h) i n)
+module _ (m : Meaning) (law : IsLawfulWork m) (s : Stage) (h i n : ℕ) (sent : Sends (s.place h) i n)
     (k : IsKept m s) where
   pub sender_known : i < item_total m
   sender_known = has_in_range m (s.place h) i (sends_has (s.place h) i n sent) (k.in_range h)
 
   -- no other hand has the item
-  only : (g x : ℕ) → g ≢ h → x ≡ i → Has (s.place g) x → ⊥
-  only g x ne e w = ne (k.alone g h i (subst (Has (s.place g)) e w) (sends_has (s.place h) i n sent))
+  only : (g x : ℕ) → g ≢ h → x ≡ i → HasItem (s.place g) x → ⊥
+  only g x ne e w = ne (k.alone g h i (subst (HasItem (s.place g)) e w) (sends_has (s.place h) i n sent))
 
   -- the next item still waits for this one
   pub next_waits : n < next_total m i → Owes m s (next_at m i n) i
@@ -63,7 +63,7 @@ module _ (m : Meaning) (law : IsLawful m) (s : Stage) (h i n : ℕ) (sent : Send
   pub end_counter : (l : ℕ) × (s.end ≡ suc l)
   end_counter = some_left (IsUndone s) i sender_known (inr (h, n, sent)) k.end
 
-module _ (m : Meaning) (law : IsLawful m) (s t : Stage) (h i n left : ℕ) (p : Place) (sent : Sends p i n)
+module _ (m : Meaning) (law : IsLawfulWork m) (s t : Stage) (h i n left : ℕ) (p : Place) (sent : Sends p i n)
     (turn : Turns s t h p (live (Sending i (n + 1)))) (k : IsKept m s) where
   sent_here : Sends (s.place h) i n
   sent_here = subst (λ x. Sends x i n) (sym turn.was) sent
@@ -104,7 +104,7 @@ module _ (m : Meaning) (law : IsLawful m) (s t : Stage) (h i n left : ℕ) (p : 
       → ((g : ℕ) → g ≢ h → t.released g ≡ s.released g) → IsKept m t
   sends_keep below was cells states counters end mine theirs =
       let next_known : next_at m i n < item_total m = law.next_in_range i n known below in
-      let target_same : (x c : ℕ) → IsStep m x c → t.cell (target_of m x c) ≡ s.cell (target_of m x c) =
+      let target_same : (x c : ℕ) → IsStepOfItem m x c → t.cell (target_of m x c) ≡ s.cell (target_of m x c) =
       λ x c st. cells (target_of m x c) (law.target_in_range x c st) in
       -- the counters that were 0 are 0
       let zero_same : (y : ℕ) → y < item_total m → s.counter y ≡ 0 → t.counter y ≡ 0 = λ y l z.
@@ -167,7 +167,7 @@ module _ (m : Meaning) (law : IsLawful m) (s t : Stage) (h i n left : ℕ) (p : 
             ∙ k.sending g x c b.1)
             (after_turn s t h p (live (Sending i (n + 1))) turn (λ q. Sends q x c) g w);
         alone = alone_after s t h p (live (Sending i (n + 1))) turn
-            (λ x w. subst (Has p) w (sends_has p i n sent)) k.alone;
+            (λ x w. subst (HasItem p) w (sends_has p i n sent)) k.alone;
         counters = λ x l. dite (ℕ_discrete x (next_at m i n))
             (λ e. subst (λ y. Counts (Owes m t y) y (t.counter y)) (sym e)
             (subst (Counts (Owes m t (next_at m i n)) (next_at m i n)) (left_is ∙ sym counters.here) fallen.2))
@@ -205,7 +205,7 @@ module _ (m : Meaning) (law : IsLawful m) (s t : Stage) (h i n left : ℕ) (p : 
             (released_same m s t zero_same (s.released g) (k.released g)));
       }
 
-module _ (m : Meaning) (law : IsLawful m) (s t : Stage) (h i n left : ℕ) (p : Place) (sent : Sends p i n)
+module _ (m : Meaning) (law : IsLawfulWork m) (s t : Stage) (h i n left : ℕ) (p : Place) (sent : Sends p i n)
     (turn : Turns s t h p (live Idle)) (k : IsKept m s) where
   was_here : Sends (s.place h) i n
   was_here = subst (λ x. Sends x i n) (sym turn.was) sent
@@ -238,7 +238,7 @@ module _ (m : Meaning) (law : IsLawful m) (s t : Stage) (h i n left : ℕ) (p : 
       → Same (item_total m) s.state t.state → Same (item_total m) s.counter t.counter → t.end ≡ left
       → ((g : ℕ) → t.released g ≡ s.released g) → IsKept m t
   finishes_keep done was cells states counters end released =
-      let target_same : (x c : ℕ) → IsStep m x c → t.cell (target_of m x c) ≡ s.cell (target_of m x c) =
+      let target_same : (x c : ℕ) → IsStepOfItem m x c → t.cell (target_of m x c) ≡ s.cell (target_of m x c) =
       λ x c st. cells (target_of m x c) (law.target_in_range x c st) in
       let delivered_old : (x q : ℕ) → q < item_total m → HasDelivered m t q x → HasDelivered m s q x = λ x q l d. dite
       (ℕ_discrete q i)

@@ -2,7 +2,7 @@
 use Rattle.std.proofs.Common.{◌≡◌, ℕ, zero, suc, ◌+◌, ◌^◌, ◌<◌, ◌≤◌, inl, inr, subst, refl, sym, arith, rules, List, [], ◌∷◌, get_or}
 use Rattle.ftl_model.specs.Values.{number, IsValue, word_of_value}
 use Rattle.ftl_cells.specs.Count.{Counts, at_zero, counts_it, skips_it}
-use Rattle.ftl_cells.specs.Work.{cell_total, kind_at, solution_at, item_total, pred_total, next_total, next_at, step_total, target_of, reads_of, read_total, read_of, solved_word, IsStep, IsNext, IsReadable, IsTargeted, IsLawful}
+use Rattle.ftl_cells.specs.Work.{cell_total, kind_at, solution_at, item_total, pred_total, next_total, next_at, step_total, target_of, reads_of_step, read_total, read_of, solved_word, IsStepOfItem, IsNext, IsReadable, IsTargeted, IsLawfulWork}
 use Rattle.ftl_cells.specs.State.{AreFirst, first_word_of}
 use Rattle.std.specs.Prelude.{pos}
 use Rattle.ftl_cells.specs.Diamond.{diamond}
@@ -31,15 +31,15 @@ one_step : (i : ℕ) → i < item_total diamond → step_total diamond i ≡ 1
 unfolding item_total step_total
 one_step i l = below4 (λ x. step_total diamond x ≡ 1) refl refl refl refl i l
 
-pub only_step : (i j : ℕ) → IsStep diamond i j → j ≡ 0
+pub only_step : (i j : ℕ) → IsStepOfItem diamond i j → j ≡ 0
 only_step i j st = let e = one_step i st.item in let b = st.step in omega arith
 
 -- what holds of the one step of each item holds of each step
-each_step : (P : ℕ → ℕ → Type 0) → P 0 0 → P 1 0 → P 2 0 → P 3 0 → (i j : ℕ) → IsStep diamond i j → P i j
+each_step : (P : ℕ → ℕ → Type 0) → P 0 0 → P 1 0 → P 2 0 → P 3 0 → (i j : ℕ) → IsStepOfItem diamond i j → P i j
 unfolding item_total
 each_step P a b c d i j st = subst (P i) (sym (only_step i j st)) (below4 (λ x. P x 0) a b c d i st.item)
 
-target_is : (i j : ℕ) → IsStep diamond i j → target_of diamond i j ≡ i + 1
+target_is : (i j : ℕ) → IsStepOfItem diamond i j → target_of diamond i j ≡ i + 1
 unfolding target_of
 target_is = each_step (λ i j. target_of diamond i j ≡ i + 1) refl refl refl refl
 
@@ -47,9 +47,9 @@ next_of : (p at i : ℕ) → p < 4 → at < next_total diamond p → next_at dia
 unfolding item_total
 next_of p at i l b e = record { known = l; at = at; below = b; is = e }
 
-step_of : (i : ℕ) → i < 4 → IsStep diamond i 0
+step_of : (i : ℕ) → i < 4 → IsStepOfItem diamond i 0
 unfolding item_total step_total
-step_of i l = below4 (λ x. IsStep diamond x 0) (record { item = omega arith; step = omega arith })
+step_of i l = below4 (λ x. IsStepOfItem diamond x 0) (record { item = omega arith; step = omega arith })
     (record { item = omega arith; step = omega arith }) (record { item = omega arith; step = omega arith })
     (record { item = omega arith; step = omega arith }) i l
 
@@ -82,13 +82,13 @@ each_next P a b c d i k l = below4 (λ x. (y : ℕ) → y < next_total diamond x
     (below2 (P 0) a b) (below1 (P 1) c) (below1 (P 2) d) (λ y h. absurd (omega arith)) i l k
 
 each_read : (P : ℕ → ℕ → ℕ → Type 0) → P 0 0 0 → P 1 0 0 → P 2 0 0 → P 3 0 0 → P 3 0 1 → (i j r : ℕ)
-    → IsStep diamond i j → r < read_total diamond i j → P i j r
-unfolding reads_of
+    → IsStepOfItem diamond i j → r < read_total diamond i j → P i j r
+unfolding reads_of_step
 each_read P a b c d e i j r st = each_step (λ x y. (z : ℕ) → z < read_total diamond x y → P x y z)
     (below1 (P 0 0) a) (below1 (P 1 0) b) (below1 (P 2 0) c) (below2 (P 3 0) d e) i j st r
 
-pub diamond_is_lawful : IsLawful diamond
-unfolding cell_total kind_at solution_at item_total pred_total next_total next_at step_total target_of reads_of
+pub diamond_is_lawful : IsLawfulWork diamond
+unfolding cell_total kind_at solution_at item_total pred_total next_total next_at step_total target_of reads_of_step
 diamond_is_lawful = record {
   solved = refl;
   values = λ c l. below5 (λ x. IsValue (solution_at diamond x)) (search rules) (search rules) (search rules)

@@ -3,15 +3,15 @@ use Rattle.std.proofs.Common.{◌≡◌, ◌≢◌, ℕ, ◌+◌, ◌<◌, inr, 
 use mathlib.Core.Logic.{dite}
 use native.Mathlib.Decide.{ℕ_discrete}
 use Rattle.ftl_cells.specs.Count.{Counts}
-use Rattle.ftl_cells.specs.Work.{Meaning, cell_total, kind_at, item_total, step_total, target_of, solution_at, solved_word, IsStep, IsLawful}
+use Rattle.ftl_cells.specs.Work.{Meaning, cell_total, kind_at, item_total, step_total, target_of, solution_at, solved_word, IsStepOfItem, IsLawfulWork}
 use Rattle.ftl_cells.specs.State.{live, Sends}
-use Rattle.ftl_cells.specs.Kept.{Stage, Looks, Works, HasEnded, Has, CellHolds, IsHalfFilled, Owes, IsUndone, AreReleased, IsKept}
+use Rattle.ftl_cells.specs.Kept.{Stage, Looks, Works, HasEnded, HasItem, CellHolds, IsHalfFilled, Owes, IsUndone, AreReleased, IsKept}
 use Rattle.ftl_cells.specs.declared.place.HandPlace.TheVariants.{Working}
 use Rattle.ftl_cells.proofs.Counting.{same_count}
 use Rattle.ftl_cells.proofs.Words.{word_of_value_pos}
 use Rattle.ftl_cells.proofs.Moves.{Same, Puts, Turns, sends_has, works_has, looks_in_range, has_in_range, after_turn, before_turn, old, new, range_after, alone_after, half_same, delivered_same, owes_same, undone_same, released_same, step_of}
 
-module _ (m : Meaning) (law : IsLawful m) (s t : Stage) (h i j r : ℕ)
+module _ (m : Meaning) (law : IsLawfulWork m) (s t : Stage) (h i j r : ℕ)
     (turn : Turns s t h (live (Working i j r)) (live (Working i (j + 1) 0))) (k : IsKept m s) where
   works : Works (s.place h) i j
   works = subst (λ x. Works x i j) (sym turn.was) (refl, refl)
@@ -25,7 +25,7 @@ module _ (m : Meaning) (law : IsLawful m) (s t : Stage) (h i j r : ℕ)
   -- only the hand that steps works on the item
   apart : (g x n : ℕ) → g ≢ h → Works (s.place g) x n → x ≢ i
   apart g x n ne w e = ne
-      (k.alone g h i (subst (Has (s.place g)) e (works_has (s.place g) x n w)) (works_has (s.place h) i j works))
+      (k.alone g h i (subst (HasItem (s.place g)) e (works_has (s.place g) x n w)) (works_has (s.place h) i j works))
 
   sends_old : (g x n : ℕ) → Sends (t.place g) x n → Sends (s.place g) x n
   sends_old g x n = old s t h (live (Working i j r)) (live (Working i (j + 1) 0)) turn (λ p. Sends p x n) (λ w. w) g
@@ -42,8 +42,8 @@ module _ (m : Meaning) (law : IsLawful m) (s t : Stage) (h i j r : ℕ)
       → Same (item_total m) s.state t.state → Same (item_total m) s.counter t.counter → t.end ≡ s.end
       → ((g : ℕ) → t.released g ≡ s.released g) → IsKept m t
   fills_keep below cells states counters end released =
-      let here : IsStep m i j = record { item = known; step = below } in
-      let target_same : (x n : ℕ) → IsStep m x n → target_of m x n ≢ target_of m i j → t.cell
+      let here : IsStepOfItem m i j = record { item = known; step = below } in
+      let target_same : (x n : ℕ) → IsStepOfItem m x n → target_of m x n ≢ target_of m i j → t.cell
       (target_of m x n) ≡ s.cell (target_of m x n) =
       λ x n st ne. cells.there (target_of m x n) (law.target_in_range x n st) ne in
       let not_empty : t.cell (target_of m i j) ≢ 0 = λ z. word_of_value_pos (solution_at m (target_of m i j))
@@ -53,10 +53,10 @@ module _ (m : Meaning) (law : IsLawful m) (s t : Stage) (h i j r : ℕ)
         state = states i known ∙ claimed;
         before = λ n a b. dite (ℕ_discrete n j)
             (λ e. subst (λ y. t.cell (target_of m i y) ≢ 0) (sym e) not_empty)
-            (λ ne z. let st : IsStep m i n = record { item = known; step = b } in
+            (λ ne z. let st : IsStepOfItem m i n = record { item = known; step = b } in
             half.before n (omega arith) b
             (sym (target_same i n st (λ e. ne (law.target_once i n i j st here e).1)) ∙ z));
-        rest = λ n a b. let st : IsStep m i n = record { item = known; step = b } in
+        rest = λ n a b. let st : IsStepOfItem m i n = record { item = known; step = b } in
             target_same i n st (λ e. let q : n ≡ j = (law.target_once i n i j st here e).1 in omega arith)
             ∙ half.rest n (omega arith) b;
       } in
@@ -89,7 +89,7 @@ module _ (m : Meaning) (law : IsLawful m) (s t : Stage) (h i j r : ℕ)
             (λ b. let l : x < item_total m = has_in_range m (s.place g) x (works_has (s.place g) x n b.1)
             (k.in_range g) in
             half_same m s t x n (states x l)
-            (λ y c. let st : IsStep m x y = record { item = l; step = c } in target_same x y st
+            (λ y c. let st : IsStepOfItem m x y = record { item = l; step = c } in target_same x y st
             (λ eq. apart g x n b.0 b.1 (law.target_once x y i j st here eq).0))
             (k.working g x n b.1))
             (after_turn s t h (live (Working i j r)) (live (Working i (j + 1) 0)) turn (λ p. Works p x n) g w);

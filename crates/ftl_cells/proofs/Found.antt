@@ -2,7 +2,7 @@
 use Rattle.std.proofs.Common.{◌≡◌, ◌≢◌, ℕ, ◌<◌, inl, inr, ⊎_elim, subst, refl, arith}
 use mathlib.Core.Logic.{dite}
 use native.Mathlib.Decide.{ℕ_discrete}
-use Rattle.ftl_cells.specs.Work.{Meaning, cell_total, kind_at, item_total, step_total, target_of, read_total, read_of, solved_word, IsStep, IsNext, IsOwn, IsHandedOn, IsLawful}
+use Rattle.ftl_cells.specs.Work.{Meaning, cell_total, kind_at, item_total, step_total, target_of, read_total, read_of, solved_word, IsStepOfItem, IsNext, IsOwn, IsHandedOn, IsLawfulWork}
 use Rattle.ftl_cells.specs.State.{Sends, last_word_of}
 use Rattle.ftl_cells.specs.Kept.{Stage, Works, CellHolds, IsHalfFilled, Owes, IsUndone, IsKept}
 use Rattle.ftl_cells.specs.declared.kind.CellKind.{CellKind}
@@ -10,12 +10,12 @@ use Rattle.ftl_cells.specs.declared.kind.CellKind.TheVariants.{Given, Target, La
 use Rattle.ftl_cells.proofs.Counting.{none_left}
 use Rattle.ftl_cells.proofs.Moves.{works_has, has_in_range}
 
-module _ (m : Meaning) (law : IsLawful m) (s : Stage) (k : IsKept m s) where
+module _ (m : Meaning) (law : IsLawfulWork m) (s : Stage) (k : IsKept m s) where
   given_holds : (c : ℕ) → c < cell_total m → kind_at m c ≡ Given → s.cell c ≡ solved_word m c
   given_holds c l e = subst (λ q. CellHolds q (s.cell c) (solved_word m c)) e (k.cells c l)
 
   -- a target that is not empty holds the solution's word
-  pub target_holds : (i j : ℕ) → IsStep m i j → s.cell (target_of m i j) ≢ 0
+  pub target_holds : (i j : ℕ) → IsStepOfItem m i j → s.cell (target_of m i j) ≢ 0
       → s.cell (target_of m i j) ≡ solved_word m (target_of m i j)
   target_holds i j st ne = ⊎_elim (λ z. absurd (ne z)) (λ e. e)
       (subst (λ q. CellHolds q (s.cell (target_of m i j)) (solved_word m (target_of m i j))) (law.target_kind i j st)
@@ -33,7 +33,7 @@ module _ (m : Meaning) (law : IsLawful m) (s : Stage) (k : IsKept m s) where
       → s.cell (read_of m i j r) ≡ solved_word m (read_of m i j r)
   read_is h i j r w b c =
       let l : i < item_total m = has_in_range m (s.place h) i (works_has (s.place h) i j w) (k.in_range h) in
-      let st : IsStep m i j = record { item = l; step = b } in
+      let st : IsStepOfItem m i j = record { item = l; step = b } in
       let half : IsHalfFilled m s i j = k.working h i j w in
       let P : ℕ → Type 0 = λ c. s.cell c ≡ solved_word m c in
       ⊎_elim (λ given. given_holds (read_of m i j r) (law.read_in_range i j r st c) given)
@@ -63,7 +63,7 @@ module _ (m : Meaning) (law : IsLawful m) (s : Stage) (k : IsKept m s) where
       (solved_word m c) = elim [
         | Given ↦ λ e h. h
         | Target ↦ λ e h. let t = law.each_target c l e in
-            let st : IsStep m t.item t.step = t.known in
+            let st : IsStepOfItem m t.item t.step = t.known in
             subst (λ y. s.cell y ≡ solved_word m y) t.is
             (target_holds t.item t.step st (k.full t.item t.step st (all_filled z t.item st.item)))
         | Later ↦ λ e h. h

@@ -8,9 +8,9 @@ use native.Mathlib.Decide.{ℕ_discrete}
 use lib.ListN.{get_elem?}
 use Rattle.atomic_table.proofs.Lists.{set_else}
 use Rattle.ftl_cells.specs.Count.{Counts}
-use Rattle.ftl_cells.specs.Work.{Meaning, cell_total, kind_at, item_total, next_at, target_of, solved_word, IsStep, IsNext, IsLawful}
-use Rattle.ftl_cells.specs.State.{split, join, Place, live, spent, HandState, newcomer, given_up, after, released_after, Sends, IsFree, Steps, finds_ready, finds_waiting, claims, misses, reads, fills, marks, sends, finishes, ends, finds_left, Makes, steps, splits, joins, IsOpening, first_word_of, Reached, begins, goes_on, end_word, cell_word, state_word, count_word, word_total}
-use Rattle.ftl_cells.specs.Kept.{Stage, hand_at, stage_of, Looks, Works, HasEnded, Has, IsInRange, CellHolds, Owes, IsUndone, AreReleased, IsKeptBy}
+use Rattle.ftl_cells.specs.Work.{Meaning, cell_total, kind_at, item_total, next_at, target_of, solved_word, IsStepOfItem, IsNext, IsLawfulWork}
+use Rattle.ftl_cells.specs.State.{split, Place, live, spent, HandState, newcomer, first_name, next_name, given_up, after, after_join, released_after, Sends, IsFree, Steps, finds_ready, finds_waiting, claims, misses, reads, fills, marks, sends, finishes, ends, finds_left, Makes, steps, splits, joins, IsOpening, first_word_of, Reached, begins, goes_on, end_word, cell_word, state_word, count_word, word_total}
+use Rattle.ftl_cells.specs.Kept.{Stage, hand_at, stage_now, Looks, Works, HasEnded, HasItem, IsInRange, CellHolds, Owes, IsUndone, AreReleased, IsKeptBy}
 use Rattle.ftl_cells.specs.declared.kind.CellKind.{CellKind}
 use Rattle.ftl_cells.specs.declared.kind.CellKind.TheVariants.{Given, Target, Later}
 use Rattle.ftl_cells.specs.declared.place.HandPlace.TheVariants.{Idle, Looked, Working, Filled, Sending, Ended}
@@ -51,7 +51,7 @@ module _ {A : Type 0} where
 
 -- places without an item
 abbrev pub HasNone : Place → Type 0
-HasNone p = (i : ℕ) → Has p i → ⊥
+HasNone p = (i : ℕ) → HasItem p i → ⊥
 
 pub free_has_none : (p : Place) → IsFree p → HasNone p
 free_has_none (live Idle) f i w = w
@@ -79,12 +79,12 @@ none_released m s = record {
   once = λ k l a b e. absurd (omega arith);
 }
 
-module _ (m : Meaning) (law : IsLawful m) (words : List ℕ) (hands : List HandState) (k : IsKeptBy m words hands) where
+module _ (m : Meaning) (law : IsLawfulWork m) (words : List ℕ) (hands : List HandState) (k : IsKeptBy m words hands) where
   -- one hand changes, and no word
   pub load_one : (h : ℕ) (v w : HandState) → get_elem? hands h ≡ some v → Alike v.place w.place → IsInRange m w.place
       → ((i : ℕ) → Looks w.place i → get_or words (count_word m i) 0 ≡ 0)
       → (HasEnded w.place → get_or words end_word 0 ≡ 0)
-      → AreReleased m (stage_of m words hands) w.released → IsKeptBy m words (set hands h w)
+      → AreReleased m (stage_now m words hands) w.released → IsKeptBy m words (set hands h w)
   load_one h v w at alike range looked ended released =
       let below = elem_below hands h v at in
       let was : hand_at hands h ≡ v = elem_is hands h v given_up at in
@@ -98,7 +98,7 @@ module _ (m : Meaning) (law : IsLawful m) (words : List ℕ) (hands : List HandS
       (λ ne. subst P (sym (other g ne)) (there ne)) in
       record {
         count = k.count;
-        rule = loads_keep m (stage_of m words hands) (λ g. (hand_at (set hands h w) g).place)
+        rule = loads_keep m (stage_now m words hands) (λ g. (hand_at (set hands h w) g).place)
             (λ g. (hand_at (set hands h w) g).released) rule
             (λ g. dite (ℕ_discrete g h)
             (λ e. subst (λ y. Alike (hand_at hands y).place (hand_at (set hands h w) y).place) (sym e)
@@ -110,39 +110,39 @@ module _ (m : Meaning) (law : IsLawful m) (words : List ℕ) (hands : List HandS
             (λ g. each (λ y. (i : ℕ) → Looks y.place i → get_or words (count_word m i) 0 ≡ 0) looked g
             (λ ne. rule.looked g))
             (λ g. each (λ y. HasEnded y.place → get_or words end_word 0 ≡ 0) ended g (λ ne. rule.ended g))
-            (λ g. each (λ y. AreReleased m (stage_of m words hands) y.released) released g (λ ne. rule.released g));
+            (λ g. each (λ y. AreReleased m (stage_now m words hands) y.released) released g (λ ne. rule.released g));
       }
 
   -- a hand comes
-  pub hand_comes : IsKeptBy m words (hands ++ newcomer m ∷ [])
-  hand_comes =
+  pub hand_comes : (name : List ℕ) → IsKeptBy m words (hands ++ newcomer m name ∷ [])
+  hand_comes name =
       let rule = k.rule in
-      let all : List HandState = hands ++ newcomer m ∷ [] in
-      let is : hand_at (hands ++ newcomer m ∷ []) (length hands) ≡ newcomer m = snoc_here hands
-      (newcomer m) given_up in
+      let all : List HandState = hands ++ newcomer m name ∷ [] in
+      let is : hand_at (hands ++ newcomer m name ∷ []) (length hands) ≡ newcomer m name = snoc_here hands
+      (newcomer m name) given_up in
       let was : hand_at hands (length hands) ≡ given_up = past_end hands given_up (length hands) (omega arith) in
-      let other : (g : ℕ) → g ≢ length hands → hand_at (hands ++ newcomer m ∷ []) g ≡ hand_at hands g =
-      λ g ne. snoc_other hands (newcomer m) given_up g ne in
-      let each : (P : HandState → Type 0) → P (newcomer m) → (g : ℕ) → (g ≢ length hands → P (hand_at hands g)) → P
-      (hand_at (hands ++ newcomer m ∷ []) g) = λ P here g there. dite (ℕ_discrete g (length hands))
-      (λ e. subst (λ y. P (hand_at (hands ++ newcomer m ∷ []) y)) (sym e) (subst P (sym is) here))
+      let other : (g : ℕ) → g ≢ length hands → hand_at (hands ++ newcomer m name ∷ []) g ≡ hand_at hands g =
+      λ g ne. snoc_other hands (newcomer m name) given_up g ne in
+      let each : (P : HandState → Type 0) → P (newcomer m name) → (g : ℕ) → (g ≢ length hands → P (hand_at hands g)) → P
+      (hand_at (hands ++ newcomer m name ∷ []) g) = λ P here g there. dite (ℕ_discrete g (length hands))
+      (λ e. subst (λ y. P (hand_at (hands ++ newcomer m name ∷ []) y)) (sym e) (subst P (sym is) here))
       (λ ne. subst P (sym (other g ne)) (there ne)) in
       record {
         count = k.count;
-        rule = loads_keep m (stage_of m words hands) (λ g. (hand_at (hands ++ newcomer m ∷ []) g).place)
-            (λ g. (hand_at (hands ++ newcomer m ∷ []) g).released) rule
+        rule = loads_keep m (stage_now m words hands) (λ g. (hand_at (hands ++ newcomer m name ∷ []) g).place)
+            (λ g. (hand_at (hands ++ newcomer m name ∷ []) g).released) rule
             (λ g. dite (ℕ_discrete g (length hands))
-            (λ e. subst (λ y. Alike (hand_at hands y).place (hand_at (hands ++ newcomer m ∷ []) y).place) (sym e)
-            (subst (λ y. Alike y.place (hand_at (hands ++ newcomer m ∷ []) (length hands)).place) (sym was)
+            (λ e. subst (λ y. Alike (hand_at hands y).place (hand_at (hands ++ newcomer m name ∷ []) y).place) (sym e)
+            (subst (λ y. Alike y.place (hand_at (hands ++ newcomer m name ∷ []) (length hands)).place) (sym was)
             (subst (λ y. Alike spent y.place) (sym is) (alike_none spent (live Idle) (λ i w. w) (λ i w. w)))))
-            (λ ne. alike_self (hand_at hands g).place (hand_at (hands ++ newcomer m ∷ []) g).place
+            (λ ne. alike_self (hand_at hands g).place (hand_at (hands ++ newcomer m name ∷ []) g).place
             (ap (λ y. y.place) (other g ne))))
             (λ g. each (λ y. IsInRange m y.place) tt g (λ ne. rule.in_range g))
             (λ g. each (λ y. (i : ℕ) → Looks y.place i → get_or words (count_word m i) 0 ≡ 0) (λ i w. absurd w) g
             (λ ne. rule.looked g))
             (λ g. each (λ y. HasEnded y.place → get_or words end_word 0 ≡ 0) (λ w. absurd w) g (λ ne. rule.ended g))
-            (λ g. each (λ y. AreReleased m (stage_of m words hands) y.released)
-            (none_released m (stage_of m words hands)) g (λ ne. rule.released g));
+            (λ g. each (λ y. AreReleased m (stage_now m words hands) y.released)
+            (none_released m (stage_now m words hands)) g (λ ne. rule.released g));
       }
 
   -- what a hand and its step say of the stage
@@ -153,12 +153,12 @@ module _ (m : Meaning) (law : IsLawful m) (words : List ℕ) (hands : List HandS
     pub range_of : IsInRange m v.place
     range_of = let rule = k.rule in subst (λ y. IsInRange m y.place) hand_is (rule.in_range h)
 
-    pub released_of : AreReleased m (stage_of m words hands) v.released
-    released_of = let rule = k.rule in subst (λ y. AreReleased m (stage_of m words hands) y.released) hand_is
+    pub released_of : AreReleased m (stage_now m words hands) v.released
+    released_of = let rule = k.rule in subst (λ y. AreReleased m (stage_now m words hands) y.released) hand_is
         (rule.released h)
 
     pub turns : (next : List ℕ) (w : HandState) (p : Place) → v.place ≡ p
-        → Turns (stage_of m words hands) (stage_of m next (set hands h w)) h p w.place
+        → Turns (stage_now m words hands) (stage_now m next (set hands h w)) h p w.place
     turns next w p e = record {
       was = ap (λ y. y.place) hand_is ∙ e;
       is = ap (λ y. y.place) (get_or-set_same hands h w given_up (elem_below hands h v at));
@@ -199,8 +199,8 @@ module _ (m : Meaning) (law : IsLawful m) (words : List ℕ) (hands : List HandS
         let l : i < item_total m = subst (IsInRange m) e range_of in
         record {
           count = put_count (state_word m i) 1;
-          rule = claims_keep m law (stage_of m words hands)
-              (stage_of m (set words (state_word m i) 1) (set hands h w)) h i
+          rule = claims_keep m law (stage_now m words hands)
+              (stage_now m (set words (state_word m i) 1) (set hands h w)) h i
               (turns (set words (state_word m i) 1) w (live (Looked i)) e) rule z
               (λ c b. put_there (state_word m i) 1 (cell_word c) (λ q. omega arith))
               (record {
@@ -231,12 +231,12 @@ module _ (m : Meaning) (law : IsLawful m) (words : List ℕ) (hands : List HandS
     kept_step next w (fills i j r e b c) =
         let rule = k.rule in
         let range : IsInRange m (live (Working i j r)) = subst (IsInRange m) e range_of in
-        let st : IsStep m i j = record { item = range.0; step = b } in
+        let st : IsStepOfItem m i j = record { item = range.0; step = b } in
         let l : target_of m i j < cell_total m = law.target_in_range i j st in
         record {
           count = put_count (cell_word (target_of m i j)) (solved_word m (target_of m i j));
-          rule = fills_keep m law (stage_of m words hands)
-              (stage_of m (set words (cell_word (target_of m i j)) (solved_word m (target_of m i j))) (set hands h w))
+          rule = fills_keep m law (stage_now m words hands)
+              (stage_now m (set words (cell_word (target_of m i j)) (solved_word m (target_of m i j))) (set hands h w))
               h i j r (turns (set words (cell_word (target_of m i j)) (solved_word m (target_of m i j))) w
               (live (Working i j r)) e) rule b
               (record {
@@ -258,7 +258,7 @@ module _ (m : Meaning) (law : IsLawful m) (words : List ℕ) (hands : List HandS
         let l : i < item_total m = range.0 in
         record {
           count = put_count (state_word m i) 2;
-          rule = marks_keep m law (stage_of m words hands) (stage_of m (set words (state_word m i) 2) (set hands h w))
+          rule = marks_keep m law (stage_now m words hands) (stage_now m (set words (state_word m i) 2) (set hands h w))
               h i j r (turns (set words (state_word m i) 2) w (live (Working i j r)) e) rule b
               (λ c b. put_there (state_word m i) 2 (cell_word c) (λ q. omega arith))
               (record {
@@ -277,8 +277,8 @@ module _ (m : Meaning) (law : IsLawful m) (words : List ℕ) (hands : List HandS
         let a : ℕ = count_word m (next_at m i n) in
         record {
           count = put_count (count_word m (next_at m i n)) left;
-          rule = sends_keep m law (stage_of m words hands)
-              (stage_of m (set words (count_word m (next_at m i n)) left) (set hands h w)) h i n left v.place e
+          rule = sends_keep m law (stage_now m words hands)
+              (stage_now m (set words (count_word m (next_at m i n)) left) (set hands h w)) h i n left v.place e
               (turns (set words (count_word m (next_at m i n)) left) w v.place refl) rule b z
               (λ c b. put_there (count_word m (next_at m i n)) left (cell_word c) (λ q. omega arith))
               (λ x b. put_there (count_word m (next_at m i n)) left (state_word m x) (λ q. omega arith))
@@ -296,8 +296,8 @@ module _ (m : Meaning) (law : IsLawful m) (words : List ℕ) (hands : List HandS
         let rule = k.rule in
         record {
           count = put_count end_word left;
-          rule = finishes_keep m law (stage_of m words hands)
-              (stage_of m (set words end_word left) (set hands h w)) h i n left v.place e
+          rule = finishes_keep m law (stage_now m words hands)
+              (stage_now m (set words end_word left) (set hands h w)) h i n left v.place e
               (turns (set words end_word left) w v.place refl) rule b z
               (λ c b. put_there end_word left (cell_word c) (λ q. omega arith))
               (λ x b. put_there end_word left (state_word m x) (λ q. omega arith))
@@ -318,23 +318,23 @@ module _ (m : Meaning) (law : IsLawful m) (words : List ℕ) (hands : List HandS
         (subst (IsInRange m) (sym e) range_of)
         (λ i q. rule.looked h i (subst (λ y. Looks y.place i) (sym hand_is) (subst (λ y. Looks y i) e q)))
         (λ q. rule.ended h (subst (λ y. HasEnded y.place) (sym hand_is) (subst HasEnded e q)))
-        (subst (AreReleased m (stage_of m words hands)) (sym f) released_of)
+        (subst (AreReleased m (stage_now m words hands)) (sym f) released_of)
 
     pub goes : IsFree v.place → IsKeptBy m words (set hands h given_up)
     goes f = load_one h v given_up at (alike_none v.place spent (free_has_none v.place f) (λ i w. w)) tt
-        (λ i q. absurd q) (λ q. absurd q) (none_released m (stage_of m words hands))
+        (λ i q. absurd q) (λ q. absurd q) (none_released m (stage_now m words hands))
 
-pub kept_after : (m : Meaning) → IsLawful m → (words next : List ℕ) (hands more : List HandState)
+pub kept_after : (m : Meaning) → IsLawfulWork m → (words next : List ℕ) (hands more : List HandState)
     → IsKeptBy m words hands → Makes m words hands next more → IsKeptBy m next more
 kept_after m law words next hands more k (steps h v w after at step) = kept_step m law words hands k h v at next
     w step
 kept_after m law words next hands more k (splits h v at e) =
     hand_comes m law words (set hands h (after v v.place split end_word None))
-    (stays m law words hands k h v at (after v v.place split end_word None) refl refl)
+    (stays m law words hands k h v at (after v v.place split end_word None) refl refl) (next_name v)
 kept_after m law words next hands more k (joins h other v w ne at there f g) =
-    goes m law words (set hands h (after v v.place join end_word None))
-    (stays m law words hands k h v at (after v v.place join end_word None) refl refl) other w
-    (set_else hands h other (after v v.place join end_word None) ne ∙ there) g
+    goes m law words (set hands h (after_join v w))
+    (stays m law words hands k h v at (after_join v w) refl refl) other w
+    (set_else hands h other (after_join v w) ne ∙ there) g
 
 -- what a cell holds at the opening
 opening_holds : (q : CellKind) (n word : ℕ) → n ≡ first_word_of q word → CellHolds q n word
@@ -347,15 +347,15 @@ opening_empty q n word e f = f ∙ ap (λ y. first_word_of y word) e
 
 -- at the opening one hand is Idle and no other is there
 one_hand : (m : Meaning) (P : Place → Type 0) → P (live Idle) → P spent → (g : ℕ)
-    → P (hand_at (newcomer m ∷ []) g).place
+    → P (hand_at (newcomer m first_name ∷ []) g).place
 one_hand m P a b zero = a
 one_hand m P a b (suc g) = b
 
-pub kept_opening : (m : Meaning) → IsLawful m → (words : List ℕ) → IsOpening m words
-    → IsKeptBy m words (newcomer m ∷ [])
+pub kept_opening : (m : Meaning) → IsLawfulWork m → (words : List ℕ) → IsOpening m words
+    → IsKeptBy m words (newcomer m first_name ∷ [])
 kept_opening m law words o =
     let none : (P : Place → Type 0) → (P (live Idle) → ⊥) → (P spent → ⊥) → (g : ℕ) → P
-    (hand_at (newcomer m ∷ []) g).place → ⊥ = λ P a b g. one_hand m (λ p. P p → ⊥) a b g in
+    (hand_at (newcomer m first_name ∷ []) g).place → ⊥ = λ P a b g. one_hand m (λ p. P p → ⊥) a b g in
     record {
       count = o.count;
       rule = record {
@@ -369,9 +369,9 @@ kept_opening m law words o =
         claimed = λ i l z. let y : get_or words (state_word m i) 0 ≡ 0 = o.states i l in absurd (omega arith);
         working = λ h i j w. absurd (none (λ p. Works p i j) (λ x. x) (λ x. x) h w);
         sending = λ h i n w. absurd (none (λ p. Sends p i n) (λ x. x) (λ x. x) h w);
-        alone = λ h g i a b. absurd (none (λ p. Has p i) (λ x. x) (λ x. x) h a);
-        counters = λ i l. subst (Counts (Owes m (stage_of m words (newcomer m ∷ [])) i) i) (sym (o.counters i l))
-            (same_count (λ p. IsNext m p i) (Owes m (stage_of m words (newcomer m ∷ [])) i)
+        alone = λ h g i a b. absurd (none (λ p. HasItem p i) (λ x. x) (λ x. x) h a);
+        counters = λ i l. subst (Counts (Owes m (stage_now m words (newcomer m first_name ∷ [])) i) i) (sym (o.counters i l))
+            (same_count (λ p. IsNext m p i) (Owes m (stage_now m words (newcomer m first_name ∷ [])) i)
             (λ p b next. record {
               next = next;
               waits = λ d. let y : get_or words
@@ -380,23 +380,23 @@ kept_opening m law words o =
             })
             (λ p b owes. owes.next)
             (law.preds i l));
-        end = subst (Counts (IsUndone (stage_of m words (newcomer m ∷ []))) (item_total m)) (sym o.end)
-            (all_of (IsUndone (stage_of m words (newcomer m ∷ []))) (item_total m)
+        end = subst (Counts (IsUndone (stage_now m words (newcomer m first_name ∷ []))) (item_total m)) (sym o.end)
+            (all_of (IsUndone (stage_now m words (newcomer m first_name ∷ []))) (item_total m)
             (λ p l. inl (λ z. let y : get_or words (state_word m p) 0 ≡ 0 = o.states p l in omega arith)));
         looked = λ h i w. absurd (none (λ p. Looks p i) (λ x. x) (λ x. x) h w);
         started = λ i l ne. absurd (ne (o.states i l));
         ended = λ h w. absurd (none HasEnded (λ x. x) (λ x. x) h w);
         released =
             λ h. elim
-            h as (λ y. AreReleased m (stage_of m words (newcomer m ∷ [])) (hand_at (newcomer m ∷ []) y).released) [
-              | zero ↦ none_released m (stage_of m words (newcomer m ∷ []))
-              | suc g ↦ none_released m (stage_of m words (newcomer m ∷ []))
+            h as (λ y. AreReleased m (stage_now m words (newcomer m first_name ∷ [])) (hand_at (newcomer m first_name ∷ []) y).released) [
+              | zero ↦ none_released m (stage_now m words (newcomer m first_name ∷ []))
+              | suc g ↦ none_released m (stage_now m words (newcomer m first_name ∷ []))
             ];
       };
     }
 
 -- the rule holds in each state that steps lead to
-pub kept : (m : Meaning) → IsLawful m → (words : List ℕ) (hands : List HandState) → Reached m words hands
+pub kept : (m : Meaning) → IsLawfulWork m → (words : List ℕ) (hands : List HandState) → Reached m words hands
     → IsKeptBy m words hands
 kept m law words hands (begins w o) = kept_opening m law words o
 kept m law words hands (goes_on {words = before} {hands = few} r step) = kept_after m law before words few hands

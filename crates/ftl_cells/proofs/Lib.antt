@@ -11,11 +11,12 @@ pub mod Found
 pub mod Plays
 pub mod Seats
 pub mod Ready
+pub mod Driven
+pub mod Names
+pub mod Preceded
 pub mod Opening
 pub mod Closing
 pub mod Consequences
 pub mod Runs
 pub mod DiamondLaws
 pub mod Shapes
-pub mod ChainLaws
-pub mod LentLaws

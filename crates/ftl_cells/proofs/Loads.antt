@@ -2,7 +2,7 @@
 use Rattle.std.proofs.Common.{◌≡◌, ℕ, subst, refl, sym, List}
 use Rattle.ftl_cells.specs.Work.{Meaning}
 use Rattle.ftl_cells.specs.State.{Place, Sends}
-use Rattle.ftl_cells.specs.Kept.{Stage, Looks, Works, HasEnded, Has, IsInRange, Owes, IsUndone, AreReleased, IsKept}
+use Rattle.ftl_cells.specs.Kept.{Stage, Looks, Works, HasEnded, HasItem, IsInRange, Owes, IsUndone, AreReleased, IsKept}
 use Rattle.ftl_cells.proofs.Counting.{same_count}
 use Rattle.ftl_cells.proofs.Moves.{half_same, delivered_same, owes_same, undone_same, released_same}
 
@@ -12,7 +12,7 @@ pub record Alike (p q : Place) : Type 0 where
   pub works_back : (i j : ℕ) → Works p i j → Works q i j
   pub sends : (i k : ℕ) → Sends q i k → Sends p i k
   pub sends_back : (i k : ℕ) → Sends p i k → Sends q i k
-  pub has : (i : ℕ) → Has q i → Has p i
+  pub has : (i : ℕ) → HasItem q i → HasItem p i
 
 pub alike_self : (p q : Place) → q ≡ p → Alike p q
 alike_self p q e = record {
@@ -20,7 +20,7 @@ alike_self p q e = record {
   works_back = λ i j. subst (λ x. Works x i j) (sym e);
   sends = λ i j. subst (λ x. Sends x i j) e;
   sends_back = λ i j. subst (λ x. Sends x i j) (sym e);
-  has = λ i. subst (λ x. Has x i) e;
+  has = λ i. subst (λ x. HasItem x i) e;
 }
 
 module _ (m : Meaning) (s : Stage) (place : ℕ → Place) (released : ℕ → List ℕ) where

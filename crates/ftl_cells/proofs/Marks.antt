@@ -3,14 +3,14 @@ use Rattle.std.proofs.Common.{◌≡◌, ◌≢◌, ℕ, ◌<◌, inl, inr, ⊎_
 use mathlib.Core.Logic.{dite}
 use native.Mathlib.Decide.{ℕ_discrete}
 use Rattle.ftl_cells.specs.Count.{Counts}
-use Rattle.ftl_cells.specs.Work.{Meaning, cell_total, kind_at, item_total, step_total, target_of, solved_word, IsStep, IsNext, IsLawful}
+use Rattle.ftl_cells.specs.Work.{Meaning, cell_total, kind_at, item_total, step_total, target_of, solved_word, IsStepOfItem, IsNext, IsLawfulWork}
 use Rattle.ftl_cells.specs.State.{live, Sends}
-use Rattle.ftl_cells.specs.Kept.{Stage, Looks, Works, HasEnded, Has, CellHolds, IsHalfFilled, HasDelivered, Owes, IsUndone, AreReleased, IsKept}
+use Rattle.ftl_cells.specs.Kept.{Stage, Looks, Works, HasEnded, HasItem, CellHolds, IsHalfFilled, HasDelivered, Owes, IsUndone, AreReleased, IsKept}
 use Rattle.ftl_cells.specs.declared.place.HandPlace.TheVariants.{Working, Filled}
 use Rattle.ftl_cells.proofs.Counting.{same_count}
 use Rattle.ftl_cells.proofs.Moves.{Same, Puts, Turns, sends_has, works_has, looks_in_range, has_in_range, after_turn, before_turn, old, new, range_after, alone_after, half_same, delivered_same, owes_same, undone_same, released_same, step_of}
 
-module _ (m : Meaning) (law : IsLawful m) (s t : Stage) (h i j r : ℕ)
+module _ (m : Meaning) (law : IsLawfulWork m) (s t : Stage) (h i j r : ℕ)
     (turn : Turns s t h (live (Working i j r)) (live (Filled i))) (k : IsKept m s) where
   works : Works (s.place h) i j
   works = subst (λ x. Works x i j) (sym turn.was) (refl, refl)
@@ -37,7 +37,7 @@ module _ (m : Meaning) (law : IsLawful m) (s t : Stage) (h i j r : ℕ)
       → Same (item_total m) s.counter t.counter → t.end ≡ s.end → ((g : ℕ) → t.released g ≡ s.released g) → IsKept m t
   marks_keep done cells states counters end released =
       let claimed : s.state i ≡ 1 = mark_finds_claimed in
-      let target_same : (x n : ℕ) → IsStep m x n → t.cell (target_of m x n) ≡ s.cell (target_of m x n) =
+      let target_same : (x n : ℕ) → IsStepOfItem m x n → t.cell (target_of m x n) ≡ s.cell (target_of m x n) =
       λ x n st. cells (target_of m x n) (law.target_in_range x n st) in
       let half : IsHalfFilled m s i j = k.working h i j works in
       -- no item has taken this one's delivery, before or after
@@ -73,7 +73,7 @@ module _ (m : Meaning) (law : IsLawful m) (s t : Stage) (h i j r : ℕ)
             (λ b. let l : x < item_total m = has_in_range m (s.place g) x (works_has (s.place g) x n b.1)
             (k.in_range g) in
             let ne : x ≢ i = λ e. b.0
-            (k.alone g h i (subst (Has (s.place g)) e (works_has (s.place g) x n b.1))
+            (k.alone g h i (subst (HasItem (s.place g)) e (works_has (s.place g) x n b.1))
             (works_has (s.place h) i j works)) in
             half_same m s t x n (states.there x l ne) (λ y c. target_same x y (record { item = l; step = c }))
             (k.working g x n b.1))

@@ -4,7 +4,7 @@ use mathlib.Core.Logic.{dite}
 use native.Mathlib.Decide.{ℕ_discrete}
 use Rattle.ftl_cells.specs.Work.{Meaning, item_total, step_total, target_of}
 use Rattle.ftl_cells.specs.State.{Place, live, spent, Sends}
-use Rattle.ftl_cells.specs.Kept.{Stage, Looks, Works, Has, IsInRange, IsHalfFilled, HasDelivered, Owes, IsUndone, AreReleased, IsKept}
+use Rattle.ftl_cells.specs.Kept.{Stage, Looks, Works, HasItem, IsInRange, IsHalfFilled, HasDelivered, Owes, IsUndone, AreReleased, IsKept}
 use Rattle.ftl_cells.specs.declared.place.HandPlace.TheVariants.{Idle, Looked, Working, Filled, Sending, Ended}
 
 -- below the bound, the second function is the first
@@ -23,7 +23,7 @@ pub record Turns (s t : Stage) (h : ℕ) (p q : Place) : Type 0 where
   pub others : (g : ℕ) → g ≢ h → t.place g ≡ s.place g
 
 -- places speak of one item at most
-pub sends_has : (p : Place) (i k : ℕ) → Sends p i k → Has p i
+pub sends_has : (p : Place) (i k : ℕ) → Sends p i k → HasItem p i
 sends_has (live Idle) i k w = w
 sends_has (live (Looked item)) i k w = w
 sends_has (live (Working item j r)) i k w = absurd w
@@ -32,7 +32,7 @@ sends_has (live (Sending item n)) i k w = w.0
 sends_has (live Ended) i k w = w
 sends_has spent i k w = w
 
-pub works_has : (p : Place) (i j : ℕ) → Works p i j → Has p i
+pub works_has : (p : Place) (i j : ℕ) → Works p i j → HasItem p i
 works_has (live Idle) i k w = w
 works_has (live (Looked item)) i k w = w
 works_has (live (Working item j r)) i k w = w.0
@@ -41,7 +41,7 @@ works_has (live (Sending item n)) i k w = absurd w
 works_has (live Ended) i k w = w
 works_has spent i k w = w
 
-pub has_one : (p : Place) (x y : ℕ) → Has p x → Has p y → x ≡ y
+pub has_one : (p : Place) (x y : ℕ) → HasItem p x → HasItem p y → x ≡ y
 has_one (live Idle) x y a b = absurd a
 has_one (live (Looked item)) x y a b = absurd a
 has_one (live (Working item j r)) x y a b = omega arith
@@ -68,7 +68,7 @@ sends_or_works (live (Sending item n)) x y k j a b = b
 sends_or_works (live Ended) x y k j a b = a
 sends_or_works spent x y k j a b = a
 
-pub has_case : (p : Place) (i : ℕ) → Has p i → ((j : ℕ) × Works p i j) ⊎ ((k : ℕ) × Sends p i k)
+pub has_case : (p : Place) (i : ℕ) → HasItem p i → ((j : ℕ) × Works p i j) ⊎ ((k : ℕ) × Sends p i k)
 has_case (live Idle) i w = absurd w
 has_case (live (Looked item)) i w = absurd w
 has_case (live (Working item j r)) i w = inl (j, (w, refl))
@@ -86,7 +86,7 @@ looks_in_range m (live (Sending item n)) i w r = absurd w
 looks_in_range m (live Ended) i w r = absurd w
 looks_in_range m spent i w r = absurd w
 
-pub has_in_range : (m : Meaning) (p : Place) (i : ℕ) → Has p i → IsInRange m p → i < item_total m
+pub has_in_range : (m : Meaning) (p : Place) (i : ℕ) → HasItem p i → IsInRange m p → i < item_total m
 has_in_range m (live Idle) i w r = absurd w
 has_in_range m (live (Looked item)) i w r = absurd w
 has_in_range m (live (Working item j n)) i w r = subst (λ x. x < item_total m) w r.0
@@ -119,12 +119,12 @@ module _ (s t : Stage) (h : ℕ) (p q : Place) (turn : Turns s t h p q) where
       (λ e. subst (λ x. IsInRange m (t.place x)) (sym e) (subst (IsInRange m) (sym turn.is) r))
       (λ ne. subst (IsInRange m) (sym (turn.others g ne)) (k g))
 
-  pub alone_after : ((x : ℕ) → Has q x → Has p x) → ((a b x : ℕ) → Has (s.place a) x → Has (s.place b) x → a ≡ b)
-      → (a b x : ℕ) → Has (t.place a) x → Has (t.place b) x → a ≡ b
+  pub alone_after : ((x : ℕ) → HasItem q x → HasItem p x) → ((a b x : ℕ) → HasItem (s.place a) x → HasItem (s.place b) x → a ≡ b)
+      → (a b x : ℕ) → HasItem (t.place a) x → HasItem (t.place b) x → a ≡ b
   alone_after back k a b x u v =
-      let from : (g : ℕ) → Has (t.place g) x → Has (s.place g) x = λ g w. ⊎_elim
-      (λ c. subst (λ y. Has (s.place y) x) (sym c.0) (subst (λ z. Has z x) (sym turn.was) (back x c.1)))
-      (λ c. c.1) (after_turn (λ z. Has z x) g w) in
+      let from : (g : ℕ) → HasItem (t.place g) x → HasItem (s.place g) x = λ g w. ⊎_elim
+      (λ c. subst (λ y. HasItem (s.place y) x) (sym c.0) (subst (λ z. HasItem z x) (sym turn.was) (back x c.1)))
+      (λ c. c.1) (after_turn (λ z. HasItem z x) g w) in
       k a b x (from a u) (from b v)
 
 -- facts of one item stay where what they speak of stays
@@ -161,7 +161,7 @@ module _ (m : Meaning) (s t : Stage) where
 -- what the rule says at once
 module _ (m : Meaning) (s : Stage) (k : IsKept m s) where
   -- an item that a hand has is not free
-  pub held_state : (h i : ℕ) → Has (s.place h) i → s.state i ≢ 0
+  pub held_state : (h i : ℕ) → HasItem (s.place h) i → s.state i ≢ 0
   held_state h i w z = ⊎_elim
       (λ a. let half = k.working h i a.0 a.1 in let e : s.state i ≡ 1 = half.state in omega arith)
       (λ b. let e : s.state i ≡ 2 = k.sending h i b.0 b.1 in omega arith)

@@ -5,7 +5,7 @@ use Rattle.std.specs.List.{range_with_len}
 use Rattle.std.proofs.lemmas.List.{get_or_append_left, get_or-append_right, get_or-replicate, length-replicate}
 use Rattle.std.proofs.lemmas.List.FromFn.{map-range_with_len_more, length-map-range_with_len, get_or-map-range_with_len}
 use Rattle.atomic_table.specs.Seated.{TableId}
-use Rattle.ftl_cells.specs.Work.{Meaning, cell_total, item_total, pred_total, IsLawful}
+use Rattle.ftl_cells.specs.Work.{Meaning, cell_total, item_total, pred_total, IsLawfulWork}
 use Rattle.ftl_cells.specs.State.{AreFirst, IsOpening, opening_words, word_total}
 use Rattle.ftl_cells.specs.Table.{IsTableOf}
 
@@ -76,7 +76,7 @@ module _ (m : Meaning) (words : List ℕ) (first : AreFirst m words) where
   }
 
 -- the layout of a table of these words
-pub table_is : (m : Meaning) (words : List ℕ) (table : TableId) (cells items : ℕ) → AreFirst m words → IsLawful m
+pub table_is : (m : Meaning) (words : List ℕ) (table : TableId) (cells items : ℕ) → AreFirst m words → IsLawfulWork m
     → table.words ≡ length (opening_words m words) → table.slots ≡ 0
     → cells ≡ cell_total m → items ≡ item_total m → cells < 2 ^ 32 → items < 2 ^ 32
     → IsTableOf m table (1 + cells) (1 + cells + items)

@@ -1,5 +1,5 @@
 -- Each kind of step, made on the table with the right word, is a step of the state.
-use Rattle.std.proofs.Common.{◌≡◌, ℕ, suc, ◌+◌, ◌-◌, ◌%◌, ◌^◌, ◌<◌, ◌≤◌, subst, refl, sym, ap, ◌∙◌, arith, List, [], ◌∷◌, ◌++◌, get_or, set, eqb}
+use Rattle.std.proofs.Common.{◌≡◌, ℕ, suc, ◌+◌, ◌-◌, ◌%◌, ◌^◌, ◌<◌, ◌≤◌, subst, refl, sym, ap, ◌∙◌, arith, List, get_or, set, eqb}
 use Rattle.std.specs.Prelude.{Some, None}
 use Rattle.std.proofs.lemmas.List.{set-get_or}
 use mathlib.Core.Logic.{dite}
@@ -9,11 +9,11 @@ use lib.ListN.{get_elem?}
 use prog.Atomic.{either}
 use Rattle.atomic_table.specs.Table.{State, step, keeps, Allows, Splits, Joins}
 use Rattle.atomic_table.proofs.Lists.{set_here, set_else, exchanged}
-use Rattle.ftl_cells.specs.Work.{Meaning, item_total, next_total, next_at, step_total, target_of, read_total, read_of, solved_word, IsStep, IsLawful}
-use Rattle.ftl_cells.specs.State.{Place, live, HandState, newcomer, given_up, after, after_delivery, load_counter, claim, load_cell, store_cell, mark, delivery, split, join, Sends, IsFree, Steps, finds_ready, finds_waiting, claims, misses, reads, fills, marks, sends, finishes, ends, finds_left, Makes, steps, splits, joins, Reached, goes_on, end_word, cell_word, state_word, count_word}
-use Rattle.ftl_cells.specs.Kept.{stage_of, Works, IsInRange, IsHalfFilled, IsKeptBy}
+use Rattle.ftl_cells.specs.Work.{Meaning, item_total, next_total, next_at, step_total, target_of, read_total, read_of, solved_word, IsStepOfItem, IsLawfulWork}
+use Rattle.ftl_cells.specs.State.{Place, live, HandState, newcomer, next_name, given_up, after, after_join, after_delivery, load_counter, claim, load_cell, store_cell, mark, delivery, split, Sends, IsFree, Steps, finds_ready, finds_waiting, claims, misses, reads, fills, marks, sends, finishes, ends, finds_left, Makes, steps, splits, joins, Reached, goes_on, end_word, cell_word, state_word, count_word}
+use Rattle.ftl_cells.specs.Kept.{stage_now, Works, IsInRange, IsHalfFilled, IsKeptBy}
 use Rattle.ftl_cells.specs.Told.{Known, LookTold, LookTells, look_told, ClaimTold, ClaimTells, claim_told, ReadTells, read_told, FillTells, fill_told, MarkTells, mark_told, SendTold, SendTells, send_told, FinishTold, finish_told, LeftTold, left_told}
-use Rattle.ftl_cells.specs.Interleavings.{IsStepOf, IsSplitOf, IsJoinOf}
+use Rattle.ftl_cells.specs.Interleavings.{IsStepOf}
 use Rattle.ftl_cells.specs.declared.place.HandPlace.TheVariants.{Idle, Looked, Working, Filled, Ended}
 use Rattle.ftl_cells.proofs.Moves.{sends_has, has_one, sends_one}
 use Rattle.ftl_cells.proofs.Deliveries.{next_counter, end_counter}
@@ -24,7 +24,7 @@ abbrev pub Holds : Meaning → State ℕ HandState → Type 0
 Holds m s = Reached m s.words s.views
 
 -- a play that makes a step of the state
-plays : (n id : ℕ) (me : Known) (a : ℕ) (f : ℕ → ℕ) (told : ℕ → Known → Type 0) → IsLawful me.0.of
+plays : (n id : ℕ) (me : Known) (a : ℕ) (f : ℕ → ℕ) (told : ℕ → Known → Type 0) → IsLawfulWork me.0.of
     → ((words : List ℕ) (hands : List HandState) → IsKeptBy me.0.of words hands → get_elem? hands id ≡ some me.0
     → get_or words a 0 < 18446744073709551616
     → (w : HandState) × Steps me.0.of words me.0 (set words a (f (get_or words a 0))) w × told (get_or words a 0)
@@ -51,7 +51,7 @@ plays n id me a f told law each s r homes at bound =
 pub one_less : (l : ℕ) → suc l < 18446744073709551616 → (suc l + (2 ^ 64 - 1)) % 2 ^ 64 ≡ l
 one_less l h = omega arith
 
-module _ (n id : ℕ) (me : Known) (law : IsLawful me.0.of) where
+module _ (n id : ℕ) (me : Known) (law : IsLawfulWork me.0.of) where
   m : Meaning
   m = me.0.of
 
@@ -114,7 +114,7 @@ module _ (n id : ℕ) (me : Known) (law : IsLawful me.0.of) where
 
   -- the hand's place in the stage
   stands : (words : List ℕ) (hands : List HandState) → IsKeptBy me.0.of words hands → get_elem? hands id ≡ some me.0
-      → (P : Place → Type 0) → P me.0.place → P ((stage_of me.0.of words hands).place id)
+      → (P : Place → Type 0) → P me.0.place → P ((stage_now me.0.of words hands).place id)
   stands words hands k at P p = subst (λ v. P v.place) (sym (hand_is me.0.of law words hands k id me.0 at)) p
 
   pub read_plays : (a i j r : ℕ) → a ≡ cell_word (read_of me.0.of i j r) → j < step_total me.0.of i
@@ -126,9 +126,9 @@ module _ (n id : ℕ) (me : Known) (law : IsLawful me.0.of) where
       (ReadTells me me.0.place) law (λ words hands k at bound.
       let range : IsInRange me.0.of (live (Working i j r)) = subst (IsInRange me.0.of) working
       (range_of me.0.of law words hands k id me.0 at) in
-      let works : Works ((stage_of me.0.of words hands).place id) i j = stands words hands k at (λ p. Works p i j)
+      let works : Works ((stage_now me.0.of words hands).place id) i j = stands words hands k at (λ p. Works p i j)
       (subst (λ p. Works p i j) (sym working) (refl, refl)) in
-      let st : IsStep me.0.of i j = record { item = range.0; step = b } in
+      let st : IsStepOfItem me.0.of i j = record { item = range.0; step = b } in
       let w : HandState = after me.0 (live (Working i j (r + 1))) load_cell (cell_word (read_of me.0.of i j r))
       (Some (get_or words (cell_word (read_of me.0.of i j r)) 0)) in (
         w,
@@ -136,7 +136,7 @@ module _ (n id : ℕ) (me : Known) (law : IsLawful me.0.of) where
             (sym (set-get_or words (cell_word (read_of me.0.of i j r)) 0)) (reads i j r working b c),
         subst (λ p. ReadTells me p (get_or words (cell_word (read_of me.0.of i j r)) 0) (w, me.1)) (sym working)
             (record {
-              word = read_is me.0.of law (stage_of me.0.of words hands) k.rule id i j r works b c;
+              word = read_is me.0.of law (stage_now me.0.of words hands) k.rule id i j r works b c;
               value = law.values (read_of me.0.of i j r) (law.read_in_range i j r st c);
               now = refl;
             }),
@@ -151,9 +151,9 @@ module _ (n id : ℕ) (me : Known) (law : IsLawful me.0.of) where
       (plays n id me (cell_word (target_of me.0.of i j)) (λ y. new)
       (λ y. FillTells me me.0.place) law (λ words hands k at bound.
       let rule = k.rule in
-      let works : Works ((stage_of me.0.of words hands).place id) i j = stands words hands k at (λ p. Works p i j)
+      let works : Works ((stage_now me.0.of words hands).place id) i j = stands words hands k at (λ p. Works p i j)
       (subst (λ p. Works p i j) (sym working) (refl, refl)) in
-      let half : IsHalfFilled me.0.of (stage_of me.0.of words hands) i j = rule.working id i j works in
+      let half : IsHalfFilled me.0.of (stage_now me.0.of words hands) i j = rule.working id i j works in
       let empty : get_or words (cell_word (target_of me.0.of i j)) 0 ≡ 0 = half.rest j (omega arith) b in
       let w : HandState = after me.0 (live (Working i (j + 1) 0)) store_cell (cell_word (target_of me.0.of i j))
       (Some (get_or words (cell_word (target_of me.0.of i j)) 0)) in (
@@ -176,9 +176,9 @@ module _ (n id : ℕ) (me : Known) (law : IsLawful me.0.of) where
       (plays n id me (state_word me.0.of i) (λ y. 2)
       (λ y. MarkTells me me.0.place) law (λ words hands k at bound.
       let rule = k.rule in
-      let works : Works ((stage_of me.0.of words hands).place id) i j = stands words hands k at (λ p. Works p i j)
+      let works : Works ((stage_now me.0.of words hands).place id) i j = stands words hands k at (λ p. Works p i j)
       (subst (λ p. Works p i j) (sym working) (refl, refl)) in
-      let half : IsHalfFilled me.0.of (stage_of me.0.of words hands) i j = rule.working id i j works in
+      let half : IsHalfFilled me.0.of (stage_now me.0.of words hands) i j = rule.working id i j works in
       let one : get_or words (state_word me.0.of i) 0 ≡ 1 = half.state in
       let w : HandState = after me.0 (live (Filled i)) mark (state_word me.0.of i)
       (Some (get_or words (state_word me.0.of i) 0)) in (
@@ -196,9 +196,9 @@ module _ (n id : ℕ) (me : Known) (law : IsLawful me.0.of) where
       (sym is)
       (plays n id me (count_word me.0.of (next_at me.0.of i c)) (λ y. (y + (2 ^ 64 - 1)) % 2 ^ 64)
       (SendTells me) law (λ words hands k at bound.
-      let here : Sends ((stage_of me.0.of words hands).place id) i c = stands words hands k at
+      let here : Sends ((stage_now me.0.of words hands).place id) i c = stands words hands k at
       (λ p. Sends p i c) sent in
-      let count = next_counter me.0.of law (stage_of me.0.of words hands) id i c here k.rule b in
+      let count = next_counter me.0.of law (stage_now me.0.of words hands) id i c here k.rule b in
       let is : get_or words (count_word me.0.of (next_at me.0.of i c)) 0 ≡ suc count.0 = count.1 in
       let less : (get_or words (count_word me.0.of (next_at me.0.of i c)) 0 + (2 ^ 64 - 1)) % 2 ^ 64 ≡ count.0 =
       ap (λ y. (y + (2 ^ 64 - 1)) % 2 ^ 64) is ∙ one_less count.0 (subst (λ y. y < 18446744073709551616) is bound) in
@@ -223,9 +223,9 @@ module _ (n id : ℕ) (me : Known) (law : IsLawful me.0.of) where
   finish_plays i c done sent =
       plays n id me 0 (λ y. (y + (2 ^ 64 - 1)) % 2 ^ 64) (FinishTold me) law
       (λ words hands k at bound.
-      let here : Sends ((stage_of me.0.of words hands).place id) i c = stands words hands k at
+      let here : Sends ((stage_now me.0.of words hands).place id) i c = stands words hands k at
       (λ p. Sends p i c) sent in
-      let count = end_counter me.0.of law (stage_of me.0.of words hands) id i c here k.rule in
+      let count = end_counter me.0.of law (stage_now me.0.of words hands) id i c here k.rule in
       let is : get_or words 0 0 ≡ suc count.0 = count.1 in
       let less : (get_or words 0 0 + (2 ^ 64 - 1)) % 2 ^ 64 ≡ count.0 =
       ap (λ y. (y + (2 ^ 64 - 1)) % 2 ^ 64) is ∙ one_less count.0 (subst (λ y. y < 18446744073709551616) is bound) in
@@ -254,23 +254,10 @@ module _ (n id : ℕ) (me : Known) (law : IsLawful me.0.of) where
       )))
 
 pub split_plays : (id : ℕ) (v : HandState) → v.place ≡ live Idle
-    → Splits (Holds v.of) id v (after v v.place split end_word None) (newcomer v.of)
+    → Splits (Holds v.of) id v (after v v.place split end_word None) (newcomer v.of (next_name v))
 split_plays id v idle s r at = goes_on r (splits id v at idle)
 
 pub join_plays : (id other : ℕ) (v w : HandState) → IsFree v.place → IsFree w.place
-    → Joins (Holds v.of) id v other w (after v v.place join end_word None) given_up
+    → Joins (Holds v.of) id v other w (after_join v w) given_up
 join_plays id other v w f g s r at ne there = goes_on r
-    (joins id other v w ne at (sym (set_else s.views id other (after v v.place join end_word None) ne) ∙ there) f g)
-
-pub split_is : (v w new : HandState) → v.place ≡ live Idle → w ≡ after v v.place split end_word None → new ≡ newcomer v.of
-    → IsSplitOf v w new
-split_is v w new idle e f words hands h at =
-    let one : HandState = after v v.place split end_word None in
-    subst (λ y. Makes v.of words hands words (set hands h y ++ new ∷ [])) (sym e)
-    (subst (λ y. Makes v.of words hands words (set hands h one ++ y ∷ [])) (sym f) (splits h v at idle))
-
-pub join_is : (v w gone : HandState) → IsFree v.place → IsFree gone.place → w ≡ after v v.place join end_word None
-    → IsJoinOf v w gone
-join_is v w gone f b e words hands h other apart at there = subst
-    (λ y. Makes v.of words hands words (set (set hands h y) other given_up)) (sym e)
-    (joins h other v gone apart at there f b)
+    (joins id other v w ne at (sym (set_else s.views id other (after_join v w) ne) ∙ there) f g)

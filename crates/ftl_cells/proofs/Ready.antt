@@ -1,7 +1,7 @@
 -- A hand with all steps of its item filled has made no reads of a further step.
 use Rattle.std.proofs.Common.{◌≡◌, ℕ, ◌≤◌, subst, sym, ap, ◌∙◌, arith, length}
 use Rattle.atomic_table.specs.declared.shared.Seat.{Seat}
-use Rattle.ftl_cells.specs.Work.{Meaning, no_step, item_at, step_total, reads_of, read_total}
+use Rattle.ftl_cells.specs.Work.{Meaning, no_step, item_at, step_total, reads_of_step, read_total}
 use Rattle.ftl_cells.specs.State.{live, HandState}
 use Rattle.ftl_cells.specs.Kept.{IsInRange}
 use Rattle.ftl_cells.specs.Table.{IsSeatedAt}
@@ -11,7 +11,7 @@ use Rattle.ftl_cells.specs.declared.place.HandPlace.TheVariants.{Working}
 use Rattle.ftl_cells.proofs.KeptSteps.{past_end}
 
 pub read_total-end : (m : Meaning) (i : ℕ) → read_total m i (step_total m i) ≡ 0
-unfolding reads_of step_total
+unfolding reads_of_step step_total
 read_total-end m i = ap (λ s. length s.reads)
     (past_end (item_at m i).steps no_step (length (item_at m i).steps) (omega arith))
 

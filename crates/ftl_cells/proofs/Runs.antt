@@ -6,8 +6,8 @@ use mathlib.Core.Logic.{dite}
 use mathlib.Core.Option.{some}
 use native.Mathlib.Decide.{ℕ_discrete}
 use lib.ListN.{get_elem?}
-use Rattle.ftl_cells.specs.Work.{Meaning, cell_total, kind_at, item_total, solved_word, IsLawful}
-use Rattle.ftl_cells.specs.State.{Place, live, spent, HandState, newcomer, given_up, after, released_after, split, join, IsFree, Steps, finds_ready, finds_waiting, claims, misses, reads, fills, marks, sends, finishes, ends, finds_left, Makes, steps, splits, joins, goes_on, end_word, cell_word, state_word, claim, last_word_of}
+use Rattle.ftl_cells.specs.Work.{Meaning, cell_total, kind_at, item_total, solved_word, IsLawfulWork}
+use Rattle.ftl_cells.specs.State.{Place, live, spent, HandState, newcomer, next_name, given_up, after, after_join, released_after, split, IsFree, Steps, finds_ready, finds_waiting, claims, misses, reads, fills, marks, sends, finishes, ends, finds_left, Makes, steps, splits, joins, goes_on, end_word, cell_word, state_word, claim, last_word_of}
 use Rattle.ftl_cells.specs.Kept.{hand_at, Looks, Works, HasEnded, IsInRange, IsKeptBy}
 use Rattle.ftl_cells.specs.Calls.{ClaimSteps, SendsOn}
 use Rattle.ftl_cells.specs.Interleavings.{LeadsTo, stays, goes_further, IsStepOf, AreReleasedOnce, WinsClaim}
@@ -17,7 +17,7 @@ use Rattle.ftl_cells.proofs.KeptSteps.{elem_is, elem_below, snoc_here, snoc_othe
 use Rattle.ftl_cells.proofs.Consequences.{claim_stays, end_tells, end_holds, ended_tells}
 
 -- any number of steps keeps the rule
-pub kept_later : (m : Meaning) → IsLawful m → (words : List ℕ) (hands : List HandState) (next : List ℕ)
+pub kept_later : (m : Meaning) → IsLawfulWork m → (words : List ℕ) (hands : List HandState) (next : List ℕ)
     (more : List HandState) → IsKeptBy m words hands → LeadsTo m words hands next more
     → IsKeptBy m next more
 kept_later m law words hands next more k stays = k
@@ -25,7 +25,7 @@ kept_later m law words hands next more k (goes_further {next = last} {more = few
     few more (kept_later m law words hands last few k run) step
 
 -- an item that is not free stays so
-pub claimed_later : (m : Meaning) → IsLawful m → (words : List ℕ) (hands : List HandState) (next : List ℕ)
+pub claimed_later : (m : Meaning) → IsLawfulWork m → (words : List ℕ) (hands : List HandState) (next : List ℕ)
     (more : List HandState) → IsKeptBy m words hands → LeadsTo m words hands next more → (i : ℕ) → i < item_total m
     → get_or words (state_word m i) 0 ≢ 0
     → get_or next (state_word m i) 0 ≢ 0
@@ -44,7 +44,7 @@ pub record Won (m : Meaning) (words next : List ℕ) (i : ℕ) : Type 0 where
   pub claimed : get_or next (state_word m i) 0 ≢ 0
   pub known : i < item_total m
 
-module _ (m : Meaning) (law : IsLawful m) (words : List ℕ) (hands : List HandState) (k : IsKeptBy m words hands)
+module _ (m : Meaning) (law : IsLawfulWork m) (words : List ℕ) (hands : List HandState) (k : IsKeptBy m words hands)
     (i : ℕ) where
   -- by a step of the hand itself
   own_step : (g : ℕ) (v w : HandState) (next : List ℕ) → get_elem? hands g ≡ some v → Steps m words v next w
@@ -108,12 +108,12 @@ module _ (m : Meaning) (law : IsLawful m) (words : List ℕ) (hands : List HandS
         let few : List HandState = set hands g (after v v.place split end_word None) in
         absurd (dite (ℕ_discrete h (length few))
         (λ q. subst (λ y. Works y.place i 0)
-        (ap (hand_at (few ++ newcomer m ∷ [])) q ∙ snoc_here few (newcomer m) given_up) works)
+        (ap (hand_at (few ++ newcomer m (next_name v) ∷ [])) q ∙ snoc_here few (newcomer m (next_name v)) given_up) works)
         (λ ne. one_other g v one at (λ w. free_works v.place (subst IsFree (sym e) tt) w)
-        (subst (λ y. Works y.place i 0) (snoc_other few (newcomer m) given_up h ne) works)))
+        (subst (λ y. Works y.place i 0) (snoc_other few (newcomer m (next_name v)) given_up h ne) works)))
     won next more (joins g other v w apart at there f b) works =
-        let one : HandState = after v v.place join end_word None in
-        let few : List HandState = set hands g (after v v.place join end_word None) in
+        let one : HandState = after_join v w in
+        let few : List HandState = set hands g (after_join v w) in
         let l : other < length few = omega (arith, length-set hands g one, elem_below hands other w there) in
         absurd (dite (ℕ_discrete h other)
         (λ q. subst (λ y. Works y.place i 0)
@@ -122,7 +122,7 @@ module _ (m : Meaning) (law : IsLawful m) (words : List ℕ) (hands : List HandS
         (subst (λ y. Works y.place i 0) (get_or-set_other few other h given_up given_up ne) works)))
 
 -- a won claim of an item is the last
-pub won_once : (m : Meaning) → IsLawful m → (first next later last : List ℕ) (all more many most : List HandState)
+pub won_once : (m : Meaning) → IsLawfulWork m → (first next later last : List ℕ) (all more many most : List HandState)
     (h g i : ℕ) → IsKeptBy m first all → WinsClaim m first all h i next more → LeadsTo m next more later many
     → WinsClaim m later many g i last most
     → ⊥
@@ -138,13 +138,13 @@ won_once m law first next later last all more many most h g i k one run other =
     claimed_later m law next more later many k' run i a.known a.claimed b.free
 
 -- what a step leaves in the list of released items
-pub released_once : (v w : HandState) → IsLawful v.of → IsStepOf v w → AreReleasedOnce v.of w.released
+pub released_once : (v w : HandState) → IsLawfulWork v.of → IsStepOf v w → AreReleasedOnce v.of w.released
 released_once v w law step =
     let k = kept v.of law step.next step.more (goes_on step.reached step.made) in
     let r = released_of v.of law step.next step.more k step.hand w step.after in
     record { known = r.known; preceded = r.preceded; once = r.once }
 
-released_new : (v w : HandState) (item k : ℕ) → IsLawful v.of → IsStepOf v w → w.released ≡ v.released ++ item ∷ []
+released_new : (v w : HandState) (item k : ℕ) → IsLawfulWork v.of → IsStepOf v w → w.released ≡ v.released ++ item ∷ []
     → k < length v.released → get_or v.released k 0 ≢ item
 released_new v w item k law step e b z =
     let r = released_once v w law step in
@@ -157,7 +157,7 @@ released_new v w item k law step e b z =
     (there ∙ z ∙ sym here) in
     omega arith
 
-pub released_last : (v w : HandState) (item sent next k : ℕ) → IsLawful v.of → IsStepOf v w
+pub released_last : (v w : HandState) (item sent next k : ℕ) → IsLawfulWork v.of → IsStepOf v w
     → SendsOn v item sent next true w → k < length v.released
     → get_or v.released k 0 ≢ next
 released_last v w item sent next k law step done b =
@@ -180,7 +180,7 @@ mine_wins v w item step looked mine =
     }
 
 -- what a hand that is Ended saw
-module _ (v w : HandState) (step : IsStepOf v w) (law : IsLawful v.of) (ended : HasEnded w.place) where
+module _ (v w : HandState) (step : IsStepOf v w) (law : IsLawfulWork v.of) (ended : HasEnded w.place) where
   after_it : IsKeptBy v.of step.next step.more
   after_it = kept v.of law step.next step.more (goes_on step.reached step.made)
 

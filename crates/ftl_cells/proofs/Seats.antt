@@ -5,8 +5,8 @@ use mathlib.Core.Option.{none}
 use prog.Atomic.{either}
 use Rattle.atomic_table.specs.Seated.{TableId}
 use Rattle.atomic_table.specs.Table.{step, Allows, Splits, Joins}
-use Rattle.ftl_cells.specs.Work.{Meaning, cell_total, item_total, next_total, next_at, step_total, target_of, read_total, read_of, solved_word, IsStep, IsLawful}
-use Rattle.ftl_cells.specs.State.{live, HandState, newcomer, given_up, after, split, join, Sends, IsFree, end_word}
+use Rattle.ftl_cells.specs.Work.{Meaning, cell_total, item_total, next_total, next_at, step_total, target_of, read_total, read_of, solved_word, IsStepOfItem, IsLawfulWork}
+use Rattle.ftl_cells.specs.State.{live, HandState, newcomer, next_name, given_up, after, after_join, split, Sends, IsFree, end_word}
 use Rattle.ftl_cells.specs.Table.{IsTableOf}
 use Rattle.ftl_cells.specs.Told.{Known, look_told, claim_told, read_told, fill_told, mark_told, send_told, finish_told, left_told}
 use Rattle.ftl_cells.specs.declared.place.HandPlace.TheVariants.{Idle, Looked, Working}
@@ -18,7 +18,7 @@ module _ (said told laid : Meaning) (table : TableId) (states counters id : ℕ)
   here : IsTableOf me.0.of table states counters
   here = subst (λ x. IsTableOf x table states counters) (work ∙ sym of) t
 
-  law : IsLawful me.0.of
+  law : IsLawfulWork me.0.of
   law = let h = here in h.lawful
 
   same : me.0.of ≡ told
@@ -47,12 +47,12 @@ module _ (said told laid : Meaning) (table : TableId) (states counters id : ℕ)
         (claim_plays table.slots id me law (states + i) i (omega (arith, h.states_at)) looked),
   )
 
-  pub read_asks : (i j r c : ℕ) → IsStep said i j → r < read_total said i j → c ≡ read_of said i j r
+  pub read_asks : (i j r c : ℕ) → IsStepOfItem said i j → r < read_total said i j → c ≡ read_of said i j r
       → me.0.place ≡ live (Working i j r)
       → (1 + c < table.words) × Allows (Holds told) table.slots id me (1 + c) (λ y. y)
       (read_told (step table.slots (1 + c) 0 0 none) me)
   read_asks i j r c st l is working = let h = here in
-      let st' : IsStep me.0.of i j = back (λ x. IsStep x i j) st in
+      let st' : IsStepOfItem me.0.of i j = back (λ x. IsStepOfItem x i j) st in
       let b : r < read_total me.0.of i j = back (λ x. r < read_total x i j) l in
       let e : c ≡ read_of me.0.of i j r = back (λ x. c ≡ read_of x i j r) is in
       let in_range : read_of me.0.of i j r < cell_total me.0.of = let w = law in w.read_in_range i j r st' b in (
@@ -62,12 +62,12 @@ module _ (said told laid : Meaning) (table : TableId) (states counters id : ℕ)
             (read_plays table.slots id me law (1 + c) i j r (ap (λ y. 1 + y) e) st'.step b working),
       )
 
-  pub fill_asks : (i j new c : ℕ) → IsStep said i j → new ≡ solved_word said (target_of said i j)
+  pub fill_asks : (i j new c : ℕ) → IsStepOfItem said i j → new ≡ solved_word said (target_of said i j)
       → c ≡ target_of said i j → me.0.place ≡ live (Working i j (read_total said i j))
       → (1 + c < table.words) × Allows (Holds told) table.slots id me (1 + c) (λ y. new)
       (λ y. fill_told (step table.slots (1 + c) new 0 none) me new)
   fill_asks i j new c st word is working = let h = here in
-      let st' : IsStep me.0.of i j = back (λ x. IsStep x i j) st in
+      let st' : IsStepOfItem me.0.of i j = back (λ x. IsStepOfItem x i j) st in
       let e : c ≡ target_of me.0.of i j = back (λ x. c ≡ target_of x i j) is in
       let in_range : target_of me.0.of i j < cell_total me.0.of = let w = law in w.target_in_range i j st' in (
         omega (arith, h.words),
@@ -124,19 +124,19 @@ module _ (said told laid : Meaning) (table : TableId) (states counters id : ℕ)
   )
 
   pub split_asks : me.0.place ≡ live Idle
-      → (0 < table.words) × Splits (Holds told) id me.0 (after me.0 me.0.place split end_word None) (newcomer me.0.of)
+      → (0 < table.words) × Splits (Holds told) id me.0 (after me.0 me.0.place split end_word None) (newcomer me.0.of (next_name me.0))
   split_asks idle = let h = here in (
     omega (arith, h.words),
     subst
-        (λ x. Splits (Holds x) id me.0 (after me.0 me.0.place split end_word None) (newcomer me.0.of)) same
+        (λ x. Splits (Holds x) id me.0 (after me.0 me.0.place split end_word None) (newcomer me.0.of (next_name me.0))) same
         (split_plays id me.0 idle),
   )
 
   pub join_asks : (other : ℕ) (w : HandState) → IsFree me.0.place → IsFree w.place
-      → (0 < table.words) × Joins (Holds told) id me.0 other w (after me.0 me.0.place join end_word None) given_up
+      → (0 < table.words) × Joins (Holds told) id me.0 other w (after_join me.0 w) given_up
   join_asks other w f g = let h = here in (
     omega (arith, h.words),
     subst
-        (λ x. Joins (Holds x) id me.0 other w (after me.0 me.0.place join end_word None) given_up) same
+        (λ x. Joins (Holds x) id me.0 other w (after_join me.0 w) given_up) same
         (join_plays id other me.0 w f g),
   )

@@ -3,15 +3,15 @@ use Rattle.std.proofs.Common.{◌≡◌, ℕ, ◌^◌, ◌<◌, ◌≤◌, inl, 
 use Rattle.std.proofs.lemmas.List.FromFn.{length-map-range_with_len, get_or-map-range_with_len}
 use Rattle.ftl_model.specs.Values.{overflow, IsValue}
 use Rattle.ftl_cells.specs.Count.{Counts}
-use Rattle.ftl_cells.specs.Work.{no_item, no_step, item_at, step_at, cell_total, kind_at, solution_at, item_total, pred_total, next_total, next_at, step_total, target_of, reads_of, read_total, read_of, IsStep, IsNext, IsOwn, IsHandedOn, IsReadable, IsLawful}
-use Rattle.ftl_cells.specs.Shape.{Shape, listing, listed, step_of, item_of, HasStep, ComesNext, IsOwnCell, IsPassedCell, IsLawfulShape}
+use Rattle.ftl_cells.specs.Work.{no_item, no_step, item_at, step_at, cell_total, kind_at, solution_at, item_total, pred_total, next_total, next_at, step_total, target_of, reads_of_step, read_total, read_of, IsStepOfItem, IsNext, IsOwn, IsHandedOn, IsReadable, IsLawfulWork}
+use Rattle.ftl_cells.specs.Shape.{WorkShape, listing, listed, step_of, item_of, HasStep, ComesNext, IsOwnCell, IsPassedCell, IsLawfulWorkShape}
 use Rattle.ftl_cells.specs.declared.kind.CellKind.TheVariants.{Later}
 use Rattle.ftl_cells.proofs.Counting.{same_count}
 
 listing_at : {X : Type 0} (f : ℕ → X) (n i : ℕ) (d : X) → i < n → get_or (listing f n) i d ≡ f i
 listing_at f n i d l = get_or-map-range_with_len f 0 n i i d l (omega arith)
 
-module _ (s : Shape) where
+module _ (s : WorkShape) where
   pub cell_total-listed : cell_total (listed s) ≡ s.cells
   unfolding cell_total listed
   cell_total-listed = length-map-range_with_len s.kind 0 s.cells
@@ -59,16 +59,16 @@ module _ (s : Shape) where
   unfolding target_of
   target_of-listed i j st = ap (λ x. x.target) (step_at-listed i j st)
 
-  pub reads_of-listed : (i j : ℕ) → HasStep s i j → reads_of (listed s) i j ≡ listing (s.read i j) (s.read_count i j)
-  unfolding reads_of
-  reads_of-listed i j st = ap (λ x. x.reads) (step_at-listed i j st)
+  pub reads_of_step-listed : (i j : ℕ) → HasStep s i j → reads_of_step (listed s) i j ≡ listing (s.read i j) (s.read_count i j)
+  unfolding reads_of_step
+  reads_of_step-listed i j st = ap (λ x. x.reads) (step_at-listed i j st)
 
   pub read_total-listed : (i j : ℕ) → HasStep s i j → read_total (listed s) i j ≡ s.read_count i j
-  read_total-listed i j st = ap length (reads_of-listed i j st) ∙ length-map-range_with_len (s.read i j) 0
+  read_total-listed i j st = ap length (reads_of_step-listed i j st) ∙ length-map-range_with_len (s.read i j) 0
       (s.read_count i j)
 
   pub read_of-listed : (i j r : ℕ) → HasStep s i j → r < s.read_count i j → read_of (listed s) i j r ≡ s.read i j r
-  read_of-listed i j r st b = ap (λ xs. get_or xs r 0) (reads_of-listed i j st) ∙ listing_at (s.read i j)
+  read_of-listed i j r st b = ap (λ xs. get_or xs r 0) (reads_of_step-listed i j st) ∙ listing_at (s.read i j)
       (s.read_count i j) r 0 b
 
   -- the facts on items and steps, both ways
@@ -78,11 +78,11 @@ module _ (s : Shape) where
   pub item_above : (i : ℕ) → i < s.items → i < item_total (listed s)
   item_above i l = subst (λ n. i < n) (sym item_total-listed) l
 
-  pub has_step : (i j : ℕ) → IsStep (listed s) i j → HasStep s i j
+  pub has_step : (i j : ℕ) → IsStepOfItem (listed s) i j → HasStep s i j
   has_step i j st = let l = item_below i st.item in record
       { item = l; step = subst (λ n. j < n) (step_total-listed i l) st.step }
 
-  pub is_step : (i j : ℕ) → HasStep s i j → IsStep (listed s) i j
+  pub is_step : (i j : ℕ) → HasStep s i j → IsStepOfItem (listed s) i j
   is_step i j st = record
       { item = item_above i st.item; step = subst (λ n. j < n) (sym (step_total-listed i st.item)) st.step }
 
@@ -100,7 +100,7 @@ module _ (s : Shape) where
     is = next_at-listed p n.at n.known n.below ∙ n.is;
   }
 
-  module _ (law : IsLawfulShape s) where
+  module _ (law : IsLawfulWorkShape s) where
     cell_below : (c : ℕ) → c < cell_total (listed s) → c < s.cells
     cell_below c l = subst (λ n. c < n) cell_total-listed l
 
@@ -118,7 +118,7 @@ module _ (s : Shape) where
     unfolding listed
     fits n h = h
 
-    pub is_lawful : IsLawful (listed s)
+    pub is_lawful : IsLawfulWork (listed s)
     is_lawful = record {
       solved = solved_is;
       values = λ c l. subst IsValue (sym (solution_at-listed c (cell_below c l))) (law.values c (cell_below c l));

@@ -1,12 +1,12 @@
 -- The word of a value is not that of an empty cell.
-use Rattle.std.proofs.Common.{◌≢◌, ◌≤◌, arith}
+use Rattle.std.proofs.Common.{◌≢◌, arith}
 use Rattle.std.proofs.lemmas.Int.{ints}
 use Rattle.ftl_model.specs.Values.{Value, number, overflow, IsValue, word_of_value, word_of_number, least_number}
 use Rattle.std.specs.Prelude.{ℤ, pos, negsuc, ◌≤ℤ◌}
 
 word_of_number_pos : (n : ℤ) → least_number ≤ℤ n → word_of_number n ≢ 0
 word_of_number_pos (pos n) low z = omega arith
-word_of_number_pos (negsuc n) low z = let b : n ≤ 2147483647 = omega (arith, ints) in omega arith
+word_of_number_pos (negsuc n) low z = omega (arith, ints)
 
 pub word_of_value_pos : (v : Value) → IsValue v → word_of_value v ≢ 0
 word_of_value_pos (number n) h = word_of_number_pos n h.0

@@ -31,11 +31,21 @@ abbrev pub CanRead : Meaning → Place → Type 0
 CanRead m (live (Working item step reads)) = (step < step_total m item) × (reads < read_total m item step)
 CanRead m p = ⊥
 
+-- the cell is that of the next read
+abbrev pub IsNextRead : Meaning → Place → ℕ → Type 0
+IsNextRead m (live (Working item step reads)) cell = cell ≡ read_of m item step reads
+IsNextRead m p cell = ⊥
+
 -- the place is Working, with all reads of its step done, and this is the solution's value at the step's target
 abbrev pub CanFill : Meaning → Place → Value → Type 0
 CanFill m (live (Working item step reads)) v = (step < step_total m item) × (reads ≡ read_total m item step) ×
     (v ≡ solution_at m (target_of m item step))
 CanFill m p v = ⊥
+
+-- the cell is the target of the step
+abbrev pub IsNextTarget : Meaning → Place → ℕ → Type 0
+IsNextTarget m (live (Working item step reads)) cell = cell ≡ target_of m item step
+IsNextTarget m p cell = ⊥
 
 -- the place is Working, with all steps filled
 abbrev pub CanMark : Meaning → Place → Type 0

@@ -1,9 +1,9 @@
 -- Steps of any hands in any order: what one step of a hand is, what the words tell at any moment, and what stays.
-use Rattle.std.specs.Prelude.{◌≡◌, ◌≢◌, ℕ, ◌<◌, List, [], ◌∷◌, ◌++◌, length, slice_index, slice_set}
+use Rattle.std.specs.Prelude.{◌≡◌, ◌≢◌, ℕ, ◌<◌, List, length, slice_index}
 use Rattle.ftl_cells.specs.Work.{Meaning, cell_total, kind_at, item_total, step_total, target_of, read_total, read_of, solved_word, IsNext}
 use mathlib.Core.Option.{some}
 use lib.ListN.{get_elem?}
-use Rattle.ftl_cells.specs.State.{live, HandState, given_up, Makes, Reached, cell_word, state_word, last_word_of}
+use Rattle.ftl_cells.specs.State.{live, spent, HandState, Makes, Reached, cell_word, state_word, last_word_of}
 use Rattle.ftl_cells.specs.Kept.{hand_at}
 use Rattle.ftl_cells.specs.declared.place.HandPlace.TheVariants.{Looked, Working}
 
@@ -26,17 +26,9 @@ pub record IsStepOf (v w : HandState) : Type 0 where
   pub made : Makes v.of words hands next more
   pub after : get_elem? more hand ≡ some w
 
--- a split takes a hand from one state to another and makes a third: wherever a hand is at the first
-abbrev pub IsSplitOf : HandState → HandState → HandState → Type 0
-IsSplitOf v w new = (words : List ℕ) (hands : List HandState) (hand : ℕ) → get_elem? hands hand ≡ some v
-    → Makes v.of words hands words (slice_set hands hand w ++ new ∷ [])
-
--- a join takes a hand from one state to another and gives up one in a third: wherever two hands are at the first and at
--- the third
-abbrev pub IsJoinOf : HandState → HandState → HandState → Type 0
-IsJoinOf v w gone = (words : List ℕ) (hands : List HandState) (hand other : ℕ) → other ≢ hand
-    → get_elem? hands hand ≡ some v → get_elem? hands other ≡ some gone
-    → Makes v.of words hands words (slice_set (slice_set hands hand w) other given_up)
+-- the hand was made, and was not given up
+abbrev pub IsThere : List HandState → ℕ → Type 0
+IsThere hands h = (hand_at hands h).place ≢ spent
 
 -- each of the items waits for others, and stands once in the list
 pub record AreReleasedOnce (m : Meaning) (items : List ℕ) : Type 0 where

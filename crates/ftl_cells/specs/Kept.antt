@@ -1,7 +1,7 @@
 -- What holds between any two steps of any number of hands.
 use Rattle.std.specs.Prelude.{◌≡◌, ◌≢◌, ℕ, ◌<◌, ◌≤◌, ◌⊎◌, List, length, slice_index, slice_index_or}
 use Rattle.ftl_cells.specs.Count.{Counts}
-use Rattle.ftl_cells.specs.Work.{Meaning, cell_total, kind_at, item_total, next_total, next_at, step_total, target_of, read_total, solved_word, IsStep, IsNext}
+use Rattle.ftl_cells.specs.Work.{Meaning, cell_total, kind_at, item_total, next_total, next_at, step_total, target_of, read_total, solved_word, IsStepOfItem, IsNext}
 use Rattle.ftl_cells.specs.State.{Place, live, HandState, given_up, Sends, end_word, cell_word, state_word, count_word, word_total}
 use Rattle.ftl_cells.specs.declared.kind.CellKind.{CellKind}
 use Rattle.ftl_cells.specs.declared.kind.CellKind.TheVariants.{Given, Target, Later}
@@ -20,8 +20,8 @@ pub record Stage : Type 0 where
 abbrev pub hand_at : List HandState → ℕ → HandState
 hand_at hands h = slice_index_or hands h given_up
 
-abbrev pub stage_of : Meaning → List ℕ → List HandState → Stage
-stage_of m words hands = record {
+abbrev pub stage_now : Meaning → List ℕ → List HandState → Stage
+stage_now m words hands = record {
   cell = λ c. slice_index words (cell_word c);
   state = λ i. slice_index words (state_word m i);
   counter = λ i. slice_index words (count_word m i);
@@ -46,11 +46,11 @@ HasEnded (live Ended) = Unit {0}
 HasEnded p = ⊥
 
 -- the place is Working, Filled or Sending this item
-abbrev pub Has : Place → ℕ → Type 0
-Has (live (Working item step reads)) i = item ≡ i
-Has (live (Filled item)) i = item ≡ i
-Has (live (Sending item sent)) i = item ≡ i
-Has p i = ⊥
+abbrev pub HasItem : Place → ℕ → Type 0
+HasItem (live (Working item step reads)) i = item ≡ i
+HasItem (live (Filled item)) i = item ≡ i
+HasItem (live (Sending item sent)) i = item ≡ i
+HasItem p i = ⊥
 
 -- numbers in places are in range
 abbrev pub IsInRange : Meaning → Place → Type 0
@@ -107,13 +107,13 @@ pub record IsKept (m : Meaning) (s : Stage) : Type 0 where
   -- an item is free, claimed or filled: at 0 all its targets are empty, at 2 none is, and it is 1 exactly where a
   -- hand is Working it
   pub states : (i : ℕ) → i < item_total m → s.state i ≤ 2
-  pub free : (i j : ℕ) → IsStep m i j → s.state i ≡ 0 → s.cell (target_of m i j) ≡ 0
-  pub full : (i j : ℕ) → IsStep m i j → s.state i ≡ 2 → s.cell (target_of m i j) ≢ 0
+  pub free : (i j : ℕ) → IsStepOfItem m i j → s.state i ≡ 0 → s.cell (target_of m i j) ≡ 0
+  pub full : (i j : ℕ) → IsStepOfItem m i j → s.state i ≡ 2 → s.cell (target_of m i j) ≢ 0
   pub claimed : (i : ℕ) → i < item_total m → s.state i ≡ 1 → IsClaimed s i
   pub working : (h i j : ℕ) → Works (s.place h) i j → IsHalfFilled m s i j
   -- a hand is Filled or Sending an item only where it is filled, and no two hands have one item
   pub sending : (h i k : ℕ) → Sends (s.place h) i k → s.state i ≡ 2
-  pub alone : (h g i : ℕ) → Has (s.place h) i → Has (s.place g) i → h ≡ g
+  pub alone : (h g i : ℕ) → HasItem (s.place h) i → HasItem (s.place g) i → h ≡ g
   -- an item's counter is the number of its predecessors that have not delivered to it, and the common end's that of
   -- the items that are not done
   pub counters : (i : ℕ) → i < item_total m → Counts (Owes m s i) i (s.counter i)
@@ -129,4 +129,4 @@ pub record IsKept (m : Meaning) (s : Stage) : Type 0 where
 -- the same of the words of a table and the states of all hands
 pub record IsKeptBy (m : Meaning) (words : List ℕ) (hands : List HandState) : Type 0 where
   pub count : length words ≡ word_total m
-  pub rule : IsKept m (stage_of m words hands)
+  pub rule : IsKept m (stage_now m words hands)

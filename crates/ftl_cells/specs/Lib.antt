@@ -7,6 +7,5 @@ pub mod Told
 pub mod Table
 pub mod Diamond
 pub mod Shape
-pub mod Chain
-pub mod Lent
 pub mod Interleavings
+pub mod Filling

@@ -8,7 +8,7 @@ use Rattle.ftl_cells.specs.declared.kind.CellKind.{CellKind}
 use Rattle.ftl_cells.specs.declared.kind.CellKind.TheVariants.{Given, Target}
 
 -- each function where its arguments are in range
-pub record Shape : Type 0 where
+pub record WorkShape : Type 0 where
   pub cells : ℕ
   pub kind : ℕ → CellKind
   pub value : ℕ → Value
@@ -27,14 +27,14 @@ pub record Shape : Type 0 where
 abbrev pub listing : {X : Type 0} → (ℕ → X) → ℕ → List X
 listing f n = map f (range_with_len 0 n)
 
-abbrev pub step_of : Shape → ℕ → ℕ → StepMeaning
+abbrev pub step_of : WorkShape → ℕ → ℕ → StepMeaning
 step_of s i j = record { target = s.target i j; reads = listing (s.read i j) (s.read_count i j) }
 
-abbrev pub item_of : Shape → ℕ → ItemMeaning
+abbrev pub item_of : WorkShape → ℕ → ItemMeaning
 item_of s i = record
     { preds = s.preds i; next = listing (s.next i) (s.next_count i); steps = listing (step_of s i) (s.steps i) }
 
-unfoldable pub listed : Shape → Meaning
+unfoldable pub listed : WorkShape → Meaning
 listed s = record {
   kinds = listing s.kind s.cells;
   items = listing (item_of s) s.items;
@@ -44,25 +44,25 @@ listed s = record {
 }
 
 -- the item has this step
-pub record HasStep (s : Shape) (i j : ℕ) : Type 0 where
+pub record HasStep (s : WorkShape) (i j : ℕ) : Type 0 where
   pub item : i < s.items
   pub step : j < s.steps i
 
 -- the first item has the second in its list
-pub record ComesNext (s : Shape) (p i : ℕ) : Type 0 where
+pub record ComesNext (s : WorkShape) (p i : ℕ) : Type 0 where
   pub known : p < s.items
   pub at : ℕ
   pub below : at < s.next_count p
   pub is : s.next p at ≡ i
 
 -- the cell is the target of an earlier step of the item
-pub record IsOwnCell (s : Shape) (i j c : ℕ) : Type 0 where
+pub record IsOwnCell (s : WorkShape) (i j c : ℕ) : Type 0 where
   pub step : ℕ
   pub earlier : step < j
   pub is : s.target i step ≡ c
 
 -- the cell is a target of a direct predecessor
-pub record IsPassedCell (s : Shape) (i c : ℕ) : Type 0 where
+pub record IsPassedCell (s : WorkShape) (i c : ℕ) : Type 0 where
   pub item : ℕ
   pub step : ℕ
   pub next : ComesNext s item i
@@ -70,14 +70,14 @@ pub record IsPassedCell (s : Shape) (i c : ℕ) : Type 0 where
   pub is : s.target item step ≡ c
 
 -- the cell is the target of a step
-pub record IsFilledBy (s : Shape) (c : ℕ) : Type 0 where
+pub record IsFilledBy (s : WorkShape) (c : ℕ) : Type 0 where
   pub item : ℕ
   pub step : ℕ
   pub known : HasStep s item step
   pub is : s.target item step ≡ c
 
 -- lawful work, of the functions
-pub record IsLawfulShape (s : Shape) : Type 0 where
+pub record IsLawfulWorkShape (s : WorkShape) : Type 0 where
   pub values : (c : ℕ) → c < s.cells → IsValue (s.value c)
   pub next_in_range : (i k : ℕ) → i < s.items → k < s.next_count i → s.next i k < s.items
   pub next_is_later : (i k : ℕ) → i < s.items → k < s.next_count i → i < s.next i k

@@ -47,29 +47,56 @@ pub record OneStep : Type 0 where
   pub word : ℕ
   pub held : Option ℕ
 
--- what a hand knows: its work, its place, its last step, the count of its steps, and the items that it released
+-- what a hand knows: its work, its name, its place, its last step, the count of its steps, how many steps the hands made
+-- that it took in, and the items that it released
 pub record HandState : Type 0 where
   pub of : Meaning
+  pub name : List ℕ
   pub place : Place
   pub last : Option OneStep
   pub count : ℕ
+  pub taken : ℕ
   pub released : List ℕ
 
--- a hand that has made no step
-abbrev pub newcomer : Meaning → HandState
-newcomer m = record { of = m; place = live Idle; last = None; count = 0; released = [] }
+-- a hand of this name that has made no step
+abbrev pub newcomer : Meaning → List ℕ → HandState
+newcomer m name =
+    record { of = m; name = name; place = live Idle; last = None; count = 0; taken = 0; released = [] }
+
+-- the name of the first hand
+abbrev pub first_name : List ℕ
+first_name = []
+
+-- the name of a hand that this one makes: its own, and then how many steps it has made
+abbrev pub next_name : HandState → List ℕ
+next_name v = v.name ++ v.count ∷ []
 
 -- a hand that was given up
 abbrev pub given_up : HandState
-given_up = record { of = no_work; place = spent; last = None; count = 0; released = [] }
+given_up = record
+    { of = no_work; name = first_name; place = spent; last = None; count = 0; taken = 0; released = [] }
 
 -- a hand after one more step, at this place
 abbrev pub after : HandState → Place → StepKind → ℕ → Option ℕ → HandState
 after v place kind word held = record {
   of = v.of;
+  name = v.name;
   place = place;
   last = Some (record { kind = kind; word = word; held = held });
   count = v.count + 1;
+  taken = v.taken;
+  released = v.released;
+}
+
+-- a hand after it took in another
+abbrev pub after_join : HandState → HandState → HandState
+after_join v other = record {
+  of = v.of;
+  name = v.name;
+  place = v.place;
+  last = Some (record { kind = join; word = end_word; held = None });
+  count = v.count + 1;
+  taken = v.taken + other.count + other.taken;
   released = v.released;
 }
 
@@ -82,9 +109,11 @@ released_after released item (suc left) = released
 abbrev pub after_delivery : HandState → ℕ → ℕ → ℕ → ℕ → ℕ → HandState
 after_delivery v item sent next word left = record {
   of = v.of;
+  name = v.name;
   place = live (Sending item (sent + 1));
   last = Some (record { kind = delivery; word = word; held = Some (suc left) });
   count = v.count + 1;
+  taken = v.taken;
   released = released_after v.released next left;
 }
 
@@ -139,10 +168,10 @@ pub data Makes (m : Meaning) (words : List ℕ) (hands : List HandState) : List 
   steps : (h : ℕ) (v w : HandState) (next : List ℕ) → get_elem? hands h ≡ some v → Steps m words v next w
       → Makes m words hands next (slice_set hands h w)
   splits : (h : ℕ) (v : HandState) → get_elem? hands h ≡ some v → v.place ≡ live Idle
-      → Makes m words hands words (slice_set hands h (after v v.place split end_word None) ++ newcomer m ∷ [])
+      → Makes m words hands words (slice_set hands h (after v v.place split end_word None) ++ newcomer m (next_name v) ∷ [])
   joins : (h other : ℕ) (v w : HandState) → other ≢ h → get_elem? hands h ≡ some v → get_elem? hands other ≡ some w
       → IsFree v.place → IsFree w.place
-      → Makes m words hands words (slice_set (slice_set hands h (after v v.place join end_word None)) other given_up)
+      → Makes m words hands words (slice_set (slice_set hands h (after_join v w)) other given_up)
 
 -- what a cell holds at the opening: the solution's word where it is Given, and 0 elsewhere
 abbrev pub first_word_of : CellKind → ℕ → ℕ
@@ -177,7 +206,7 @@ pub record IsOpening (m : Meaning) (words : List ℕ) : Type 0 where
 
 -- the states that steps lead to from an opening with one hand
 pub data Reached (m : Meaning) : List ℕ → List HandState → Type 0 where
-  begins : (words : List ℕ) → IsOpening m words → Reached m words (newcomer m ∷ [])
+  begins : (words : List ℕ) → IsOpening m words → Reached m words (newcomer m first_name ∷ [])
   goes_on : {words next : List ℕ} {hands more : List HandState} → Reached m words hands
       → Makes m words hands next more → Reached m next more
 

@@ -2,7 +2,7 @@
 use Rattle.std.specs.Prelude.{◌≡◌, ℕ, ◌+◌, ◌^◌, ◌<◌, []}
 use Rattle.atomic_table.specs.Seated.{TableId}
 use Rattle.atomic_table.specs.declared.shared.Seat.{Seat}
-use Rattle.ftl_cells.specs.Work.{Meaning, IsLawful, cell_total, item_total}
+use Rattle.ftl_cells.specs.Work.{Meaning, IsLawfulWork, cell_total, item_total}
 use Rattle.ftl_cells.specs.State.{live, HandState, word_total}
 use Rattle.ftl_cells.specs.Kept.{IsInRange}
 use Rattle.ftl_cells.specs.declared.place.HandPlace.{HandPlace}
@@ -11,7 +11,7 @@ use Rattle.ftl_cells.specs.declared.place.HandPlace.{HandPlace}
 pub record IsTableOf (m : Meaning) (table : TableId) (states counters : ℕ) : Type 0 where
   pub words : table.words ≡ word_total m
   pub slots : table.slots ≡ 0
-  pub lawful : IsLawful m
+  pub lawful : IsLawfulWork m
   pub few_cells : cell_total m < 2 ^ 32
   pub few_items : item_total m < 2 ^ 32
   pub states_at : states ≡ 1 + cell_total m

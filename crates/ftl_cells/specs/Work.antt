@@ -68,25 +68,25 @@ module _ (m : Meaning) where
   unfoldable pub target_of : ℕ → ℕ → ℕ
   target_of i j = (step_at i j).target
 
-  unfoldable pub reads_of : ℕ → ℕ → List ℕ
-  reads_of i j = (step_at i j).reads
+  unfoldable pub reads_of_step : ℕ → ℕ → List ℕ
+  reads_of_step i j = (step_at i j).reads
 
   abbrev pub read_total : ℕ → ℕ → ℕ
-  read_total i j = length (reads_of i j)
+  read_total i j = length (reads_of_step i j)
 
   abbrev pub read_of : ℕ → ℕ → ℕ → ℕ
-  read_of i j r = slice_index (reads_of i j) r
+  read_of i j r = slice_index (reads_of_step i j) r
 
   -- the solution's values at the reads of a step
   abbrev pub solved_reads : ℕ → ℕ → List Value
-  solved_reads i j = map solution_at (reads_of i j)
+  solved_reads i j = map solution_at (reads_of_step i j)
 
   -- the word of the solution's value at a cell
   abbrev pub solved_word : ℕ → ℕ
   solved_word c = word_of_value (solution_at c)
 
 -- the item has this step
-pub record IsStep (m : Meaning) (i j : ℕ) : Type 0 where
+pub record IsStepOfItem (m : Meaning) (i j : ℕ) : Type 0 where
   pub item : i < item_total m
   pub step : j < step_total m i
 
@@ -108,7 +108,7 @@ pub record IsHandedOn (m : Meaning) (i c : ℕ) : Type 0 where
   pub item : ℕ
   pub step : ℕ
   pub next : IsNext m item i
-  pub known : IsStep m item step
+  pub known : IsStepOfItem m item step
   pub is : target_of m item step ≡ c
 
 -- a step of this item may read the cell
@@ -119,13 +119,13 @@ IsReadable m i j c = (kind_at m c ≡ Given) ⊎ IsOwn m i j c ⊎ IsHandedOn m 
 pub record IsTargeted (m : Meaning) (c : ℕ) : Type 0 where
   pub item : ℕ
   pub step : ℕ
-  pub known : IsStep m item step
+  pub known : IsStepOfItem m item step
   pub is : target_of m item step ≡ c
 
 -- Lawful work. Each predecessor of an item has a smaller number, and the item's count is that of its predecessors; each
 -- Target cell is the target of exactly one step, and no other cell is one; each read is of a Given cell, of the target
 -- of an earlier step of the same item, or of a target of a direct predecessor; and all numbers are in range
-pub record IsLawful (m : Meaning) : Type 0 where
+pub record IsLawfulWork (m : Meaning) : Type 0 where
   pub solved : length m.solution ≡ cell_total m
   pub values : (c : ℕ) → c < cell_total m → IsValue (solution_at m c)
   pub next_in_range : (i k : ℕ) → i < item_total m → k < next_total m i → next_at m i k < item_total m
@@ -133,13 +133,13 @@ pub record IsLawful (m : Meaning) : Type 0 where
   pub next_once : (i k l : ℕ) → i < item_total m → k < next_total m i → l < next_total m i
       → next_at m i k ≡ next_at m i l → k ≡ l
   pub preds : (i : ℕ) → i < item_total m → Counts (λ p. IsNext m p i) i (pred_total m i)
-  pub target_in_range : (i j : ℕ) → IsStep m i j → target_of m i j < cell_total m
-  pub target_kind : (i j : ℕ) → IsStep m i j → kind_at m (target_of m i j) ≡ Target
-  pub target_once : (i j k l : ℕ) → IsStep m i j → IsStep m k l → target_of m i j ≡ target_of m k l
+  pub target_in_range : (i j : ℕ) → IsStepOfItem m i j → target_of m i j < cell_total m
+  pub target_kind : (i j : ℕ) → IsStepOfItem m i j → kind_at m (target_of m i j) ≡ Target
+  pub target_once : (i j k l : ℕ) → IsStepOfItem m i j → IsStepOfItem m k l → target_of m i j ≡ target_of m k l
       → (i ≡ k) × (j ≡ l)
   pub each_target : (c : ℕ) → c < cell_total m → kind_at m c ≡ Target → IsTargeted m c
-  pub read_in_range : (i j r : ℕ) → IsStep m i j → r < read_total m i j → read_of m i j r < cell_total m
-  pub readable : (i j r : ℕ) → IsStep m i j → r < read_total m i j → IsReadable m i j (read_of m i j r)
-  pub few_reads : (i j : ℕ) → IsStep m i j → read_total m i j ≤ m.max_reads
+  pub read_in_range : (i j r : ℕ) → IsStepOfItem m i j → r < read_total m i j → read_of m i j r < cell_total m
+  pub readable : (i j r : ℕ) → IsStepOfItem m i j → r < read_total m i j → IsReadable m i j (read_of m i j r)
+  pub few_reads : (i j : ℕ) → IsStepOfItem m i j → read_total m i j ≤ m.max_reads
   pub counted : (i : ℕ) → i < item_total m → (next_total m i < 2 ^ 32) × (step_total m i < 2 ^ 32)
-  pub reads_counted : (i j : ℕ) → IsStep m i j → read_total m i j < 2 ^ 32
+  pub reads_counted : (i j : ℕ) → IsStepOfItem m i j → read_total m i j < 2 ^ 32

@@ -1,14 +1,14 @@
 // Each kind of step, as one atomic instruction on a seat.
 ghost use Rattle.std.specs.Prelude.{◌≡◌, ℕ, ◌<◌, ◌^◌, []};
 ghost use Rattle.ftl_model.specs.Values.{word_of_value};
-ghost use Rattle.ftl_cells.specs.Work.{IsStep, item_total, next_total, next_at, step_total};
+ghost use Rattle.ftl_cells.specs.Work.{IsStepOfItem, item_total, next_total, next_at, step_total};
 ghost use Rattle.ftl_cells.specs.Work.{target_of, read_total, read_of, solved_word};
-ghost use Rattle.ftl_cells.specs.State.{live, Sends, IsFree, newcomer, after, split, join};
-ghost use Rattle.ftl_cells.specs.State.{end_word};
+ghost use Rattle.ftl_cells.specs.State.{live, Sends, IsFree, newcomer, next_name, after};
+ghost use Rattle.ftl_cells.specs.State.{after_join, split, end_word};
 ghost use Rattle.ftl_cells.specs.Table.{IsSeatOf};
 ghost use Rattle.ftl_cells.specs.Told.{LookTold, ClaimTold, ReadTold, FillTold, MarkTold, SendTold};
 ghost use Rattle.ftl_cells.specs.Told.{FinishTold, LeftTold};
-ghost use Rattle.ftl_cells.specs.Interleavings.{IsStepOf, IsSplitOf, IsJoinOf};
+ghost use Rattle.ftl_cells.specs.Interleavings.{IsStepOf};
 ghost use Rattle.ftl_cells.specs.declared.place.HandPlace.TheVariants.{Idle, Looked, Working};
 ghost use Rattle.std.specs.Prelude.{None};
 
@@ -18,10 +18,10 @@ use crate::rule::{
     ClaimPlay, FillPlay, FinishPlay, JoinPlay, LeftPlay, LookPlay, MarkPlay, ReadPlay, SendPlay,
     SplitPlay,
 };
-use crate::work::Work;
+use crate::work::Meant;
 use atomic_table::Seat;
 
-impl<W: Work> Cells<W> {
+impl<W: Meant> Cells<W> {
     pub(crate) fn load_counter(&self, seat: &mut Seat<u8, Told>, item: u32) -> u64
         requires seat { IsSeatOf (W.meaning self.now.1) self.now.0 seat.old }
         requires idle { seat.old.me.0.place ≡ live Idle }
@@ -48,34 +48,49 @@ impl<W: Work> Cells<W> {
         shared.compare_exchange::<ClaimPlay>(seat, at, 0, 1)
     }
 
-    /// Loads the cell of a read.
-    pub(crate) fn load_cell(&self, seat: &mut Seat<u8, Told>, item: u32, step: u32, k: u32) -> u64
+    /// Loads the cell of a read. Where the hand stands is for the contract alone.
+    pub(crate) fn load_cell(
+        &self,
+        seat: &mut Seat<u8, Told>,
+        _item: u32,
+        _step: u32,
+        _k: u32,
+        cell: u32,
+    ) -> u64
         requires seat { IsSeatOf (W.meaning self.now.1) self.now.0 seat.old }
-        requires working { seat.old.me.0.place ≡ live (Working item step k) }
-        requires step { IsStep (W.meaning self.now.1) item step }
-        requires place { k < read_total (W.meaning self.now.1) item step }
+        requires working { seat.old.me.0.place ≡ live (Working _item _step _k) }
+        requires step { IsStepOfItem (W.meaning self.now.1) _item _step }
+        requires place { _k < read_total (W.meaning self.now.1) _item _step }
+        requires cell { cell ≡ read_of (W.meaning self.now.1) _item _step _k }
         ensures table { seat.new.table_id ≡ seat.old.table_id }
         ensures reached { IsStepOf seat.old.me.0 seat.new.me.0 }
-        ensures told { ReadTold seat.old.me item step k result seat.new.me }
-        ensures counted { read_total (W.meaning self.now.1) item step < 2 ^ 32 }
+        ensures told { ReadTold seat.old.me _item _step _k result seat.new.me }
+        ensures counted { read_total (W.meaning self.now.1) _item _step < 2 ^ 32 }
     {
-        let cell = self.work.read(item, step, k);
         self.table.shared.load::<ReadPlay>(seat, 1 + cell as usize)
     }
 
-    pub(crate) fn store_cell(&self, seat: &mut Seat<u8, Told>, item: u32, step: u32, word: u64)
+    /// Stores the word in the target of a step. Where the hand stands is for the contract alone.
+    pub(crate) fn store_cell(
+        &self,
+        seat: &mut Seat<u8, Told>,
+        _item: u32,
+        _step: u32,
+        cell: u32,
+        word: u64,
+    )
         requires seat { IsSeatOf (W.meaning self.now.1) self.now.0 seat.old }
         requires working { seat.old.me.0.place
-            ≡ live (Working item step (read_total (W.meaning self.now.1) item step)) }
-        requires step { IsStep (W.meaning self.now.1) item step }
+            ≡ live (Working _item _step (read_total (W.meaning self.now.1) _item _step)) }
+        requires step { IsStepOfItem (W.meaning self.now.1) _item _step }
+        requires cell { cell ≡ target_of (W.meaning self.now.1) _item _step }
         requires word { word
-            ≡ solved_word (W.meaning self.now.1) (target_of (W.meaning self.now.1) item step) }
+            ≡ solved_word (W.meaning self.now.1) (target_of (W.meaning self.now.1) _item _step) }
         ensures table { seat.new.table_id ≡ seat.old.table_id }
         ensures reached { IsStepOf seat.old.me.0 seat.new.me.0 }
-        ensures told { FillTold seat.old.me item step seat.new.me }
-        ensures counted { step_total (W.meaning self.now.1) item < 2 ^ 32 }
+        ensures told { FillTold seat.old.me _item _step seat.new.me }
+        ensures counted { step_total (W.meaning self.now.1) _item < 2 ^ 32 }
     {
-        let cell = self.work.target(item, step);
         self.table
             .shared
             .store::<FillPlay>(seat, 1 + cell as usize, word);
@@ -138,9 +153,8 @@ impl<W: Work> Cells<W> {
         ensures table { seat.new.table_id ≡ seat.old.table_id }
         ensures kept { seat.new.me
             ≡ (after seat.old.me.0 seat.old.me.0.place split end_word None, seat.old.me.1) }
-        ensures reached { IsSplitOf seat.old.me.0 seat.new.me.0 result.me.0 }
         ensures made { result.table_id ≡ seat.old.table_id }
-        ensures newcomer { result.me ≡ (newcomer seat.old.me.0.of, []) }
+        ensures newcomer { result.me ≡ (newcomer seat.old.me.0.of (next_name seat.old.me.0), []) }
     {
         self.table.shared.split_seat::<SplitPlay>(seat)
     }
@@ -152,9 +166,8 @@ impl<W: Work> Cells<W> {
         requires free { IsFree seat.old.me.0.place }
         requires other_free { IsFree other.me.0.place }
         ensures table { seat.new.table_id ≡ seat.old.table_id }
-        ensures reached { IsJoinOf seat.old.me.0 seat.new.me.0 other.me.0 }
         ensures kept { seat.new.me
-            ≡ (after seat.old.me.0 seat.old.me.0.place join end_word None, seat.old.me.1) }
+            ≡ (after_join seat.old.me.0 other.me.0, seat.old.me.1) }
     {
         self.table.shared.join_seat::<JoinPlay>(seat, other);
     }

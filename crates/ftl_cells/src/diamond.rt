@@ -1,17 +1,19 @@
 use crate::kind::CellKind;
-use crate::work::Work;
+use crate::work::{Meant, Work};
 use ftl_base::{CodeStack, Val, add};
 
 /// A work of four items, for tests: the first comes before two, and both of these before the last.
 #[derive(Drop)]
 pub struct Diamond;
 
-#[tactic(auto, using(crate::proofs::DiamondLaws::diamond_is_lawful, crate::proofs::DiamondLaws::only_step), unfolding(crate::specs::Work::cell_total, crate::specs::Work::kind_at, crate::specs::Work::solution_at, crate::specs::Work::item_total, crate::specs::Work::pred_total, crate::specs::Work::next_total, crate::specs::Work::next_at, crate::specs::Work::step_total, crate::specs::Work::target_of, crate::specs::Work::reads_of))]
-impl Work for Diamond {
+impl Meant for Diamond {
     ghost use Rattle.ftl_cells.specs.Diamond.{diamond};
 
     ghost meaning = { λ _. diamond };
+}
 
+#[tactic(auto, using(crate::proofs::DiamondLaws::diamond_is_lawful, crate::proofs::DiamondLaws::only_step), unfolding(crate::specs::Work::cell_total, crate::specs::Work::kind_at, crate::specs::Work::solution_at, crate::specs::Work::item_total, crate::specs::Work::pred_total, crate::specs::Work::next_total, crate::specs::Work::next_at, crate::specs::Work::step_total, crate::specs::Work::target_of, crate::specs::Work::reads_of_step))]
+impl Work for Diamond {
     fn items(&self) -> u32 {
         4
     }

@@ -11,12 +11,12 @@ use std::marker::Model;
 pub(crate) struct Told {}
 
 impl Model for Told {
-    ghost use Rattle.ftl_cells.specs.State.{HandState, newcomer};
+    ghost use Rattle.ftl_cells.specs.State.{HandState, newcomer, first_name};
     ghost use Rattle.ftl_cells.specs.Work.{no_work};
 
     ghost Value = { HandState };
 
-    ghost view = { λ _. newcomer no_work };
+    ghost view = { λ _. newcomer no_work first_name };
 }
 
 /// Makes the steps of one thread. `Cells::open` gives the first hand, and `another` gives more.

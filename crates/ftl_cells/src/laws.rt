@@ -1,40 +1,50 @@
 //! What holds over all interleavings of the steps of any number of hands, and of works that are
 //! given by functions.
-ghost use Rattle.std.specs.Prelude.{◌≡◌, ◌≢◌, ℕ, ◌<◌, true, List, length, slice_index};
-ghost use Rattle.ftl_cells.specs.Work.{Meaning, IsLawful};
-ghost use Rattle.ftl_cells.specs.Shape.{Shape, IsLawfulShape, listed};
-ghost use Rattle.ftl_cells.specs.State.{live, HandState, Makes, Reached, end_word};
+ghost use Rattle.std.specs.Prelude.{◌≡◌, ◌≢◌, ℕ, ◌<◌, true, List, [], ◌∷◌, ◌++◌, length};
+ghost use Rattle.std.specs.Prelude.{slice_index};
+ghost use Rattle.ftl_cells.specs.Work.{Meaning, IsLawfulWork, item_total, pred_total, next_total};
+ghost use Rattle.ftl_cells.specs.Work.{next_at};
+ghost use Rattle.ftl_cells.specs.Shape.{WorkShape, IsLawfulWorkShape, listed};
+ghost use Rattle.ftl_cells.specs.State.{live, HandState, newcomer, first_name, Makes, IsOpening};
+ghost use Rattle.ftl_cells.specs.State.{Reached, end_word};
 ghost use Rattle.ftl_cells.specs.Kept.{IsKeptBy, HasEnded, hand_at};
 ghost use Rattle.ftl_cells.specs.Calls.{ClaimSteps, SendsOn};
 ghost use Rattle.ftl_cells.specs.declared.place.HandPlace.TheVariants.{Looked};
 ghost use Rattle.ftl_cells.specs.declared.answer.Claim.TheVariants.{Mine};
 ghost use Rattle.ftl_cells.specs.Interleavings.{LeadsTo, WinsClaim, ReadsFindValues, IsStepOf};
-ghost use Rattle.ftl_cells.specs.Interleavings.{AreReleasedOnce};
+ghost use Rattle.ftl_cells.specs.Interleavings.{AreReleasedOnce, IsThere};
 ghost use Rattle.ftl_cells.specs.Interleavings.{FillsFindEmpty, ClaimsStay, AllFilled, HoldSolution};
 
 /// A work that is given by functions is lawful where they are.
 pub fn shapes_are_lawful()
-    ensures { (s : Shape) → IsLawfulShape s → IsLawful (listed s) }
+    ensures { (s : WorkShape) → IsLawfulWorkShape s → IsLawfulWork (listed s) }
+{}
+
+/// An item in a list of next items has a predecessor, so it is none of those that may be taken at
+/// once.
+pub fn next_items_have_predecessors()
+    ensures { (m : Meaning) (item k : ℕ) → IsLawfulWork m → item < item_total m
+        → k < next_total m item → pred_total m (next_at m item k) ≢ 0 }
 {}
 
 /// Between any two steps the rule is kept: the words of the cells and the states of all hands are
 /// always ones that steps lead to, since that is the rule of their table.
 pub fn rule_is_kept()
-    ensures { (m : Meaning) (words : List ℕ) (hands : List HandState) → IsLawful m
+    ensures { (m : Meaning) (words : List ℕ) (hands : List HandState) → IsLawfulWork m
         → Reached m words hands → IsKeptBy m words hands }
 {}
 
 /// Each step keeps the rule, and so does any number of steps.
 pub fn steps_keep_the_rule()
-    ensures one { (m : Meaning) (words next : List ℕ) (hands more : List HandState) → IsLawful m
+    ensures one { (m : Meaning) (words next : List ℕ) (hands more : List HandState) → IsLawfulWork m
         → IsKeptBy m words hands → Makes m words hands next more → IsKeptBy m next more }
-    ensures many { (m : Meaning) (words next : List ℕ) (hands more : List HandState) → IsLawful m
+    ensures many { (m : Meaning) (words next : List ℕ) (hands more : List HandState) → IsLawfulWork m
         → IsKeptBy m words hands → LeadsTo m words hands next more → IsKeptBy m next more }
 {}
 
 /// A read never finds its cell empty, but always the solution's word.
 pub fn reads_find_values()
-    ensures { (m : Meaning) (words : List ℕ) (hands : List HandState) → IsLawful m
+    ensures { (m : Meaning) (words : List ℕ) (hands : List HandState) → IsLawfulWork m
         → IsKeptBy m words hands → ReadsFindValues m words hands }
 {}
 
@@ -46,7 +56,7 @@ pub fn fills_find_empty_cells()
 
 /// However many steps follow, an item that was claimed is never free again.
 pub fn claims_stay()
-    ensures { (m : Meaning) (words next : List ℕ) (hands more : List HandState) → IsLawful m
+    ensures { (m : Meaning) (words next : List ℕ) (hands more : List HandState) → IsLawfulWork m
         → IsKeptBy m words hands → LeadsTo m words hands next more → ClaimsStay m words next }
 {}
 
@@ -54,7 +64,7 @@ pub fn claims_stay()
 /// hands come between: at most one claim of an item is won.
 pub fn claims_win_once()
     ensures { (m : Meaning) (first next later last : List ℕ) (all more many most : List HandState)
-        (h g i : ℕ) → IsLawful m → IsKeptBy m first all → WinsClaim m first all h i next more
+        (h g i : ℕ) → IsLawfulWork m → IsKeptBy m first all → WinsClaim m first all h i next more
         → LeadsTo m next more later many → WinsClaim m later many g i last most → ⊥ }
 {}
 
@@ -68,9 +78,9 @@ pub fn mine_wins_the_claim()
 /// Where the common end's counter is 0, each item was claimed and filled, and the cells hold the
 /// solution.
 pub fn end_means_all()
-    ensures items { (m : Meaning) (words : List ℕ) (hands : List HandState) → IsLawful m
+    ensures items { (m : Meaning) (words : List ℕ) (hands : List HandState) → IsLawfulWork m
         → IsKeptBy m words hands → slice_index words end_word ≡ 0 → AllFilled m words }
-    ensures cells { (m : Meaning) (words : List ℕ) (hands : List HandState) → IsLawful m
+    ensures cells { (m : Meaning) (words : List ℕ) (hands : List HandState) → IsLawfulWork m
         → IsKeptBy m words hands → slice_index words end_word ≡ 0 → HoldSolution m words }
 {}
 
@@ -83,18 +93,40 @@ pub fn ended_means_the_end()
 
 /// Where a step leaves its hand Ended, each item is filled then, and the cells hold the solution.
 pub fn ended_hands_saw_all()
-    ensures items { (v w : HandState) (step : IsStepOf v w) → IsLawful v.of → HasEnded w.place
+    ensures items { (v w : HandState) (step : IsStepOf v w) → IsLawfulWork v.of → HasEnded w.place
         → AllFilled v.of step.next }
-    ensures cells { (v w : HandState) (step : IsStepOf v w) → IsLawful v.of → HasEnded w.place
+    ensures cells { (v w : HandState) (step : IsStepOf v w) → IsLawfulWork v.of → HasEnded w.place
         → HoldSolution v.of step.next }
 {}
 
 /// After a step, the list of items that the hand released names none twice. So where a delivery is
 /// the last that an item waits for, the hand had not released it before.
 pub fn items_are_released_once()
-    ensures once { (v w : HandState) → IsLawful v.of → IsStepOf v w
+    ensures once { (v w : HandState) → IsLawfulWork v.of → IsStepOf v w
         → AreReleasedOnce v.of w.released }
-    ensures last { (v w : HandState) (item sent next k : ℕ) → IsLawful v.of → IsStepOf v w
+    ensures last { (v w : HandState) (item sent next k : ℕ) → IsLawfulWork v.of → IsStepOf v w
         → SendsOn v item sent next true w → k < length v.released
         → slice_index v.released k ≢ next }
+{}
+
+/// Where the first hand has made no step, none was made: no other hand is there, and the words are
+/// those of the opening. `open` answers such a hand.
+pub fn the_first_hand_begins()
+    ensures words { (m : Meaning) (words : List ℕ) (hands : List HandState) (h : ℕ)
+        → Reached m words hands → hand_at hands h ≡ newcomer m first_name → IsOpening m words }
+    ensures alone { (m : Meaning) (words : List ℕ) (hands : List HandState) (h : ℕ)
+        → Reached m words hands → hand_at hands h ≡ newcomer m first_name
+        → hands ≡ newcomer m first_name ∷ [] }
+{}
+
+/// A hand that was not given up is the only one of its name, and each hand whose name goes on from
+/// that name stems from an earlier step of it. So a hand that has made no step has made no hand.
+pub fn hands_have_names()
+    ensures once { (m : Meaning) (words : List ℕ) (hands : List HandState) (h g : ℕ)
+        → Reached m words hands → IsThere hands h → IsThere hands g
+        → (hand_at hands h).name ≡ (hand_at hands g).name → h ≡ g }
+    ensures makers { (m : Meaning) (words : List ℕ) (hands : List HandState) (h g step : ℕ)
+        (rest : List ℕ) → Reached m words hands → IsThere hands h → IsThere hands g
+        → (hand_at hands g).name ≡ (hand_at hands h).name ++ step ∷ rest
+        → step < (hand_at hands h).count }
 {}

@@ -9,21 +9,23 @@ mod answer;
 mod atomic;
 mod cells;
 mod diamond;
+mod filler;
 mod hand;
 mod kind;
 pub mod laws;
 mod open;
 mod place;
 mod rule;
+mod shared_filler;
 mod steps;
-#[cfg(test)]
-mod tests;
 mod work;
 
 pub use answer::{Claim, Deliver, Look};
 pub use cells::Cells;
 pub use diamond::Diamond;
+pub use filler::Filler;
 pub use hand::Hand;
 pub use kind::CellKind;
 pub use place::HandPlace;
-pub use work::Work;
+pub use shared_filler::SharedFiller;
+pub use work::{Meant, Work};

@@ -1,10 +1,10 @@
 // The first and the last call on the cells of a work, which take memory.
-ghost use Rattle.std.specs.Prelude.{◌≡◌, ◌+◌, ◌<◌, ◌≤◌, [], ◌++◌, map, slice_index, IfOk, OnOk};
-ghost use Rattle.std.specs.Prelude.{vec_capacity};
+ghost use Rattle.std.specs.Prelude.{◌≡◌, ℕ, ◌+◌, ◌<◌, ◌++◌, map, slice_index, IfOk, OnOk};
+ghost use Rattle.std.specs.Prelude.{vec_len};
 ghost use Rattle.std.specs.List.{range_with_len};
 ghost use Rattle.std.specs.Slots.{slots_items, slots_len, IsFull};
 ghost use Rattle.ftl_cells.specs.Work.{item_total, pred_total};
-ghost use Rattle.ftl_cells.specs.State.{live, newcomer, AreFirst, AreLast, opening_words};
+ghost use Rattle.ftl_cells.specs.State.{live, newcomer, first_name, AreFirst, AreLast, opening_words};
 ghost use Rattle.ftl_cells.specs.Calls.{IsMadeBy};
 ghost use Rattle.ftl_cells.specs.declared.place.HandPlace.TheVariants.{Ended};
 
@@ -17,20 +17,24 @@ use std::alloc::{AllocError, Global};
 
 impl<W: Work + Drop> Cells<W> {
     /// Opens the cells of a work, from the words of its Given cells and 0 for all others.
-    pub fn open(alloc: Global, work: W, words: Vec<u64>) -> Result<(Cells<W>, Hand), AllocError>
+    pub fn open(
+        alloc: Global,
+        work: W,
+        mut words: Vec<u64>,
+    ) -> Result<(Cells<W>, Hand), AllocError>
         requires { AreFirst (W.meaning work) words.items }
         ensures work { IfOk result (λ r. r.0.1 ≡ work) }
         ensures made { IfOk result (λ r. IsMadeBy (W.meaning work) r.0.0 r.1) }
-        ensures new { IfOk result (λ r. r.1.state ≡ newcomer (W.meaning work)) }
+        ensures new { IfOk result (λ r. r.1.state ≡ newcomer (W.meaning work) first_name) }
     {
-        let row = opening_row(alloc, &work, words.as_slice())?;
-        drop(words);
-        let (table, seat) = Table::of_words(alloc, row.as_slice(), &work)?;
+        build_row(&work, &mut words)?;
+        let (table, seat) = Table::of_words(alloc, words.as_slice(), &work)?;
         let states = 1 + work.cells() as usize;
         let counters = states + work.items() as usize;
         let cells = Cells {
             table,
             work,
+            row: words,
             states,
             counters,
         };
@@ -42,34 +46,37 @@ impl<W: Work + Drop> Cells<W> {
     }
 
     /// Gives the words of the cells. There is an Ended hand, so all items are filled.
-    pub fn close(self, alloc: Global, hand: Hand) -> Result<Vec<u64>, AllocError>
+    pub fn close(self, hand: Hand) -> Vec<u64>
         requires made { IsMadeBy (W.meaning self.1) self.0 hand }
         requires ended { hand.state.place ≡ live Ended }
-        ensures { IfOk result (λ v. AreLast (W.meaning self.1) v.items) }
+        ensures { AreLast (W.meaning self.1) result.items }
     {
-        let Cells { table, work, .. } = self;
+        let Cells {
+            table,
+            work,
+            row: mut words,
+            ..
+        } = self;
         let Hand { seat, .. } = hand;
-        let cells = work.cells() as usize;
-        let mut words = Vec::with_capacity(alloc, cells)?;
+        words.truncate(work.cells() as usize);
         let closed = table.close_with(seat);
-        copy_cells(&closed, cells, &mut words);
+        copy_cells(&closed, &mut words);
         closed.free();
-        Ok(words)
+        words
     }
 }
 
-fn opening_row<W: Work>(alloc: Global, work: &W, words: &[u64]) -> Result<Vec<u64>, AllocError>
-    requires { AreFirst (W.meaning work.now) words.now }
-    ensures { IfOk result (λ v. v.items ≡ opening_words (W.meaning work.now) words.now) }
+/// Makes the words of the table from those of the cells, in the same vector.
+fn build_row<W: Work>(work: &W, words: &mut Vec<u64>) -> Result<(), AllocError>
+    requires { AreFirst (W.meaning work.now) words.old.items }
+    ensures { OnOk result (words.new.items ≡ opening_words (W.meaning work.now) words.old.items) }
 {
+    let cells = words.len();
     let items = work.items() as usize;
-    let total = 1 + words.len() + 2 * items;
-    let mut row = Vec::with_capacity(alloc, total)?;
-    row.push(items as u64)?;
-    row.extend_from_slice(words)?;
-    row.resize(1 + words.len() + items, 0)?;
-    push_counters(work, &mut row)?;
-    Ok(row)
+    words.reserve(1 + 2 * items)?;
+    words.insert(0, items as u64)?;
+    words.resize(1 + cells + items, 0)?;
+    push_counters(work, words)
 }
 
 fn push_counters<W: Work>(work: &W, row: &mut Vec<u64>) -> Result<(), AllocError>
@@ -84,16 +91,15 @@ fn push_counters<W: Work>(work: &W, row: &mut Vec<u64>) -> Result<(), AllocError
     Ok(())
 }
 
-/// Copies the words of the cells, for which there is room.
-fn copy_cells(closed: &Closed<u8, Global>, cells: usize, words: &mut Vec<u64>)
+/// Copies the words of the cells, one for each word that there is.
+fn copy_cells(closed: &Closed<u8, Global>, words: &mut Vec<u64>)
     requires full { IsFull closed.now.words }
-    requires cells { cells < slots_len closed.now.words }
-    requires empty { words.old.items ≡ [] }
-    requires room { cells ≤ vec_capacity words.old }
-    ensures { words.new.items
-        ≡ map (λ c. slice_index (slots_items closed.now.words) (1 + c)) (range_with_len 0 cells) }
+    requires cells { vec_len words.old < slots_len closed.now.words }
+    ensures count { vec_len words.new ≡ vec_len words.old }
+    ensures each { (c : ℕ) → c < vec_len words.new
+        → slice_index words.new.items c ≡ slice_index (slots_items closed.now.words) (1 + c) }
 {
-    for cell in 0..cells {
-        words.push(closed.word(1 + cell)).unwrap();
+    for (cell, word) in words.iter_mut().enumerate() {
+        *word = closed.word(1 + cell);
     }
 }

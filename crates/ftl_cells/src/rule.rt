@@ -1,20 +1,21 @@
 // The rule of a table, and what each kind of step tells.
-ghost use Rattle.ftl_cells.specs.State.{Reached, newcomer, given_up, after, split, join, end_word};
+ghost use Rattle.ftl_cells.specs.State.{Reached, newcomer, first_name, next_name, given_up};
+ghost use Rattle.ftl_cells.specs.State.{after, after_join, split, end_word};
 ghost use Rattle.ftl_cells.specs.Told.{look_told, claim_told, read_told, fill_told, mark_told};
 ghost use Rattle.ftl_cells.specs.Told.{send_told, finish_told, left_told};
 ghost use Rattle.std.specs.Prelude.{None};
 
 use crate::hand::Told;
-use crate::work::Work;
+use crate::work::Meant;
 use atomic_table::{Join, Play, Split, TableRule};
 
 /// The words and the hands are in a state that steps lead to from an opening.
 pub(crate) struct Law;
 
-impl<W: Work> TableRule<u8, Told, W> for Law {
+impl<W: Meant> TableRule<u8, Told, W> for Law {
     ghost holds = { λ work s. Reached (W.meaning work) s.words s.views };
 
-    ghost first = { λ work. newcomer (W.meaning work) };
+    ghost first = { λ work. newcomer (W.meaning work) first_name };
 }
 
 pub(crate) struct LookPlay;
@@ -70,13 +71,13 @@ pub(crate) struct SplitPlay;
 impl Split<Told> for SplitPlay {
     ghost left = { λ v. after v v.place split end_word None };
 
-    ghost right = { λ v. newcomer v.of };
+    ghost right = { λ v. newcomer v.of (next_name v) };
 }
 
 pub(crate) struct JoinPlay;
 
 impl Join<Told> for JoinPlay {
-    ghost both = { λ v _. after v v.place join end_word None };
+    ghost both = { λ v other. after_join v other };
 
     ghost spent = { given_up };
 }

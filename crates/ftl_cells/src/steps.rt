@@ -2,18 +2,20 @@
 ghost use Rattle.std.specs.Prelude.{◌≡◌, ◌<◌, None};
 ghost use Rattle.ftl_model.specs.Values.{word_of_value};
 ghost use Rattle.ftl_cells.specs.Work.{item_total};
-ghost use Rattle.ftl_cells.specs.State.{live, IsFree, newcomer, after, split, join, end_word};
+ghost use Rattle.ftl_cells.specs.State.{live, IsFree, newcomer, next_name, after, after_join};
+ghost use Rattle.ftl_cells.specs.State.{split, end_word};
 ghost use Rattle.ftl_cells.specs.Calls.{IsMadeBy, CanClaim, CanRead, CanFill, CanMark, CanDeliver};
+ghost use Rattle.ftl_cells.specs.Calls.{IsNextRead, IsNextTarget};
 ghost use Rattle.ftl_cells.specs.Calls.{LookSteps, ClaimSteps, ReadAnswers, ReadSteps, FillSteps};
 ghost use Rattle.ftl_cells.specs.Calls.{MarkSteps, DeliverSteps, LeftSteps};
-ghost use Rattle.ftl_cells.specs.Interleavings.{IsStepOf, IsSplitOf, IsJoinOf};
+ghost use Rattle.ftl_cells.specs.Interleavings.{IsStepOf};
 ghost use Rattle.ftl_cells.specs.declared.place.HandPlace.TheVariants.{Idle, Looked, Working};
 
 use crate::answer::{Claim, Deliver, Look};
 use crate::cells::Cells;
 use crate::hand::Hand;
 use crate::place::HandPlace;
-use crate::work::Work;
+use crate::work::{Meant, Work};
 use ftl_base::{Val, val_of, word_of};
 
 impl<W: Work> Cells<W> {
@@ -75,13 +77,8 @@ impl<W: Work> Cells<W> {
         let HandPlace::Working { item, step, reads } = hand.place else {
             unreachable!()
         };
-        let word = self.load_cell(&mut hand.seat, item, step, reads);
-        hand.place = HandPlace::Working {
-            item,
-            step,
-            reads: reads + 1,
-        };
-        val_of(word).unwrap()
+        let cell = self.work.read(item, step, reads);
+        self.read_at(hand, cell)
     }
 
     /// Stores the value in the step's target, and goes to the next step.
@@ -95,12 +92,8 @@ impl<W: Work> Cells<W> {
         let HandPlace::Working { item, step, .. } = hand.place else {
             unreachable!()
         };
-        self.store_cell(&mut hand.seat, item, step, word_of(val));
-        hand.place = HandPlace::Working {
-            item,
-            step: step + 1,
-            reads: 0,
-        };
+        let cell = self.work.target(item, step);
+        self.fill_at(hand, cell, val);
     }
 
     /// Marks the item as filled.
@@ -169,10 +162,10 @@ impl<W: Work> Cells<W> {
         requires made { IsMadeBy (W.meaning self.now.1) self.now.0 hand.old }
         requires idle { hand.old.state.place ≡ live Idle }
         ensures table { hand.new.table ≡ hand.old.table }
-        ensures reached { IsSplitOf hand.old.state hand.new.state result.state }
         ensures step { hand.new.state ≡ after hand.old.state (live Idle) split end_word None }
         ensures made { IsMadeBy (W.meaning self.now.1) self.now.0 result }
-        ensures new { result.state ≡ newcomer (W.meaning self.now.1) }
+        ensures new { result.state
+            ≡ newcomer (W.meaning self.now.1) (next_name hand.old.state) }
     {
         Hand {
             place: HandPlace::Idle,
@@ -187,11 +180,55 @@ impl<W: Work> Cells<W> {
         requires free { IsFree hand.old.state.place }
         requires other_free { IsFree other.state.place }
         ensures table { hand.new.table ≡ hand.old.table }
-        ensures reached { IsJoinOf hand.old.state hand.new.state other.state }
-        ensures step { hand.new.state
-            ≡ after hand.old.state hand.old.state.place join end_word None }
+        ensures step { hand.new.state ≡ after_join hand.old.state other.state }
     {
         let Hand { seat, .. } = other;
         self.join(&mut hand.seat, seat);
+    }
+}
+
+// The steps whose cells the caller tells ask the work nothing.
+impl<W: Meant> Cells<W> {
+    /// Loads the cell of the next read, which the caller tells.
+    pub fn read_at(&self, hand: &mut Hand, cell: u32) -> Val
+        requires made { IsMadeBy (W.meaning self.now.1) self.now.0 hand.old }
+        requires working { CanRead (W.meaning self.now.1) hand.old.state.place }
+        requires cell { IsNextRead (W.meaning self.now.1) hand.old.state.place cell }
+        ensures table { hand.new.table ≡ hand.old.table }
+        ensures reached { IsStepOf hand.old.state hand.new.state }
+        ensures value { ReadAnswers (W.meaning self.now.1) hand.old.state.place result }
+        ensures step { ReadSteps hand.old.state hand.old.state.place (word_of_value result)
+            hand.new.state }
+    {
+        let HandPlace::Working { item, step, reads } = hand.place else {
+            unreachable!()
+        };
+        let word = self.load_cell(&mut hand.seat, item, step, reads, cell);
+        hand.place = HandPlace::Working {
+            item,
+            step,
+            reads: reads + 1,
+        };
+        val_of(word).unwrap()
+    }
+
+    /// Stores the value in the step's target, which the caller tells.
+    pub fn fill_at(&self, hand: &mut Hand, cell: u32, val: Val)
+        requires made { IsMadeBy (W.meaning self.now.1) self.now.0 hand.old }
+        requires working { CanFill (W.meaning self.now.1) hand.old.state.place val }
+        requires cell { IsNextTarget (W.meaning self.now.1) hand.old.state.place cell }
+        ensures table { hand.new.table ≡ hand.old.table }
+        ensures reached { IsStepOf hand.old.state hand.new.state }
+        ensures step { FillSteps hand.old.state hand.old.state.place hand.new.state }
+    {
+        let HandPlace::Working { item, step, .. } = hand.place else {
+            unreachable!()
+        };
+        self.store_cell(&mut hand.seat, item, step, cell, word_of(val));
+        hand.place = HandPlace::Working {
+            item,
+            step: step + 1,
+            reads: 0,
+        };
     }
 }

@@ -7,9 +7,9 @@ use mathlib.Core.Logic.{dite}
 use native.Mathlib.Decide.{ℕ_discrete}
 use Rattle.ftl_model.specs.Values.{Value, number}
 use Rattle.ftl_cells.specs.Count.{Counts, at_zero, counts_it, skips_it}
-use Rattle.ftl_cells.specs.Work.{cell_total, kind_at, solution_at, item_total, pred_total, next_total, next_at, step_total, target_of, read_total, reads_of, read_of, solved_reads, solved_word, IsStep, IsLawful}
+use Rattle.ftl_cells.specs.Work.{cell_total, kind_at, solution_at, item_total, pred_total, next_total, next_at, step_total, target_of, read_total, reads_of_step, read_of, solved_reads, solved_word, IsStepOfItem, IsLawfulWork}
 use Rattle.ftl_cells.specs.State.{AreFirst, first_word_of}
-use Rattle.ftl_cells.specs.Shape.{listed, ComesNext, IsPassedCell, IsLawfulShape}
+use Rattle.ftl_cells.specs.Shape.{listed, ComesNext, IsPassedCell, IsLawfulWorkShape}
 use Rattle.ftl_cells.specs.declared.kind.CellKind.TheVariants.{Target}
 use Rattle.ftl_cells.proofs.Counting.{none_of}
 use Rattle.ftl_cells.proofs.Shapes.{cell_total-listed, kind_at-listed, solution_at-listed, item_total-listed, pred_total-listed, next_total-listed, next_at-listed, step_total-listed, target_of-listed, read_total-listed, read_of-listed, item_below, has_step, is_lawful}
@@ -39,7 +39,7 @@ chains_passed n s i r l b = record {
   is = refl;
 }
 
-chains_shape : (n s : ℕ) → n < 2 ^ 32 → IsLawfulShape (chains n s)
+chains_shape : (n s : ℕ) → n < 2 ^ 32 → IsLawfulWorkShape (chains n s)
 chains_shape n s few = record {
   values = λ c l. (omega (arith, ints), omega (arith, ints));
   next_in_range = λ i k l b. omega arith;
@@ -58,7 +58,7 @@ chains_shape n s few = record {
   reads_counted = λ i j st. omega arith;
 }
 
-pub chains_are_lawful : (n s : ℕ) → n < 2 ^ 32 → IsLawful (listed (chains n s))
+pub chains_are_lawful : (n s : ℕ) → n < 2 ^ 32 → IsLawfulWork (listed (chains n s))
 chains_are_lawful n s few = is_lawful (chains n s) (chains_shape n s few)
 
 pub chains_cells : (n s : ℕ) → cell_total (listed (chains n s)) ≡ n
@@ -86,14 +86,14 @@ chains_next n s i k l b = next_at-listed (chains n s) i k (item_below (chains n 
 pub chains_steps : (n s i : ℕ) → i < item_total (listed (chains n s)) → step_total (listed (chains n s)) i ≡ 1
 chains_steps n s i l = step_total-listed (chains n s) i (item_below (chains n s) i l)
 
-pub chains_targets : (n s i j : ℕ) → IsStep (listed (chains n s)) i j → target_of (listed (chains n s)) i j ≡ i
+pub chains_targets : (n s i j : ℕ) → IsStepOfItem (listed (chains n s)) i j → target_of (listed (chains n s)) i j ≡ i
 chains_targets n s i j st = target_of-listed (chains n s) i j (has_step (chains n s) i j st)
 
-pub chains_read_count : (n s i j : ℕ) → IsStep (listed (chains n s)) i j
+pub chains_read_count : (n s i j : ℕ) → IsStepOfItem (listed (chains n s)) i j
     → read_total (listed (chains n s)) i j ≡ before_it s i
 chains_read_count n s i j st = read_total-listed (chains n s) i j (has_step (chains n s) i j st)
 
-pub chains_read : (n s i j r : ℕ) → IsStep (listed (chains n s)) i j → r < read_total (listed (chains n s)) i j
+pub chains_read : (n s i j r : ℕ) → IsStepOfItem (listed (chains n s)) i j → r < read_total (listed (chains n s)) i j
     → read_of (listed (chains n s)) i j r ≡ i - 1
 chains_read n s i j r st b = read_of-listed (chains n s) i j r (has_step (chains n s) i j st)
     (subst (λ x. r < x) (chains_read_count n s i j st) b)
@@ -107,24 +107,24 @@ unfolding listed
 chains_room n s = refl
 
 -- a step over the solution's values gives 7
-pub chains_value : (n s i j : ℕ) → IsStep (listed (chains n s)) i j
+pub chains_value : (n s i j : ℕ) → IsStepOfItem (listed (chains n s)) i j
     → number (pos 7) ≡ solution_at (listed (chains n s)) (target_of (listed (chains n s)) i j)
 chains_value n s i j st = let st' = has_step (chains n s) i j st in
     sym (solution_at-listed (chains n s) i st'.item) ∙ ap (solution_at (listed (chains n s)))
     (sym (chains_targets n s i j st))
 
-pub chains_copy : (n s i j : ℕ) (a : Value) (reads : List Value) → IsStep (listed (chains n s)) i j
+pub chains_copy : (n s i j : ℕ) (a : Value) (reads : List Value) → IsStepOfItem (listed (chains n s)) i j
     → a ≡ get_or reads 0 a → 0 < length reads → reads ≡ solved_reads (listed (chains n s)) i j
     → a ≡ solution_at (listed (chains n s)) (target_of (listed (chains n s)) i j)
 chains_copy n s i j a reads st one some all =
     let st' = has_step (chains n s) i j st in
     let l : i < n = st'.item in
-    let few : length reads ≡ before_it s i = ap length all ∙ length-map (reads_of (listed (chains n s)) i j)
+    let few : length reads ≡ before_it s i = ap length all ∙ length-map (reads_of_step (listed (chains n s)) i j)
     (solution_at (listed (chains n s))) ∙ chains_read_count n s i j st in
     let b : 0 < read_total (listed (chains n s)) i j = omega (arith, chains_read_count n s i j st) in
     let read : read_of (listed (chains n s)) i j 0 ≡ i - 1 = chains_read n s i j 0 st b in
     let is : get_or reads 0 a ≡ solution_at (listed (chains n s)) (read_of (listed (chains n s)) i j 0) = ap
-    (λ xs. get_or xs 0 a) all ∙ get_or-map (solution_at (listed (chains n s))) (reads_of (listed (chains n s)) i j) 0 0
+    (λ xs. get_or xs 0 a) all ∙ get_or-map (solution_at (listed (chains n s))) (reads_of_step (listed (chains n s)) i j) 0 0
     a b in
     one ∙ is ∙ ap (solution_at (listed (chains n s))) read ∙ solution_at-listed (chains n s) (i - 1) (omega arith)
     ∙ chains_value n s i j st

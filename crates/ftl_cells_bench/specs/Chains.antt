@@ -2,7 +2,7 @@
 -- item before it.
 use Rattle.std.specs.Prelude.{ℕ, ◌+◌, ◌-◌, min, pos}
 use Rattle.ftl_model.specs.Values.{number}
-use Rattle.ftl_cells.specs.Shape.{Shape}
+use Rattle.ftl_cells.specs.Shape.{WorkShape}
 use Rattle.ftl_cells.specs.declared.kind.CellKind.TheVariants.{Target}
 
 -- how many items come right before this one in its chain, where the second chain begins at this item
@@ -10,7 +10,7 @@ abbrev pub before_it : ℕ → ℕ → ℕ
 before_it second i = min (min i 1) ((i - second) + (second - i))
 
 -- item i fills cell i
-abbrev pub chains : ℕ → ℕ → Shape
+abbrev pub chains : ℕ → ℕ → WorkShape
 chains n second = record {
   cells = n;
   kind = λ c. Target;

@@ -3,7 +3,7 @@ ghost use Rattle.std.specs.Prelude.{◌≡◌, ◌*◌};
 ghost use Rattle.ftl_cells_bench.specs.Chains.{before_it};
 
 use ftl_base::{CodeStack, Val};
-use ftl_cells::{CellKind, Work};
+use ftl_cells::{CellKind, Meant, Work};
 
 /// Two chains side by side, of so many thousands of items in all.
 #[derive(Drop)]
@@ -31,14 +31,16 @@ impl Chains {
     }
 }
 
-#[tactic(auto, using(crate::proofs::ChainsLaws::chains_facts))]
-impl Work for Chains {
+impl Meant for Chains {
     ghost use Rattle.std.specs.Prelude.{◌*◌};
     ghost use Rattle.ftl_cells.specs.Shape.{listed};
     ghost use Rattle.ftl_cells_bench.specs.Chains.{chains};
 
     ghost meaning = { λ w. listed (chains (w.thousands * 1000) (w.thousands * 500)) };
+}
 
+#[tactic(auto, using(crate::proofs::ChainsLaws::chains_facts))]
+impl Work for Chains {
     fn items(&self) -> u32 {
         let _thousands = self.thousands;
         self.thousands as u32 * 1000

@@ -120,6 +120,6 @@ pub(crate) fn measure<R: Threads + Clock + Sync>(
     let HandPlace::Ended = hand.place() else {
         return Ok(None);
     };
-    cells.close(alloc, hand)?;
+    cells.close(hand);
     Ok(Some(spent))
 }

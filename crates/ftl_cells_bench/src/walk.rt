@@ -1,6 +1,6 @@
 // A hand takes the items of a range in turn, from the look to the last delivery.
 ghost use Rattle.std.specs.Prelude.{◌≡◌, ◌<◌, ◌≤◌, OnOk};
-ghost use Rattle.ftl_cells.specs.Work.{IsStep, item_total, next_total, step_total, read_total};
+ghost use Rattle.ftl_cells.specs.Work.{IsStepOfItem, item_total, next_total, step_total, read_total};
 ghost use Rattle.ftl_cells.specs.Work.{solved_reads};
 ghost use Rattle.ftl_cells.specs.State.{live, Sends};
 ghost use Rattle.ftl_cells.specs.Calls.{IsMadeBy};
@@ -20,7 +20,7 @@ fn read_all<W: Work>(
 ) -> Result<(), AllocError>
     requires made { IsMadeBy (W.meaning cells.now.1) cells.now.0 hand.old }
     requires working { hand.old.state.place ≡ live (Working item step 0) }
-    requires step { IsStep (W.meaning cells.now.1) item step }
+    requires step { IsStepOfItem (W.meaning cells.now.1) item step }
     ensures made { IsMadeBy (W.meaning cells.now.1) cells.now.0 hand.new }
     ensures working { OnOk result
         (hand.new.state.place

@@ -4,5 +4,5 @@ use Rattle.ftl_cells.specs.Work.{pred_total}
 use Rattle.ftl_cells.proofs.open.push_counters.Given as goal
 
 abbrev pub invariant-loop-item : goal.invariant-loop-item
-invariant-loop-item g l = l.row.items ≡ l.initial.row.items ++ map (pred_total (g.W.Work.meaning l.work))
+invariant-loop-item g l = l.row.items ≡ l.initial.row.items ++ map (pred_total (g.W.Meant.meaning l.work))
     (range_with_len 0 l.item)

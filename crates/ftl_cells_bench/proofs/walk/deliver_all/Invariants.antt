@@ -4,6 +4,6 @@ use Rattle.ftl_cells_bench.proofs.walk.deliver_all.Given as goal
 
 abbrev pub invariant-loop : goal.invariant-loop
 invariant-loop g l = record {
-  made : IsMadeBy (g.W.Work.meaning l.cells.1) l.cells.0 l.hand;
+  made : IsMadeBy (g.W.Meant.meaning l.cells.1) l.cells.0 l.hand;
   at : Sends l.hand.state.place l.item l.counter;
 }

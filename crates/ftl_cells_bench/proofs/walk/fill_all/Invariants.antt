@@ -6,7 +6,7 @@ use Rattle.ftl_cells_bench.proofs.walk.fill_all.Given as goal
 
 abbrev pub invariant-loop-step : goal.invariant-loop-step
 invariant-loop-step g l = record {
-  made : IsMadeBy (g.W.Work.meaning l.cells.1) l.cells.0 l.hand;
+  made : IsMadeBy (g.W.Meant.meaning l.cells.1) l.cells.0 l.hand;
   at : l.hand.state.place ≡ live (Working l.item l.step 0);
   room : l.stack.room ≡ l.initial.stack.room;
 }

@@ -1,5 +1,5 @@
 use Rattle.std.proofs.Common.{◌≡◌, map, take}
-use Rattle.ftl_cells.specs.Work.{reads_of, solution_at}
+use Rattle.ftl_cells.specs.Work.{reads_of_step, solution_at}
 use Rattle.ftl_cells.specs.State.{live}
 use Rattle.ftl_cells.specs.Calls.{IsMadeBy}
 use Rattle.ftl_cells.specs.declared.place.HandPlace.TheVariants.{Working}
@@ -7,8 +7,8 @@ use Rattle.ftl_cells_bench.proofs.walk.read_all.Given as goal
 
 abbrev pub invariant-loop : goal.invariant-loop
 invariant-loop g l = record {
-  made : IsMadeBy (g.W.Work.meaning l.cells.1) l.cells.0 l.hand;
+  made : IsMadeBy (g.W.Meant.meaning l.cells.1) l.cells.0 l.hand;
   at : l.hand.state.place ≡ live (Working l.item l.step l.counter);
-  read : l.reads.items ≡ map (solution_at (g.W.Work.meaning l.cells.1))
-      (take l.counter (reads_of (g.W.Work.meaning l.cells.1) l.item l.step));
+  read : l.reads.items ≡ map (solution_at (g.W.Meant.meaning l.cells.1))
+      (take l.counter (reads_of_step (g.W.Meant.meaning l.cells.1) l.item l.step));
 }

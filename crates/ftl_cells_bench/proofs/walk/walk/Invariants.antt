@@ -6,7 +6,7 @@ use Rattle.ftl_cells_bench.proofs.walk.walk.Given as goal
 
 abbrev pub invariant-loop-item : goal.invariant-loop-item
 invariant-loop-item g l = record {
-  made : IsMadeBy (g.W.Work.meaning l.cells.1) l.cells.0 l.hand;
+  made : IsMadeBy (g.W.Meant.meaning l.cells.1) l.cells.0 l.hand;
   idle : l.hand.state.place ≡ live Idle;
   room : l.stack.room ≡ l.initial.stack.room;
   few : l.taken ≤ l.item;

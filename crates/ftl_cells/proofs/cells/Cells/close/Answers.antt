@@ -1,6 +1,7 @@
-use Rattle.std.proofs.Common.{ap, ◌∙◌, subst}
+use Rattle.std.proofs.Common.{◌≡◌, arith, ap, ◌∙◌, subst, length}
 use Rattle.std.specs.Slots.{slots_items}
 use Rattle.atomic_table.specs.Table.{Final, Seen}
+use Rattle.ftl_cells.specs.Work.{cell_total}
 use Rattle.ftl_cells.specs.State.{AreLast}
 use Rattle.ftl_cells.proofs.Plays.{Holds}
 use Rattle.ftl_cells.proofs.Closing.{are_last}
@@ -12,10 +13,12 @@ returns g c =
     let seat = c.hand.inside.seat in
     let table = c.self.invariant.1 in
     let closed = c.close_with-closed.result in
-    subst (λ z. AreLast (g.W.Work.meaning z.1) c.copy_cells.new.words.items) c.self.view_is
-    (are_last (g.W.Work.meaning inside.work) table.lawful seat.id seat.me.0 (slots_items closed.words)
+    let room = c.self.invariant.2 in
+    let count : length c.copy_cells.new.words.items ≡ cell_total (g.W.Meant.meaning inside.work) = omega arith in
+    subst (λ z. AreLast (g.W.Meant.meaning z.1) c.copy_cells.new.words.items) c.self.view_is
+    (are_last (g.W.Meant.meaning inside.work) table.lawful seat.id seat.me.0 (slots_items closed.words)
     (slots_items closed.slots)
     (ap (λ h. h.state.place) c.hand.view_is ∙ c.requires.ended)
-    (subst (λ w. Final (Seen (Holds (g.W.Work.meaning w)) seat.id seat.me.0) (slots_items closed.words)
+    (subst (λ w. Final (Seen (Holds (g.W.Meant.meaning w)) seat.id seat.me.0) (slots_items closed.words)
     (slots_items closed.slots)) c.self.invariant.0 c.close_with-closed.ensures.values.2)
-    c.cells-cells.result c.copy_cells.new.words.items c.cells-cells.ensures c.copy_cells.ensures)
+    c.copy_cells.new.words.items count (λ k l. c.copy_cells.ensures.each k (omega arith)))

@@ -5,7 +5,7 @@ use Rattle.ftl_cells.proofs.cells.Cells.mark.Goals as goal
 pub mark_state-requires-clause-working : goal.mark_state-requires-clause-working
 mark_state-requires-clause-working g c =
     let inside = c.hand.inside in let arm = c.in-Working in
-    λ κs l. mark_ready (g.W.Work.meaning c.args.self.now.1) c.args.hand.now inside.place inside.seat arm.item arm.step
+    mark_ready (g.W.Meant.meaning c.args.self.now.1) c.args.hand.now inside.place inside.seat arm.item arm.step
     arm.reads
     (ap (λ h. h.state.place) c.hand.view_is) c.requires.working
     (ap (λ h. h.state.of) c.hand.view_is ∙ c.requires.made.1) c.hand.invariant arm.is

@@ -1,24 +1,24 @@
-use Rattle.std.proofs.Common.{ap, sym, ◌∙◌, subst, [], ◌∷◌, length}
-use Rattle.ftl_cells.specs.State.{Reached, begins, newcomer, opening_words}
-use Rattle.ftl_cells.proofs.Opening.{opening_is, table_is}
+use Rattle.std.proofs.Common.{◌∙◌, ap, sym, subst, arith, [], ◌∷◌, length}
+use Rattle.ftl_cells.specs.State.{Reached, begins, newcomer, first_name, opening_words}
+use Rattle.ftl_cells.proofs.Opening.{opening_is, table_is, length-opening_words}
 use Rattle.ftl_cells.proofs.cells.Cells.open.Goals as goal
 
 pub of_words-requires : goal.of_words-requires
 of_words-requires g c =
-    let m = g.W.Work.meaning c.args.work in
-    let rows = c.as_slice-2.ensures.value ∙ c.in_ok-row.ensures ∙ ap
-    (opening_words (g.W.Work.meaning c.args.work)) c.as_slice.ensures.value in
-    subst (λ ws. Reached (g.W.Work.meaning c.args.work) ws (newcomer (g.W.Work.meaning c.args.work) ∷ [])) (sym rows)
-    (begins (opening_words (g.W.Work.meaning c.args.work) c.args.words.items)
-    (opening_is (g.W.Work.meaning c.args.work) c.args.words.items c.requires))
+    let m = g.W.Meant.meaning c.args.work in
+    let rows = c.as_slice.ensures.value ∙ c.in_ok-build_row.ensures in
+    subst (λ ws. Reached (g.W.Meant.meaning c.args.work) ws (newcomer (g.W.Meant.meaning c.args.work) first_name ∷ [])) (sym rows)
+    (begins (opening_words (g.W.Meant.meaning c.args.work) c.args.words.items)
+    (opening_is (g.W.Meant.meaning c.args.work) c.args.words.items c.requires))
 
 pub invariant_of-cells : goal.invariant_of-cells
 invariant_of-cells g c =
-    let rows = c.as_slice-2.ensures.value ∙ c.in_ok-row.ensures ∙ ap
-    (opening_words (g.W.Work.meaning c.args.work)) c.as_slice.ensures.value in (
+    let rows = c.as_slice.ensures.value ∙ c.in_ok-build_row.ensures in (
       c.in_ok-table.ensures.5,
-      table_is (g.W.Work.meaning c.args.work) c.args.words.items c.in_ok-table.table.shared.table_id c.cells.result
+      table_is (g.W.Meant.meaning c.args.work) c.args.words.items c.in_ok-table.table.shared.table_id c.cells.result
           c.items.result c.requires c.items.ensures.lawful
           (c.in_ok-table.ensures.0 ∙ ap length rows) c.in_ok-table.ensures.1 c.cells.ensures c.items.ensures.count
           c.cells.type_inv c.items.type_inv,
+      omega (arith, length-opening_words (g.W.Meant.meaning c.args.work) c.args.words.items c.requires,
+          ap length c.in_ok-build_row.ensures),
     )

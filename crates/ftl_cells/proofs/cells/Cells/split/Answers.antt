@@ -1,18 +1,13 @@
 use Rattle.std.proofs.Common.{ap, sym, ◌∙◌}
 use Rattle.ftl_cells.proofs.Seats.{split_asks}
-use Rattle.ftl_cells.proofs.Plays.{split_is}
 use Rattle.ftl_cells.proofs.cells.Cells.split.Goals as goal
 
 pub split_seat-requires : goal.split_seat-requires
 split_seat-requires g c =
     let inside = c.self.inside in
-    let asks = split_asks (g.W.Work.meaning c.args.self.now.1) (g.W.Work.meaning inside.table.shared.key)
-    (g.W.Work.meaning inside.work) inside.table.shared.table_id inside.states inside.counters c.args.seat.now.id
+    let asks = split_asks (g.W.Meant.meaning c.args.self.now.1) (g.W.Meant.meaning inside.table.shared.key)
+    (g.W.Meant.meaning inside.work) inside.table.shared.table_id inside.states inside.counters c.args.seat.now.id
     c.args.seat.now.me
-    c.requires.seat.1 (ap g.W.Work.meaning c.self.invariant.0)
-    (ap (λ z. g.W.Work.meaning z.1) c.self.view_is) c.self.invariant.1 c.requires.idle in
+    c.requires.seat.1 (ap g.W.Meant.meaning c.self.invariant.0)
+    (ap (λ z. g.W.Meant.meaning z.1) c.self.view_is) c.self.invariant.1 c.requires.idle in
     (c.requires.seat.0 ∙ sym (ap (λ z. z.0) c.self.view_is), asks.0, asks.1)
-
-pub returns-clause-reached : goal.returns-clause-reached
-returns-clause-reached g c = split_is c.args.seat.now.me.0 c.split_seat.new.seat.me.0 c.split_seat.result.me.0
-    c.requires.idle (ap (λ z. z.0) c.split_seat.ensures.2) (ap (λ z. z.0) c.split_seat.ensures.4)

@@ -1,7 +1,0 @@
-mod chain;
-mod examples;
-mod lent;
-mod row;
-mod runs;
-mod walk;
-mod words;
