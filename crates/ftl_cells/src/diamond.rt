@@ -1,6 +1,6 @@
 use crate::kind::CellKind;
 use crate::work::{Meant, Work};
-use ftl_base::{CodeStack, Val, add};
+use ftl_base::{CodeStack, Val, Width, add};
 
 /// A work of four items, for tests: the first comes before two, and both of these before the last.
 #[derive(Drop)]
@@ -99,10 +99,10 @@ impl Work for Diamond {
 
     fn result(&self, item: u32, step: u32, reads: &[Val], stack: &mut CodeStack) -> Val {
         match (item, step, reads) {
-            (0, 0, [a]) => add(*a, Val::num(1)),
-            (1, 0, [a]) => add(*a, *a),
-            (2, 0, [a]) => add(*a, Val::num(-10)),
-            (3, 0, [a, b]) => add(*a, *b),
+            (0, 0, [a]) => add(Width::Narrow, *a, Val::num(1)),
+            (1, 0, [a]) => add(Width::Narrow, *a, *a),
+            (2, 0, [a]) => add(Width::Narrow, *a, Val::num(-10)),
+            (3, 0, [a, b]) => add(Width::Narrow, *a, *b),
             _ => unreachable!(),
         }
     }

@@ -4,7 +4,7 @@ ghost use Rattle.ftl_cells.specs.Shape.{listed};
 ghost use Rattle.ftl_cells_tests.specs.Chain.{chain};
 ghost use Rattle.ftl_cells.specs.State.{AreFirst};
 
-use ftl_base::{CodeStack, Val, add, word_of};
+use ftl_base::{CodeStack, Val, Width, add, word_of};
 use ftl_cells::{CellKind, Meant, Work};
 use std::alloc::{AllocError, Global};
 
@@ -79,7 +79,7 @@ impl Work for Chain {
     fn result(&self, _item: u32, _step: u32, reads: &[Val], _stack: &mut CodeStack) -> Val {
         // Read, so that its range is known.
         let _items = self.items;
-        add(reads[0], Val::num(1))
+        add(Width::Narrow, reads[0], Val::num(1))
     }
 }
 
