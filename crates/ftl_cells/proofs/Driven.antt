@@ -1,5 +1,5 @@
 -- A hand that is driven through an item makes reads and fills alone.
-use Rattle.std.proofs.Common.{◌≡◌, ℕ, inl, inr, ⊎_elim, refl, ap, ◌∙◌}
+use Rattle.std.proofs.Common.{◌≡◌, ℕ, inl, inr, ⊎_elim, subst, refl, sym, ap, ◌∙◌}
 use Rattle.ftl_model.specs.Values.{Value}
 use Rattle.ftl_cells.specs.Work.{Meaning}
 use Rattle.ftl_cells.specs.State.{Place, live, spent, HandState}
@@ -50,3 +50,7 @@ one_releases_none v spent w o = absurd o
 pub fills_release_none : {v w : HandState} → Fills v w → w.released ≡ v.released
 fills_release_none stays = refl
 fills_release_none (goes_on {w} {x} a s o) = one_releases_none w w.place x o ∙ fills_release_none a
+
+-- a filler that stands there may fill as a hand may
+pub can_fill_there : (m of : Meaning) (p at : Place) (v : Value) → of ≡ m → at ≡ p → CanFill m p v → CanFill of at v
+can_fill_there m of p at v e f can = subst (λ x. CanFill x at v) (sym e) (subst (λ x. CanFill m x v) (sym f) can)

@@ -8,7 +8,9 @@ use native.Mathlib.Decide.{ℕ_discrete}
 use Rattle.ftl_model.specs.Values.{Value, number}
 use Rattle.ftl_cells.specs.Count.{Counts, at_zero, counts_it, skips_it}
 use Rattle.ftl_cells.specs.Work.{cell_total, kind_at, solution_at, item_total, pred_total, next_total, next_at, step_total, target_of, read_total, reads_of_step, read_of, solved_reads, solved_word, IsStepOfItem, IsLawfulWork}
-use Rattle.ftl_cells.specs.State.{AreFirst, first_word_of}
+use Rattle.ftl_cells.specs.State.{live, AreFirst, first_word_of}
+use Rattle.ftl_cells.specs.Calls.{CanFill}
+use Rattle.ftl_cells.specs.declared.place.HandPlace.TheVariants.{Working}
 use Rattle.ftl_cells.specs.Shape.{listed, ComesNext, IsPassedCell, IsLawfulWorkShape}
 use Rattle.ftl_cells.specs.declared.kind.CellKind.TheVariants.{Target}
 use Rattle.ftl_cells.proofs.Counting.{none_of}
@@ -128,6 +130,19 @@ chains_copy n s i j a reads st one some all =
     a b in
     one ∙ is ∙ ap (solution_at (listed (chains n s))) read ∙ solution_at-listed (chains n s) (i - 1) (omega arith)
     ∙ chains_value n s i j st
+
+-- a hand that made the reads of an item may fill it with 7
+pub chains_can_fill : (n s i k : ℕ) (v : Value) → i < item_total (listed (chains n s)) → k ≡ before_it s i
+    → v ≡ number (pos 7) → CanFill (listed (chains n s)) (live (Working i 0 k)) v
+chains_can_fill n s i k v l e seven =
+    let one : 0 < step_total (listed (chains n s)) i = omega (arith, chains_steps n s i l) in
+    let st : IsStepOfItem (listed (chains n s)) i 0 = record { item = l; step = one } in
+    (one, e ∙ sym (chains_read_count n s i 0 st), seven ∙ chains_value n s i 0 st)
+
+pub chains_seven : (n s c : ℕ) (v : Value) → c < item_total (listed (chains n s))
+    → v ≡ solution_at (listed (chains n s)) (c - 1) → v ≡ number (pos 7)
+chains_seven n s c v l e = let few : c < n = item_below (chains n s) c l in
+    e ∙ solution_at-listed (chains n s) (c - 1) (omega arith)
 
 -- the words of their cells before are all 0
 pub chains_first : (n s : ℕ) (words : List ℕ) → words ≡ replicate n 0 → AreFirst (listed (chains n s)) words

@@ -3,7 +3,7 @@ ghost use Rattle.std.specs.Prelude.{◌≡◌, ◌*◌};
 ghost use Rattle.ftl_cells_bench.specs.Chains.{before_it};
 
 use ftl_base::{CodeStack, Val};
-use ftl_cells::{CellKind, Meant, Work};
+use ftl_cells::{CellKind, Filler, Meant, Work};
 
 /// Two chains side by side, of so many thousands of items in all.
 #[derive(Drop)]
@@ -101,6 +101,21 @@ impl Work for Chains {
         match reads {
             [before, ..] => *before,
             [] => Val::num(7),
+        }
+    }
+
+    fn run_item<F: Filler>(
+        &self,
+        item: u32,
+        filler: &mut F,
+        _reads: &mut Vec<Val>,
+        _stack: &mut CodeStack,
+    ) {
+        if self.before_it(item) == 0 {
+            filler.fill(item, Val::num(7));
+        } else {
+            let value = filler.read(item - 1);
+            filler.fill(item, value);
         }
     }
 }

@@ -8,7 +8,7 @@ ghost use Rattle.ftl_cells.specs.declared.place.HandPlace.TheVariants.{Idle};
 ghost use Rattle.ftl_cells_bench.specs.Chains.{chains};
 
 use crate::chains::Chains;
-use crate::walk::walk;
+use crate::walk::{Way, walk};
 use ftl_cells::{Cells, Hand, HandPlace, Work};
 use std::alloc::{AllocError, Global};
 use std::io;
@@ -32,6 +32,7 @@ fn walk_all<W: Work>(
     alloc: Global,
     cells: &Cells<W>,
     mut hand: Hand,
+    way: Way,
     first: u32,
     end: u32,
 ) -> Option<Hand>
@@ -42,7 +43,7 @@ fn walk_all<W: Work>(
     ensures made { IfSome result (IsMadeBy (W.meaning cells.now.1) cells.now.0) }
     ensures idle { IfSome result (λ h. h.state.place ≡ live Idle) }
 {
-    let taken = walk(alloc, cells, &mut hand, first, end).ok()?;
+    let taken = walk(alloc, cells, &mut hand, way, first, end).ok()?;
     if taken == end - first {
         Some(hand)
     } else {
@@ -75,7 +76,7 @@ fn walk_by_two<R: Threads + Sync, W: Work>(
             requires end { second ≤ item_total (W.meaning cells.now.1) }
             ensures made { IfSome result (IsMadeBy (W.meaning cells.entry.now.1) cells.entry.now.0) }
             ensures idle { IfSome result (λ h. h.state.place ≡ live Idle) }
-        { walk_all(alloc, cells, hand, 0, second) },
+        { walk_all(alloc, cells, hand, Way::Asked, 0, second) },
         || -> Option<Hand>
             requires made { IsMadeBy (W.meaning cells.now.1) cells.now.0 other }
             requires idle { other.state.place ≡ live Idle }
@@ -83,7 +84,7 @@ fn walk_by_two<R: Threads + Sync, W: Work>(
             requires end { end ≤ item_total (W.meaning cells.now.1) }
             ensures made { IfSome result (IsMadeBy (W.meaning cells.entry.now.1) cells.entry.now.0) }
             ensures idle { IfSome result (λ h. h.state.place ≡ live Idle) }
-        { walk_all(alloc, cells, other, second, end) },
+        { walk_all(alloc, cells, other, Way::Asked, second, end) },
     );
     let (mut hand, other) = (one?, two?);
     cells.give_up(&mut hand, other);
@@ -95,6 +96,18 @@ fn walk_by_two<R: Threads + Sync, W: Work>(
 pub(crate) enum Hands {
     One,
     Two,
+    /// One hand, which the work drives.
+    Driven,
+}
+
+/// How long the parts of a run took.
+pub(crate) struct Spent {
+    /// The cells were opened.
+    pub(crate) open: Duration,
+    /// Both chains were filled.
+    pub(crate) walk: Duration,
+    /// The words were given back.
+    pub(crate) close: Duration,
 }
 
 /// How long it took to fill both chains, or none where a hand found an item taken or memory ran out.
@@ -103,16 +116,20 @@ pub(crate) fn measure<R: Threads + Clock + Sync>(
     alloc: Global,
     hands: Hands,
     thousands: u16,
-) -> io::Result<Option<Duration>> {
+) -> io::Result<Option<Spent>> {
     let work = Chains { thousands };
     let (second, end) = (work.second(), work.items());
-    let (cells, hand) = Cells::open(alloc, work, first_words(alloc, thousands)?)?;
+    let first = first_words(alloc, thousands)?;
+    let start = Instant::now(rt)?;
+    let (cells, hand) = Cells::open(alloc, work, first)?;
+    let open = start.elapsed(rt)?;
     let start = Instant::now(rt)?;
     let walked = match hands {
-        Hands::One => walk_all(alloc, &cells, hand, 0, end),
+        Hands::One => walk_all(alloc, &cells, hand, Way::Asked, 0, end),
         Hands::Two => walk_by_two(rt, alloc, &cells, hand, second, end),
+        Hands::Driven => walk_all(alloc, &cells, hand, Way::Driven, 0, end),
     };
-    let spent = start.elapsed(rt)?;
+    let walk = start.elapsed(rt)?;
     let Some(mut hand) = walked else {
         return Ok(None);
     };
@@ -120,6 +137,8 @@ pub(crate) fn measure<R: Threads + Clock + Sync>(
     let HandPlace::Ended = hand.place() else {
         return Ok(None);
     };
-    cells.close(hand);
-    Ok(Some(spent))
+    let start = Instant::now(rt)?;
+    drop(cells.close(hand));
+    let close = start.elapsed(rt)?;
+    Ok(Some(Spent { open, walk, close }))
 }
