@@ -79,13 +79,13 @@ module _ (text front : List ℕ) (lines : ℕ) (rest : List ℕ) (body : IsBody 
       ∙ ap (λ f. unless_fault f (unless_fault (first_fault [] blocks) (page_of_blocks width need blocks))) (sym no_stray)
       ∙ ap (λ f. unless_fault f (page_of_blocks width need blocks)) are.0
       ∙ ap (λ g. page_with width need g (section_in Schedule blocks) (section_in Document blocks) (section_in Edits blocks))
-          (sym (are.1 Grammar))
+      (sym (are.1 Grammar))
       ∙ ap (λ s. page_with width need (found_in Grammar sections) s (section_in Document blocks) (section_in Edits blocks))
-          (sym (are.1 Schedule))
+      (sym (are.1 Schedule))
       ∙ ap (λ d. page_with width need (found_in Grammar sections) (found_in Schedule sections) d (section_in Edits blocks))
-          (sym (are.1 Document))
+      (sym (are.1 Document))
       ∙ ap (page_with width need (found_in Grammar sections) (found_in Schedule sections) (found_in Document sections))
-          (sym (are.1 Edits))
+      (sym (are.1 Edits))
 
 -- line 1
 pub first_line : (need : Need) (text first rest : List ℕ)

@@ -76,7 +76,7 @@ section_in-short section number (l ∷ ls) h =
     let front = length-joined-take (prefix_len is_body_line ls) ls in
     ⊎_elim
     (λ heading. subst (λ bs. IsShort (section_in section bs)) (sym (cond-true _ _ _ heading))
-        (or_else-short _ _ (text_if-short section (content_of (words_of l)) _ (omega (arith, front))) others))
+    (or_else-short _ _ (text_if-short section (content_of (words_of l)) _ (omega (arith, front))) others))
     (λ other. subst (λ bs. IsShort (section_in section bs)) (sym (cond-false _ _ _ other)) others)
     (cases_Bool (is_heading l))
 
@@ -158,7 +158,7 @@ unfolding page_of
 page_of-short bytes need page h is =
     ⊎_elim
     (λ utf8. page_of_text-short need (lines_of bytes) page (omega (arith, ap length (joined-lines_of bytes)))
-        (sym (cond-true _ _ _ utf8) ∙ is))
+    (sym (cond-true _ _ _ utf8) ∙ is))
     (λ other. absurd (not_text (sym (cond-false _ _ _ other) ∙ is)))
     (cases_Bool (is_utf8 bytes)) where
       not_text : Err NotText ≡ Ok page → ⊥

@@ -49,7 +49,11 @@ pub fn no_stray(number: u32, text: &str) -> Result<(), PageFault>
     Ok(())
 }
 
-fn text_of_section<'a>(heading: Heading<'a>, number: u32, body: &'a str) -> Result<SectionText<'a>, PageFault>
+fn text_of_section<'a>(
+    heading: Heading<'a>,
+    number: u32,
+    body: &'a str,
+) -> Result<SectionText<'a>, PageFault>
     requires { number + 1 + length body.now < 2 ^ 32 }
     ensures { TextGives result (content heading.entry) number (lines_of body.now) }
 {

@@ -92,12 +92,7 @@ fn page_of_sections(
         });
     };
     let schedule = needed_schedule(alloc, need.schedule, sections.schedule)?;
-    let document = needed_text(
-        alloc,
-        Section::Document,
-        need.document,
-        sections.document,
-    )?;
+    let document = needed_text(alloc, Section::Document, need.document, sections.document)?;
     let edits = needed_text(alloc, Section::Edits, need.edits, sections.edits)?;
     Ok(Page {
         width,
@@ -147,12 +142,7 @@ fn page_of_text(alloc: Global, text: &str, need: Need) -> Result<Page, PageFault
     page_of_lines(alloc, width, rest, need)
 }
 
-fn page_of_lines(
-    alloc: Global,
-    width: Width,
-    text: &str,
-    need: Need,
-) -> Result<Page, PageFault>
+fn page_of_lines(alloc: Global, width: Width, text: &str, need: Need) -> Result<Page, PageFault>
     requires { length text.now ≤ 67108864 }
     ensures { Gives OutOfMemory (λ page. page) result
         (page_of_lines width need (lines_of text.now)) }
