@@ -1,6 +1,7 @@
 -- The texts of a page are no longer than its bytes, or than a shipped grammar.
-use Rattle.std.proofs.Common.{◌≡◌, ℕ, zero, suc, ◌+◌, ◌≤◌, Bool, true, false, List, [], ◌∷◌, ◌++◌, length, take}
-use Rattle.std.proofs.Common.{Option, Some, None, Result, Ok, Err, sym, refl, ap, ◌∙◌, subst, ⊎_elim, arith, length-append}
+use Rattle.std.proofs.Common.{◌≡◌, ℕ, zero, suc, ◌+◌, ◌≤◌, Bool, true, false, List, [], ◌∷◌, length, take}
+use Rattle.std.proofs.Common.{Option, Some, None, Result, Ok, Err, sym, refl, ap, ◌∙◌, subst, ⊎_elim, arith}
+use Rattle.std.proofs.Common.{length-append}
 use Rattle.std.specs.Prelude.{IfSome, IfOk, if◌then◌else◌}
 use Rattle.std.specs.Str.{is_utf8}
 use Rattle.std.specs.List.{prefix_len}
@@ -15,10 +16,12 @@ use Rattle.ftl_page.specs.declared.page.Need.{Need}
 use Rattle.ftl_page.specs.declared.page.Page.{Page}
 use Rattle.ftl_page.specs.Lines.{lines_of, words_of, is_heading, is_body_line}
 use Rattle.ftl_page.specs.Opening.{width_of_line}
-use Rattle.ftl_page.specs.Blocks.{Block, blocks_of, Content, own, named, automatic, content_of, section_of}
-use Rattle.ftl_page.specs.Shipped.{stack_text, shipped_text}
-use Rattle.ftl_page.specs.Page.{is_same, section_text, text_if, or_else, section_in, needed_text, needed_schedule, page_of_texts, page_with}
-use Rattle.ftl_page.specs.Page.{unless_fault, first_stray, first_fault, page_of_blocks, page_of_lines, page_after, page_of_text, page_of}
+use Rattle.ftl_page.specs.Blocks.{blocks_of, Content, own, named, automatic, content_of}
+use Rattle.ftl_page.specs.Shipped.{stack_text}
+use Rattle.ftl_page.specs.Page.{section_text, text_if, or_else, section_in, needed_text, needed_schedule}
+use Rattle.ftl_page.specs.Page.{page_of_texts, page_with}
+use Rattle.ftl_page.specs.Page.{unless_fault, page_of_lines, page_after}
+use Rattle.ftl_page.specs.Page.{page_of_text, page_of}
 use Rattle.ftl_page.specs.Texts.{HasTextsUpTo}
 use Rattle.ftl_page.proofs.BodyLemmas.{joined, joined-lines_of}
 

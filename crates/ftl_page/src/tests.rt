@@ -48,7 +48,7 @@ static PAGES: [(Need, &str, &str); 36] = [
     ),
     (
         RUN,
-        "%page\t2\r\n # before\n\t\r\n%grammar  stack \t\n\n  # after\n%schedule auto\n#\n%document",
+        "%page\t2\r\n # before\n\t\r\n%grammar  stack \t\n # after\n%schedule auto\n#\n%document",
         "Wide stack document \"\"",
     ),
     (
