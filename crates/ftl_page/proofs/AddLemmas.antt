@@ -1,5 +1,6 @@
 -- A section more among those that were found.
-use Rattle.std.proofs.Common.{◌≡◌, ℕ, Bool, true, false, List, Option, Some, None, is_some, Ok, sym, refl, ap, ◌∙◌, subst, ⊎_elim}
+use Rattle.std.proofs.Common.{◌≡◌, ℕ, true, false, List, Option, Some, None, is_some, Ok, sym, refl, ap, ◌∙◌}
+use Rattle.std.proofs.Common.{subst, ⊎_elim}
 use Rattle.std.specs.Prelude.{if◌then◌else◌}
 use Rattle.std.proofs.lemmas.Bool.{cond-true, cond-false, cases_Bool}
 use Rattle.ftl_page.specs.declared.fault.Section.{Section}
@@ -7,7 +8,7 @@ use Rattle.ftl_page.specs.declared.fault.Section.TheVariants.{Grammar, Schedule,
 use Rattle.ftl_page.specs.declared.section.SectionText.{SectionText}
 use Rattle.ftl_page.specs.declared.section.Sections.{Sections}
 use Rattle.ftl_page.specs.Blocks.{Content, section_of}
-use Rattle.ftl_page.specs.Page.{is_same, section_text, text_if, or_else, content_fault}
+use Rattle.ftl_page.specs.Page.{is_same, section_text, or_else, content_fault}
 use Rattle.ftl_page.specs.Found.{given_text, found_in, TextGives, AddGives}
 
 -- sections that are the same are one
@@ -47,19 +48,22 @@ pub added : (old new : Sections) (heading : Option Content) (content : Content) 
     ((s : Section) → found_in s new ≡ (if is_same s which then Some (given_text text) else found_in s old)) →
     AddGives (Ok new) old heading number body
 added old new heading content which text number body is section none gives found =
-    let new_one : is_some (found_in (section_of content) old) ≡ false = ap (λ s. is_some (found_in s old)) (sym section) ∙ none in
+    let new_one : is_some (found_in (section_of content) old) ≡ false = ap (λ s. is_some (found_in s old)) (sym
+    section) ∙ none in
     let good : content_fault (λ s. is_some (found_in s old)) (Some content) number body ≡ None =
-        ap (λ before. content_fault (λ _. before) (Some content) number body) new_one ∙ gives.0 in
-    subst (λ h. AddGives (Ok new) old h number body) (sym is)
-    (good, λ s.
-        let here = found s ∙ ap (λ w. if is_same s w then Some (given_text text) else found_in s old) section in
-        ⊎_elim
-        (λ same.
-            let one = same_section s (section_of content) same in
-            here ∙ cond-true _ _ _ same ∙ ap (λ t. Some t) gives.1
-            ∙ into_none (found_in s old) (section_text content body) (ap (λ w. is_some (found_in w old)) one ∙ new_one)
-            ∙ ap (or_else (found_in s old)) (sym (cond-true _ _ _ same)))
-        (λ other.
-            here ∙ cond-false _ _ _ other ∙ into_nothing (found_in s old)
-            ∙ ap (or_else (found_in s old)) (sym (cond-false _ _ _ other)))
-        (cases_Bool (is_same s (section_of content))))
+    ap (λ before. content_fault (λ _. before) (Some content) number body) new_one ∙ gives.0 in
+    subst (λ h. AddGives (Ok new) old h number body) (sym is) (
+      good,
+      λ s.
+          let here = found s ∙ ap (λ w. if is_same s w then Some (given_text text) else found_in s old) section in
+          ⊎_elim
+          (λ same.
+          let one = same_section s (section_of content) same in
+          here ∙ cond-true _ _ _ same ∙ ap (λ t. Some t) gives.1
+          ∙ into_none (found_in s old) (section_text content body) (ap (λ w. is_some (found_in w old)) one ∙ new_one)
+          ∙ ap (or_else (found_in s old)) (sym (cond-true _ _ _ same)))
+          (λ other.
+          here ∙ cond-false _ _ _ other ∙ into_nothing (found_in s old)
+          ∙ ap (or_else (found_in s old)) (sym (cond-false _ _ _ other)))
+          (cases_Bool (is_same s (section_of content))),
+    )

@@ -1,5 +1,6 @@
 -- The lines before a heading, line by line.
-use Rattle.std.proofs.Common.{◌≡◌, ℕ, suc, ◌+◌, ◌-◌, ◌<◌, ◌≤◌, Bool, true, eqb, List, [], ◌∷◌, ◌++◌, length, take, drop, get_or, sym, refl, ap, ◌∙◌, subst, ⊎_elim, arith, append_assoc, length-append}
+use Rattle.std.proofs.Common.{◌≡◌, ℕ, suc, ◌+◌, ◌-◌, ◌<◌, ◌≤◌, Bool, true, eqb, List, [], ◌∷◌, ◌++◌, length, take, drop}
+use Rattle.std.proofs.Common.{get_or, sym, refl, ap, ◌∙◌, subst, ⊎_elim, arith, append_assoc, length-append}
 use Rattle.std.specs.Prelude.{◌⊎◌}
 use Rattle.std.specs.List.{flat_map, list_all}
 use Rattle.std.proofs.lemmas.Bool.{cond-true, cond-false, cases_Bool, cases_lt, eqb-false, and_from, and_parts}
@@ -94,7 +95,15 @@ pub record BodySoFar (text : List ℕ) (lines : ℕ) (rest : List ℕ) : Type 0 
   pub short : lines ≤ length (joined front)
 
 pub body_start : (text : List ℕ) → BodySoFar text 0 text
-body_start text = record { front = []; all_lines = refl; no_heading = refl; count = refl; whole = refl; short = omega arith }
+body_start text = record {
+  front = [];
+  all_lines = refl;
+  no_heading = refl;
+  count = refl;
+  whole = refl;
+  short = omega
+      arith;
+}
 
 module _ {text : List ℕ} {lines : ℕ} {rest : List ℕ} (so_far : BodySoFar text lines rest) where
   pub body_more : (line after : List ℕ) → lines_of rest ≡ line ∷ lines_of after → rest ≡ line ++ after → 0 < length line

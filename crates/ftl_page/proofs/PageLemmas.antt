@@ -1,6 +1,6 @@
 -- The page of a text by its lines, its blocks and its sections.
-use Rattle.std.proofs.Common.{◌≡◌, ℕ, ◌+◌, ◌<◌, Bool, true, false, List, [], ◌∷◌, ◌++◌, length, Option, Some, None, Result, Ok, Err, sym, refl, ap, ◌∙◌, arith}
-use Rattle.std.specs.Prelude.{◌&&◌}
+use Rattle.std.proofs.Common.{◌≡◌, ℕ, ◌+◌, ◌<◌, List, [], ◌∷◌, ◌++◌, length, Some, None}
+use Rattle.std.proofs.Common.{Ok, Err, sym, refl, ap, ◌∙◌, arith}
 use Rattle.std.specs.List.{take_while}
 use Rattle.std.specs.Str.{IsUtf8, is_utf8}
 use Rattle.std.proofs.lemmas.Bool.{cond-true, cond-false, false_from_ne_true}
@@ -8,16 +8,16 @@ use Rattle.std.proofs.lemmas.Str.{is_utf8-from_IsUtf8, IsUtf8-from_is_utf8}
 use Rattle.ftl_page.specs.declared.fault.Section.{Section}
 use Rattle.ftl_page.specs.declared.fault.Section.TheVariants.{Grammar, Schedule, Document, Edits}
 use Rattle.ftl_page.specs.declared.fault.PageFault.{PageFault}
-use Rattle.ftl_page.specs.declared.fault.PageFault.TheVariants.{NotText, BadVersion}
+use Rattle.ftl_page.specs.declared.fault.PageFault.TheVariants.{NotText}
 use Rattle.ftl_base.specs.declared.width.Width.{Width}
 use Rattle.ftl_page.specs.declared.page.Need.{Need}
-use Rattle.ftl_page.specs.declared.page.Page.{Page}
 use Rattle.ftl_page.specs.declared.section.Sections.{Sections}
-use Rattle.ftl_page.specs.Lines.{lines_of, words_of, is_heading, is_body_line}
+use Rattle.ftl_page.specs.Lines.{lines_of, is_body_line}
 use Rattle.ftl_page.specs.Body.{IsBody}
-use Rattle.ftl_page.specs.Blocks.{Block, blocks_of}
+use Rattle.ftl_page.specs.Blocks.{blocks_of}
 use Rattle.ftl_page.specs.Opening.{width_of_line}
-use Rattle.ftl_page.specs.Page.{section_in, first_stray, first_fault, page_with, page_of_blocks, unless_fault, page_of_lines, page_after, page_of_text, page_of}
+use Rattle.ftl_page.specs.Page.{section_in, first_stray, first_fault, page_with, page_of_blocks, unless_fault}
+use Rattle.ftl_page.specs.Page.{page_of_lines, page_after, page_of_text, page_of}
 use Rattle.ftl_page.specs.Found.{found_in, AreSectionsOf}
 use Rattle.ftl_page.proofs.LineLemmas.{lines_of-nil}
 use Rattle.ftl_page.proofs.SectionLemmas.{starts_block, take_while-body, blocks_of-skip}
@@ -71,21 +71,26 @@ module _ (text front : List ℕ) (lines : ℕ) (rest : List ℕ) (body : IsBody 
 
   pub page_sections : (width : Width) (need : Need) (sections : Sections) → None ≡ first_stray 2 (lines_of front)
       → AreSectionsOf (Ok sections) [] (blocks_of (2 + lines) (lines_of rest))
-      → page_of_lines width need (lines_of text) ≡ page_with width need (found_in Grammar sections) (found_in Schedule sections)
+      → page_of_lines width need (lines_of text) ≡ page_with width need (found_in Grammar sections) (found_in Schedule
+      sections)
       (found_in Document sections) (found_in Edits sections)
   page_sections width need sections no_stray are =
       let blocks = blocks_of (2 + lines) (lines_of rest) in
       page_is width need
-      ∙ ap (λ f. unless_fault f (unless_fault (first_fault [] blocks) (page_of_blocks width need blocks))) (sym no_stray)
+      ∙ ap (λ f. unless_fault f (unless_fault (first_fault [] blocks) (page_of_blocks width need blocks))) (sym
+      no_stray)
       ∙ ap (λ f. unless_fault f (page_of_blocks width need blocks)) are.0
-      ∙ ap (λ g. page_with width need g (section_in Schedule blocks) (section_in Document blocks) (section_in Edits blocks))
-          (sym (are.1 Grammar))
-      ∙ ap (λ s. page_with width need (found_in Grammar sections) s (section_in Document blocks) (section_in Edits blocks))
-          (sym (are.1 Schedule))
-      ∙ ap (λ d. page_with width need (found_in Grammar sections) (found_in Schedule sections) d (section_in Edits blocks))
-          (sym (are.1 Document))
+      ∙ ap (λ g. page_with width need g (section_in Schedule blocks) (section_in Document blocks) (section_in Edits
+      blocks))
+      (sym (are.1 Grammar))
+      ∙ ap (λ s. page_with width need (found_in Grammar sections) s (section_in Document blocks) (section_in Edits
+      blocks))
+      (sym (are.1 Schedule))
+      ∙ ap (λ d. page_with width need (found_in Grammar sections) (found_in Schedule sections) d (section_in Edits
+      blocks))
+      (sym (are.1 Document))
       ∙ ap (page_with width need (found_in Grammar sections) (found_in Schedule sections) (found_in Document sections))
-          (sym (are.1 Edits))
+      (sym (are.1 Edits))
 
 -- line 1
 pub first_line : (need : Need) (text first rest : List ℕ)

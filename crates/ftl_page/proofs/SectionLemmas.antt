@@ -1,5 +1,6 @@
 -- The sections of a page, block by block.
-use Rattle.std.proofs.Common.{◌≡◌, ℕ, zero, suc, ◌+◌, ◌<◌, Bool, true, List, [], ◌∷◌, ◌++◌, length, take, Option, Some, None, is_some, Result, Ok, Err, sym, refl, ap, ◌∙◌, subst, ⊎_elim, arith, append_assoc}
+use Rattle.std.proofs.Common.{◌≡◌, ℕ, zero, suc, ◌+◌, ◌<◌, Bool, true, List, [], ◌∷◌, ◌++◌, length, take, Option, Some}
+use Rattle.std.proofs.Common.{None, is_some, Result, Ok, Err, sym, refl, ap, ◌∙◌, subst, ⊎_elim, arith, append_assoc}
 use Rattle.std.specs.Prelude.{◌⊎◌}
 use Rattle.std.specs.List.{list_all, prefix_len, take_while}
 use Rattle.std.proofs.lemmas.Bool.{cond-true, cond-false, and_parts, not-true, not_from_true}
@@ -64,7 +65,8 @@ blocks_of-skip (l ∷ ls) more number plain =
 -- the first block of a text that begins with a heading
 pub block_is : (number lines : ℕ) (text heading after front rest : List ℕ) → is_heading text ≡ true → 0 < length heading
     → text ≡ heading ++ after → lines_of text ≡ heading ∷ lines_of after → IsBody after front lines rest
-    → blocks_of number (lines_of text) ≡ record { number = number; heading = heading; body = lines_of front } ∷ blocks_of
+    → blocks_of number (lines_of text) ≡ record { number = number; heading = heading; body = lines_of front } ∷
+    blocks_of
     (number + (1 + lines)) (lines_of rest)
 unfolding blocks_of
 block_is number lines text heading after front rest starts some whole split body =

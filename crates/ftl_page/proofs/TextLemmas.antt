@@ -1,6 +1,7 @@
 -- The texts of a page are no longer than its bytes, or than a shipped grammar.
-use Rattle.std.proofs.Common.{◌≡◌, ℕ, zero, suc, ◌+◌, ◌≤◌, Bool, true, false, List, [], ◌∷◌, ◌++◌, length, take}
-use Rattle.std.proofs.Common.{Option, Some, None, Result, Ok, Err, sym, refl, ap, ◌∙◌, subst, ⊎_elim, arith, length-append}
+use Rattle.std.proofs.Common.{◌≡◌, ℕ, zero, suc, ◌+◌, ◌≤◌, Bool, true, false, List, [], ◌∷◌, length, take}
+use Rattle.std.proofs.Common.{Option, Some, None, Result, Ok, Err, sym, refl, ap, ◌∙◌, subst, ⊎_elim, arith}
+use Rattle.std.proofs.Common.{length-append}
 use Rattle.std.specs.Prelude.{IfSome, IfOk, if◌then◌else◌}
 use Rattle.std.specs.Str.{is_utf8}
 use Rattle.std.specs.List.{prefix_len}
@@ -15,10 +16,12 @@ use Rattle.ftl_page.specs.declared.page.Need.{Need}
 use Rattle.ftl_page.specs.declared.page.Page.{Page}
 use Rattle.ftl_page.specs.Lines.{lines_of, words_of, is_heading, is_body_line}
 use Rattle.ftl_page.specs.Opening.{width_of_line}
-use Rattle.ftl_page.specs.Blocks.{Block, blocks_of, Content, own, named, automatic, content_of, section_of}
-use Rattle.ftl_page.specs.Shipped.{stack_text, shipped_text}
-use Rattle.ftl_page.specs.Page.{is_same, section_text, text_if, or_else, section_in, needed_text, needed_schedule, page_of_texts, page_with}
-use Rattle.ftl_page.specs.Page.{unless_fault, first_stray, first_fault, page_of_blocks, page_of_lines, page_after, page_of_text, page_of}
+use Rattle.ftl_page.specs.Blocks.{blocks_of, Content, own, named, automatic, content_of}
+use Rattle.ftl_page.specs.Shipped.{stack_text}
+use Rattle.ftl_page.specs.Page.{section_text, text_if, or_else, section_in, needed_text, needed_schedule}
+use Rattle.ftl_page.specs.Page.{page_of_texts, page_with}
+use Rattle.ftl_page.specs.Page.{unless_fault, page_of_lines, page_after}
+use Rattle.ftl_page.specs.Page.{page_of_text, page_of}
 use Rattle.ftl_page.specs.Texts.{HasTextsUpTo}
 use Rattle.ftl_page.proofs.BodyLemmas.{joined, joined-lines_of}
 
@@ -76,7 +79,7 @@ section_in-short section number (l ∷ ls) h =
     let front = length-joined-take (prefix_len is_body_line ls) ls in
     ⊎_elim
     (λ heading. subst (λ bs. IsShort (section_in section bs)) (sym (cond-true _ _ _ heading))
-        (or_else-short _ _ (text_if-short section (content_of (words_of l)) _ (omega (arith, front))) others))
+    (or_else-short _ _ (text_if-short section (content_of (words_of l)) _ (omega (arith, front))) others))
     (λ other. subst (λ bs. IsShort (section_in section bs)) (sym (cond-false _ _ _ other)) others)
     (cases_Bool (is_heading l))
 
@@ -158,7 +161,7 @@ unfolding page_of
 page_of-short bytes need page h is =
     ⊎_elim
     (λ utf8. page_of_text-short need (lines_of bytes) page (omega (arith, ap length (joined-lines_of bytes)))
-        (sym (cond-true _ _ _ utf8) ∙ is))
+    (sym (cond-true _ _ _ utf8) ∙ is))
     (λ other. absurd (not_text (sym (cond-false _ _ _ other) ∙ is)))
     (cases_Bool (is_utf8 bytes)) where
       not_text : Err NotText ≡ Ok page → ⊥

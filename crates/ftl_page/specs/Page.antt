@@ -1,15 +1,17 @@
 -- The sections of a page that a command needs, or the first fault of the page.
-use Rattle.std.specs.Prelude.{ℕ, ◌+◌, Bool, true, false, ◌&&◌, List, [], ◌∷◌, ◌++◌, Option, Some, None, is_some, is_none, Result, Ok, Err, if◌then◌else◌}
-use Rattle.std.specs.List.{take_while, flat_map}
+use Rattle.std.specs.Prelude.{ℕ, ◌+◌, Bool, true, false, List, [], ◌∷◌, ◌++◌, Option, Some, None, option_map}
+use Rattle.std.specs.Prelude.{is_some, is_none, Result, Ok, Err, if◌then◌else◌}
+use Rattle.std.specs.List.{position, take_while, flat_map}
 use Rattle.std.specs.Str.{is_utf8}
 use Rattle.ftl_page.specs.declared.fault.Section.{Section}
 use Rattle.ftl_page.specs.declared.fault.Section.TheVariants.{Grammar, Schedule, Document, Edits}
 use Rattle.ftl_page.specs.declared.fault.PageFault.{PageFault}
-use Rattle.ftl_page.specs.declared.fault.PageFault.TheVariants.{NotText, BadVersion, UnknownSection, SectionTwice, UnknownShipped, StrayText, NoSection}
+use Rattle.ftl_page.specs.declared.fault.PageFault.TheVariants.{NotText, BadVersion, UnknownSection, SectionTwice}
+use Rattle.ftl_page.specs.declared.fault.PageFault.TheVariants.{UnknownShipped, StrayText, NoSection}
 use Rattle.ftl_base.specs.declared.width.Width.{Width}
 use Rattle.ftl_page.specs.declared.page.Need.{Need}
 use Rattle.ftl_page.specs.declared.page.Page.{Page}
-use Rattle.ftl_page.specs.Lines.{lines_of, words_of, is_heading, is_body_line, is_stray}
+use Rattle.ftl_page.specs.Lines.{lines_of, words_of, is_body_line, is_stray}
 use Rattle.ftl_page.specs.Opening.{width_of_line}
 use Rattle.ftl_page.specs.Blocks.{Block, blocks_of, Content, own, named, automatic, content_of, section_of}
 use Rattle.ftl_page.specs.Shipped.{shipped_text}
@@ -33,7 +35,8 @@ section_text automatic body = None
 -- the section's text, if this is what its heading stands for
 abbrev pub text_if : Section → Option Content → List (List ℕ) → Option (Option (List ℕ))
 text_if section None body = None
-text_if section (Some content) body = if is_same section (section_of content) then Some (section_text content body) else None
+text_if section (Some content) body = if is_same section (section_of content) then Some (section_text content body)
+    else None
 
 -- the first of two that is there
 abbrev pub or_else : Option (Option (List ℕ)) → Option (Option (List ℕ)) → Option (Option (List ℕ))
@@ -50,8 +53,7 @@ section_in section (block ∷ blocks) = or_else (text_if section (content_of (wo
 
 -- the first stray line of these, of which the first has this number
 unfoldable pub first_stray : ℕ → List (List ℕ) → Option PageFault
-first_stray number [] = None
-first_stray number (line ∷ lines) = if is_stray line then Some (StrayText number) else first_stray (number + 1) lines
+first_stray number lines = option_map (λ place. StrayText (number + place)) (position is_stray lines)
 
 -- the fault in the lines after a heading of this content
 abbrev pub body_fault : Content → ℕ → List (List ℕ) → Option PageFault

@@ -11,7 +11,7 @@ text_of_lines (line ∷ lines) = line ++ 10 ∷ text_of_lines lines
 unfoldable pub stack_text : List ℕ
 stack_text =
     text_of_lines
-    ( codes "root Page;"
+    (codes "root Page;"
     ∷ codes "interface Page { syn h; show h; }"
     ∷ codes "interface Box { inh x, y; syn w, h; show x, y, w, h; }"
     ∷ codes "class Sheet : Page { body : Box;"

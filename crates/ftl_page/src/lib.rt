@@ -1,7 +1,8 @@
 //! The bytes of a page go in, and its width and sections come out: the texts of the grammar, the
-//! schedule, the document and the edits, or the first fault of the page. Lines are numbered from 1. `specs/Lines.antt` says
-//! what lines and headings are, `specs/Blocks.antt` what a heading stands for, and `specs/Page.antt`
-//! which sections a page has and which fault is its first.
+//! schedule, the document and the edits, or the first fault of the page. Lines are numbered from 1.
+//! `specs/Lines.antt` says what lines and headings are, `specs/Opening.antt` what line 1 names,
+//! `specs/Blocks.antt` what a heading stands for, and `specs/Page.antt` which sections a page has
+//! and which fault is its first.
 #![tactic(auto)]
 
 mod body;

@@ -1,6 +1,7 @@
 //! The sections of a page, as they are found.
 
-ghost use Rattle.std.specs.Prelude.{◌≡◌, ◌+◌, ◌<◌, ◌^◌, ℕ, length, Some, None, is_some, if◌then◌else◌};
+ghost use Rattle.std.specs.Prelude.{◌≡◌, ◌+◌, ◌<◌, ◌^◌, ℕ, length, Some, None, is_some};
+ghost use Rattle.std.specs.Prelude.{if◌then◌else◌};
 ghost use Rattle.std.specs.Result.{result_err};
 ghost use Rattle.ftl_page.specs.declared.fault.Section.{Section};
 ghost use Rattle.ftl_page.specs.Lines.{lines_of, words_of};
@@ -49,7 +50,11 @@ pub fn no_stray(number: u32, text: &str) -> Result<(), PageFault>
     Ok(())
 }
 
-fn text_of_section<'a>(heading: Heading<'a>, number: u32, body: &'a str) -> Result<SectionText<'a>, PageFault>
+fn text_of_section<'a>(
+    heading: Heading<'a>,
+    number: u32,
+    body: &'a str,
+) -> Result<SectionText<'a>, PageFault>
     requires { number + 1 + length body.now < 2 ^ 32 }
     ensures { TextGives result (content heading.entry) number (lines_of body.now) }
 {
@@ -134,7 +139,8 @@ impl<'a> Sections<'a> {
         body: &'a str,
     ) -> Result<Sections<'a>, PageFault>
         requires { number + 1 + length body.now < 2 ^ 32 }
-        ensures { AddGives result self.now (content_of (words_of heading.now)) number (lines_of body.now) }
+        ensures { AddGives result self.now
+            (content_of (words_of heading.now)) number (lines_of body.now) }
     {
         let Some(heading) = heading_of(heading.as_bytes()) else {
             return Err(PageFault::UnknownSection { line: number });

@@ -3,11 +3,13 @@
 ghost use Rattle.std.specs.Prelude.{◌≡◌, ◌+◌, ◌<◌, ◌≤◌, ◌^◌, ◌⊎◌, true, length, option_map, IfOk};
 ghost use Rattle.ftl_model.specs.Outcome.{Gives};
 ghost use Rattle.ftl_page.specs.declared.fault.PageFault.TheVariants.{OutOfMemory};
-ghost use Rattle.ftl_page.specs.declared.fault.Section.TheVariants.{Grammar, Schedule, Document, Edits};
+ghost use Rattle.ftl_page.specs.declared.fault.Section.TheVariants.{Grammar, Schedule, Document};
+ghost use Rattle.ftl_page.specs.declared.fault.Section.TheVariants.{Edits};
 ghost use Rattle.ftl_page.specs.Lines.{lines_of, is_heading};
 ghost use Rattle.ftl_page.specs.Opening.{width_of_line};
 ghost use Rattle.ftl_page.specs.Blocks.{blocks_of};
-ghost use Rattle.ftl_page.specs.Page.{page_of, page_of_text, page_of_lines, page_with, needed_text, needed_schedule};
+ghost use Rattle.ftl_page.specs.Page.{page_of, page_of_text, page_of_lines, page_with, needed_text};
+ghost use Rattle.ftl_page.specs.Page.{needed_schedule};
 ghost use Rattle.ftl_page.specs.Texts.{HasTextsUpTo};
 ghost use Rattle.ftl_page.specs.Found.{found_in, given_text, SectionsGive};
 
@@ -92,12 +94,7 @@ fn page_of_sections(
         });
     };
     let schedule = needed_schedule(alloc, need.schedule, sections.schedule)?;
-    let document = needed_text(
-        alloc,
-        Section::Document,
-        need.document,
-        sections.document,
-    )?;
+    let document = needed_text(alloc, Section::Document, need.document, sections.document)?;
     let edits = needed_text(alloc, Section::Edits, need.edits, sections.edits)?;
     Ok(Page {
         width,
@@ -147,12 +144,7 @@ fn page_of_text(alloc: Global, text: &str, need: Need) -> Result<Page, PageFault
     page_of_lines(alloc, width, rest, need)
 }
 
-fn page_of_lines(
-    alloc: Global,
-    width: Width,
-    text: &str,
-    need: Need,
-) -> Result<Page, PageFault>
+fn page_of_lines(alloc: Global, width: Width, text: &str, need: Need) -> Result<Page, PageFault>
     requires { length text.now ≤ 67108864 }
     ensures { Gives OutOfMemory (λ page. page) result
         (page_of_lines width need (lines_of text.now)) }

@@ -4,7 +4,8 @@ ghost use Rattle.std.specs.Prelude.{◌≡◌, ◌<◌, ◌≤◌, ◌↔◌, []
 ghost use Rattle.std.specs.List.{prefix_len, position_or_len};
 ghost use Rattle.ftl_tokens.specs.Scan.{is_white_space};
 ghost use Rattle.ftl_page.specs.Lines.{words_of};
-ghost use Rattle.ftl_page.specs.Blocks.{content_of, grammar_content, schedule_content, plain_content};
+ghost use Rattle.ftl_page.specs.Blocks.{content_of, grammar_content, schedule_content};
+ghost use Rattle.ftl_page.specs.Blocks.{plain_content};
 ghost use Rattle.ftl_page.specs.Opening.{width_of_opening, width_of_version};
 ghost use Rattle.ftl_page.specs.Headings.{content};
 
@@ -50,7 +51,8 @@ fn word_length(line: &[u8]) -> usize
 /// The first word, which is empty where there is none, and what follows it.
 fn next_word(line: &[u8]) -> (&[u8], &[u8])
     ensures none { length result.0.now ≡ 0 → words_of line.now ≡ [] }
-    ensures some { 0 < length result.0.now → words_of line.now ≡ result.0.now ∷ words_of result.1.now }
+    ensures some { 0 < length result.0.now
+        → words_of line.now ≡ result.0.now ∷ words_of result.1.now }
 {
     let (_, start) = line.split_at(white_length(line));
     start.split_at(word_length(start))

@@ -30,4 +30,5 @@ returns c =
       | else-loop-rest-test w ↦ inl (eqb-true _ 0 (sym w.loop-rest-test.ensures))
     ]
     in
-    body_all c.loop-rest.invariant.body c.split_at.result.0.now c.split_at.result.1.now c.split_at.ensures.front c.split_at.ensures.back next
+    body_all c.loop-rest.invariant.body c.split_at.result.0.now c.split_at.result.1.now c.split_at.ensures.front
+    c.split_at.ensures.back next

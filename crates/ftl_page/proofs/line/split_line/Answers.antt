@@ -1,5 +1,4 @@
-use Rattle.std.proofs.Common.{◌∷◌, ℕ, List, take, drop, length, sym, ap, ◌∙◌, subst, arith}
-use Rattle.std.specs.Str.{IsCharBoundary}
+use Rattle.std.proofs.Common.{◌∷◌, drop, sym, ap, ◌∙◌, arith}
 use Rattle.ftl_page.specs.Lines.{lines_of}
 use Rattle.ftl_page.proofs.LineLemmas.{line_boundary}
 use Rattle.ftl_page.proofs.line.split_line.Goals as goal

@@ -12,12 +12,12 @@ returns-in_default c = λ _.
     let line = c.split_line.ensures in
     first_line c.args.need c.args.text.now _ _ line.lines line.whole
     ∙ ap (λ width. page_after width c.args.need (lines_of c.split_line.result.1.now))
-        (sym c.width_of_line.ensures ∙ c.in_default.is)
+    (sym c.width_of_line.ensures ∙ c.in_default.is)
 
 pub returns : goal.returns
 returns c =
     let line = c.split_line.ensures in
     let is = first_line c.args.need c.args.text.now _ _ line.lines line.whole
-        ∙ ap (λ width. page_after width c.args.need (lines_of c.split_line.result.1.now))
-            (sym c.width_of_line.ensures ∙ c.in-Some.is) in
+    ∙ ap (λ width. page_after width c.args.need (lines_of c.split_line.result.1.now))
+    (sym c.width_of_line.ensures ∙ c.in-Some.is) in
     subst (Gives OutOfMemory (λ page. page) c.page_of_lines.result) (sym is) c.page_of_lines.ensures
