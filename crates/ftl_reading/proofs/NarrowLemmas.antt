@@ -7,7 +7,7 @@ use Rattle.ftl_tokens.specs.declared.kind.Kind.TheVariants.{Name, Number}
 use Rattle.ftl_tokens.specs.declared.kind.Token.{Token}
 use Rattle.ftl_tokens.specs.Scan.{is_too_large}
 use Rattle.ftl_tokens.specs.Tokenized.{AreTokensOf, token_text, Symbol, name, number, fixed, symbol, symbol_of}
-use Rattle.ftl_reading.specs.Reader.{Tokens, ReadResult, rest_of, take_number, take_positive, IsStep, AreAtMost}
+use Rattle.ftl_reading.specs.Reader.{Tokens, ReadResult, rest_of, take_number, take_positive, TakesAtMostOne, AreAtMost}
 
 at_most-symbol : (greatest : ℕ) (kind : Kind) (text : List ℕ) (ts : Tokens) → is_too_large greatest kind text ≡ false
     → AreAtMost greatest ts → AreAtMost greatest (symbol kind text ∷ ts)
@@ -31,7 +31,7 @@ at_most-rest_of greatest (number value ∷ ts) small = small.1
 at_most-rest_of greatest (fixed kind ∷ ts) small = small
 
 -- and so are those after a step
-pub at_most-step : (greatest : ℕ) (before after : Tokens) → AreAtMost greatest before → IsStep before after
+pub at_most-step : (greatest : ℕ) (before after : Tokens) → AreAtMost greatest before → TakesAtMostOne before after
     → AreAtMost greatest after
 at_most-step greatest before after small (inl stays) = subst (AreAtMost greatest) (sym stays) small
 at_most-step greatest before after small (inr goes) = subst (AreAtMost greatest) (sym goes) (at_most-rest_of greatest before small)

@@ -114,8 +114,8 @@ at_end [] = Ok (tt, [])
 at_end (t ∷ ts) = Err (t ∷ ts)
 
 -- no token or the next one was taken
-abbrev pub IsStep : Tokens → Tokens → Type 0
-IsStep before after = (after ≡ before) ⊎ (after ≡ rest_of before)
+abbrev pub TakesAtMostOne : Tokens → Tokens → Type 0
+TakesAtMostOne before after = (after ≡ before) ⊎ (after ≡ rest_of before)
 
 -- no number of these tokens is above the greatest
 abbrev pub AreAtMost : ℕ → Tokens → Type 0

@@ -8,7 +8,7 @@ use ftl_tokens::{Scanned, TokenizedText};
 /// The byte at which the last `left` tokens of the text begin. Where there are none, it is the end of
 /// the last token, or 0 where the text has no token.
 pub fn place_in(scanned: &TokenizedText, left: usize) -> u32
-    ensures { result ≡ place_of scanned.now.tokens (length scanned.now.tokens - left) }
+    ensures place { result ≡ place_of scanned.now.tokens (length scanned.now.tokens - left) }
 {
     let list = scanned.list();
     let count = list.len();

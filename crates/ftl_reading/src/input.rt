@@ -40,7 +40,7 @@ impl<'a> Input<'a> {
 
     /// The kind of the next token, if there is one.
     pub fn peek(&self) -> Option<Kind>
-        ensures { result ≡ spec.next_kind self.now }
+        ensures kind { result ≡ spec.next_kind self.now }
     {
         self.wide.peek()
     }
@@ -54,37 +54,37 @@ impl<'a> Input<'a> {
 
     /// Takes the next token, if there is one.
     pub fn skip(&mut self)
-        ensures { self.new ≡ spec.rest_of self.old }
+        ensures rest { self.new ≡ spec.rest_of self.old }
     {
         self.wide.skip();
     }
 
     /// Whether the next token is the reserved word or the mark of this kind.
     pub fn is_at(&self, kind: Kind) -> bool
-        requires { IsFixed kind }
-        ensures { result ≡ spec.is_at kind self.now }
+        requires fixed { IsFixed kind }
+        ensures kind { result ≡ spec.is_at kind self.now }
     {
         self.wide.is_at(kind)
     }
 
     /// Takes a reserved word or a mark.
     pub fn expect(&mut self, kind: Kind) -> Result<(), ReadFault>
-        requires { IsFixed kind }
-        ensures { Reads (spec.expect kind self.old) result self.new }
+        requires fixed { IsFixed kind }
+        ensures reads { Reads (spec.expect kind self.old) result self.new }
     {
         self.wide.expect(kind)
     }
 
     /// Takes a name.
     pub fn name(&mut self, alloc: Global) -> Result<Name, ReadFault>
-        ensures { Reads (spec.take_name self.old) result self.new }
+        ensures reads { Reads (spec.take_name self.old) result self.new }
     {
         self.wide.name(alloc)
     }
 
     /// Takes a name, and lends its text. No memory is taken, so there is no other fault.
     pub fn name_text(&mut self) -> Result<&'a str, ReadFault>
-        ensures { MatchResult result (λ text. spec.take_name self.old ≡ Ok (text.now, self.new))
+        ensures reads { MatchResult result (λ text. spec.take_name self.old ≡ Ok (text.now, self.new))
             (λ _. spec.take_name self.old ≡ Err self.new) }
     {
         self.wide.name_text()
@@ -118,7 +118,7 @@ impl<'a> Input<'a> {
 
     /// All tokens were taken.
     pub fn end(&self) -> Result<(), ReadFault>
-        ensures { Reads (spec.at_end self.now) result self.now }
+        ensures reads { Reads (spec.at_end self.now) result self.now }
     {
         self.wide.end()
     }

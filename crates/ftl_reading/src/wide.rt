@@ -3,7 +3,7 @@
 ghost use Rattle.std.specs.Prelude.{◌≡◌, ◌∷◌, ◌≤◌, length, if◌then◌else◌, IfOk, MatchResult};
 ghost use Rattle.ftl_tokens.specs.Tokenized.{name, number, symbols_of};
 ghost use Rattle.ftl_reading.specs.Reader as spec;
-ghost use Rattle.ftl_reading.specs.Reader.{Reads, IsFixed, IsStep, AreAtMost};
+ghost use Rattle.ftl_reading.specs.Reader.{Reads, IsFixed, TakesAtMostOne, AreAtMost};
 
 use crate::fault::ReadFault;
 use ftl_tokens::{Kind, Name, TokenizedText, WideScanned};
@@ -47,7 +47,7 @@ impl<'a> WideInput<'a> {
 
     /// The kind of the next token, if there is one.
     pub fn peek(&self) -> Option<Kind>
-        ensures { result ≡ spec.next_kind self.now }
+        ensures kind { result ≡ spec.next_kind self.now }
     {
         let list = self.scanned.list();
         if self.at < list.len() {
@@ -59,14 +59,14 @@ impl<'a> WideInput<'a> {
 
     /// How many tokens are left.
     pub fn left(&self) -> usize
-        ensures { result ≡ length self.now }
+        ensures count { result ≡ length self.now }
     {
         self.scanned.list().len() - self.at
     }
 
     /// Takes the next token, if there is one.
     pub fn skip(&mut self)
-        ensures { self.new ≡ spec.rest_of self.old }
+        ensures rest { self.new ≡ spec.rest_of self.old }
     {
         if self.at < self.scanned.list().len() {
             self.at += 1;
@@ -76,8 +76,8 @@ impl<'a> WideInput<'a> {
     /// Whether the next token is the reserved word or the mark of this kind.
     #[tactic(auto, using(crate::proofs::StepLemmas::steps), unfolding(crate::specs::Reader::same_kind))]
     pub fn is_at(&self, kind: Kind) -> bool
-        requires { IsFixed kind }
-        ensures { result ≡ spec.is_at kind self.now }
+        requires fixed { IsFixed kind }
+        ensures kind { result ≡ spec.is_at kind self.now }
     {
         match self.peek() {
             Some(found) => found == kind,
@@ -88,9 +88,9 @@ impl<'a> WideInput<'a> {
     /// Takes a reserved word or a mark.
     #[tactic(auto, using(crate::proofs::StepLemmas::steps))]
     pub fn expect(&mut self, kind: Kind) -> Result<(), ReadFault>
-        requires { IsFixed kind }
+        requires fixed { IsFixed kind }
         ensures reads { Reads (spec.expect kind self.old) result self.new }
-        ensures step { IsStep self.old self.new }
+        ensures step { TakesAtMostOne self.old self.new }
     {
         if !self.is_at(kind) {
             return Err(ReadFault::Refused);
@@ -103,7 +103,7 @@ impl<'a> WideInput<'a> {
     #[tactic(auto, using(crate::proofs::StepLemmas::steps))]
     pub fn name(&mut self, alloc: Global) -> Result<Name, ReadFault>
         ensures reads { Reads (spec.take_name self.old) result self.new }
-        ensures step { IsStep self.old self.new }
+        ensures step { TakesAtMostOne self.old self.new }
     {
         match self.peek() {
             Some(Kind::Name) => {
@@ -120,7 +120,7 @@ impl<'a> WideInput<'a> {
     pub fn name_text(&mut self) -> Result<&'a str, ReadFault>
         ensures text { MatchResult result (λ text. spec.take_name self.old ≡ Ok (text.now, self.new))
             (λ _. spec.take_name self.old ≡ Err self.new) }
-        ensures step { IsStep self.old self.new }
+        ensures step { TakesAtMostOne self.old self.new }
     {
         match self.peek() {
             Some(Kind::Name) => {
@@ -136,7 +136,7 @@ impl<'a> WideInput<'a> {
     pub fn take_name_of(&mut self, text: &str) -> bool
         ensures taken { result ≡ spec.is_name text.now self.old }
         ensures left { self.new ≡ (if result then spec.rest_of self.old else self.old) }
-        ensures step { IsStep self.old self.new }
+        ensures step { TakesAtMostOne self.old self.new }
     {
         let found = self.is_name(text);
         if found {
@@ -150,7 +150,7 @@ impl<'a> WideInput<'a> {
     pub fn number(&mut self) -> Result<u64, ReadFault>
         ensures reads { Reads (spec.take_number self.old) result self.new }
         ensures small { IfOk result (λ n. n ≤ 140737488355327) }
-        ensures step { IsStep self.old self.new }
+        ensures step { TakesAtMostOne self.old self.new }
     {
         match self.peek() {
             Some(Kind::Number) => {
@@ -167,7 +167,7 @@ impl<'a> WideInput<'a> {
     pub fn positive(&mut self) -> Result<u64, ReadFault>
         ensures reads { Reads (spec.take_positive self.old) result self.new }
         ensures small { IfOk result (λ n. n ≤ 140737488355327) }
-        ensures step { IsStep self.old self.new }
+        ensures step { TakesAtMostOne self.old self.new }
     {
         match self.peek() {
             Some(Kind::Number) => {
@@ -185,7 +185,7 @@ impl<'a> WideInput<'a> {
     /// All tokens were taken.
     #[tactic(auto, using(crate::proofs::StepLemmas::steps))]
     pub fn end(&self) -> Result<(), ReadFault>
-        ensures { Reads (spec.at_end self.now) result self.now }
+        ensures reads { Reads (spec.at_end self.now) result self.now }
     {
         match self.peek() {
             Some(_) => Err(ReadFault::Refused),

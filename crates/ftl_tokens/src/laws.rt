@@ -8,5 +8,5 @@ ghost use Rattle.ftl_tokens.specs.Scans.{Scans};
 /// A scan cuts its text into white space, comments and longest tokens, up to the first place at which
 /// none of them begins or a number is above the greatest.
 pub fn law_of_scan()
-    ensures { (greatest : ℕ) (text : List ℕ) → Scans greatest 0 (chars text) (scan greatest text) }
+    ensures scans { (greatest : ℕ) (text : List ℕ) → Scans greatest 0 (chars text) (scan greatest text) }
 {}

@@ -29,7 +29,7 @@ impl Model for Name {
 impl Name {
     /// The name with the characters of `text`.
     pub fn new(alloc: Global, text: &str) -> Result<Name, AllocError>
-        ensures { IfOk result (λ name. name ≡ text.now) }
+        ensures text { IfOk result (λ name. name ≡ text.now) }
     {
         Ok(Name {
             text: String::from_str(alloc, text)?,
@@ -38,14 +38,14 @@ impl Name {
 
     /// Its characters.
     pub fn text(&self) -> &str
-        ensures { result.now ≡ self.now }
+        ensures text { result.now ≡ self.now }
     {
         self.text.as_str()
     }
 
     /// A second name with the same characters.
     pub fn copy(&self) -> Result<Name, AllocError>
-        ensures { IfOk result (λ name. name ≡ self.now) }
+        ensures text { IfOk result (λ name. name ≡ self.now) }
     {
         Ok(Name {
             text: self.text.clone()?,

@@ -16,7 +16,7 @@ use std::alloc::Global;
 /// The tokens of a text, which is kept beside them. A text has 64 MiB at most, so that places fit 32
 /// bits. One pass, which allocates nothing but the list.
 pub fn tokens(alloc: Global, text: String) -> Result<Scanned, TokenFault>
-    requires { string_len text ≤ 67108864 }
+    requires short { string_len text ≤ 67108864 }
     ensures exact { Gives OutOfMemory (λ scanned. scanned.tokens) result (scan 2147483647 (string_bytes text)) }
     ensures text { IfOk result (λ scanned. scanned.text ≡ string_bytes text) }
 {

@@ -51,7 +51,7 @@ impl Scanned {
 
     /// The text of token `k`.
     pub fn slice(&self, k: usize) -> &str
-        requires { k < length self.now.tokens }
+        requires within { k < length self.now.tokens }
         ensures text { IfSome (slice_get self.now.tokens k) (λ t. result.now ≡ token_text self.now.text t) }
         ensures token { IfSome (slice_get self.now.tokens k) (IsTokenOf 2147483647 self.now.text) }
         ensures symbol { IfSome (slice_get self.now.tokens k)
@@ -62,7 +62,7 @@ impl Scanned {
 
     /// The number that token `k` writes.
     pub fn number(&self, k: usize) -> u32
-        requires { IsSomeAnd (slice_get self.now.tokens k) (λ t. t.kind ≡ Kind.Number) }
+        requires number { IsSomeAnd (slice_get self.now.tokens k) (λ t. t.kind ≡ Kind.Number) }
         ensures value { IfSome (slice_get self.now.tokens k)
             (λ t. result ≡ digits_value 10 (token_text self.now.text t)) }
         ensures symbol { slice_get (symbols_of self.now) k ≡ Some (number result) }
@@ -126,7 +126,7 @@ impl WideScanned {
 
     /// The text of token `k`.
     pub fn slice(&self, k: usize) -> &str
-        requires { k < length self.now.tokenized.tokens }
+        requires within { k < length self.now.tokenized.tokens }
         ensures text { IfSome (slice_get self.now.tokenized.tokens k)
             (λ t. result.now ≡ token_text self.now.tokenized.text t) }
         ensures token { IfSome (slice_get self.now.tokenized.tokens k)
@@ -139,7 +139,7 @@ impl WideScanned {
 
     /// The number that token `k` writes.
     pub fn number(&self, k: usize) -> u64
-        requires { IsSomeAnd (slice_get self.now.tokenized.tokens k) (λ t. t.kind ≡ Kind.Number) }
+        requires number { IsSomeAnd (slice_get self.now.tokenized.tokens k) (λ t. t.kind ≡ Kind.Number) }
         ensures value { IfSome (slice_get self.now.tokenized.tokens k)
             (λ t. result ≡ digits_value 10 (token_text self.now.tokenized.text t)) }
         ensures symbol { slice_get (symbols_of self.now.tokenized) k ≡ Some (number result) }

@@ -45,7 +45,7 @@ impl TokenizedText {
 
     /// The text of token `k`.
     pub fn slice(&self, k: usize) -> &str
-        requires { k < length self.now.tokens }
+        requires within { k < length self.now.tokens }
         ensures text { IfSome (slice_get self.now.tokens k) (λ t. result.now ≡ token_text self.now.text t) }
         ensures token { IfSome (slice_get self.now.tokens k) (IsTokenOf 140737488355327 self.now.text) }
         ensures symbol { IfSome (slice_get self.now.tokens k)
@@ -57,7 +57,7 @@ impl TokenizedText {
 
     /// The number that token `k` writes.
     pub fn number(&self, k: usize) -> u64
-        requires { IsSomeAnd (slice_get self.now.tokens k) (λ t. t.kind ≡ Kind.Number) }
+        requires number { IsSomeAnd (slice_get self.now.tokens k) (λ t. t.kind ≡ Kind.Number) }
         ensures value { IfSome (slice_get self.now.tokens k)
             (λ t. result ≡ digits_value 10 (token_text self.now.text t)) }
         ensures symbol { slice_get (symbols_of self.now) k ≡ Some (number result) }

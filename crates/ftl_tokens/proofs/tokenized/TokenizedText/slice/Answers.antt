@@ -11,7 +11,7 @@ use Rattle.ftl_tokens.proofs.tokenized.TokenizedText.slice.Goals.{After-as_str}
 token_is : (c : After-as_str) → slice_get c.args.self.now.tokens c.args.k ≡ Some c.index-token.result.now
 token_is c =
     let items = ap (λ s. s.tokens) c.self.view_is in
-    let within : c.args.k < length c.self.inside.list.items = omega (arith, c.requires, ap length items) in
+    let within : c.args.k < length c.self.inside.list.items = omega (arith, c.requires.within, ap length items) in
     ap (λ l. slice_get l c.args.k) (sym items) ∙ slice_get_read c.self.inside.list.items _ c.args.k c.index-token.result.now refl within c.index-token.ensures
 
 -- and a token of the text
