@@ -1,10 +1,10 @@
 -- The word of a value is not that of an empty cell.
 use Rattle.std.proofs.Common.{◌≢◌, arith}
 use Rattle.std.proofs.lemmas.Int.{ints}
-use Rattle.ftl_model.specs.Values.{Value, number, overflow, IsValue, word_of_value, word_of_number, least_number}
 use Rattle.std.specs.Prelude.{ℤ, pos, negsuc, ◌≤ℤ◌}
+use Rattle.ftl_model.specs.Values.{Value, number, overflow, wide, IsValue, word_of_value, word_of_number}
 
-word_of_number_pos : (n : ℤ) → least_number ≤ℤ n → word_of_number n ≢ 0
+word_of_number_pos : (n : ℤ) → negsuc wide ≤ℤ n → word_of_number n ≢ 0
 word_of_number_pos (pos n) low z = omega arith
 word_of_number_pos (negsuc n) low z = omega (arith, ints)
 
