@@ -124,3 +124,50 @@ distinct-append (x ∷ xs) ys dx dy apart = (
   (λ h. ⊎_elim dx.0 (λ there. apart x (here_in x xs) there) (Contains-append_cases xs ys x h)),
   distinct-append xs ys dx.1 dy (λ z here there. apart z (later_in x z xs here) there),
 )
+
+-- the parts of a list without repetition
+pub distinct_left : {X : Type 0} (xs ys : List X) → AreDistinct (xs ++ ys) → AreDistinct xs
+distinct_left [] ys h = tt
+distinct_left (x ∷ xs) ys h = ((λ here. h.0 (Contains-append_left xs ys x here)), distinct_left xs ys h.1)
+
+pub distinct_right : {X : Type 0} (xs ys : List X) → AreDistinct (xs ++ ys) → AreDistinct ys
+distinct_right [] ys h = h
+distinct_right (x ∷ xs) ys h = distinct_right xs ys h.1
+
+pub distinct_apart : {X : Type 0} (xs ys : List X) → AreDistinct (xs ++ ys) → (z : X) → Contains xs z → Contains ys z → ⊥
+distinct_apart [] ys h z here there = nothing_in z here
+distinct_apart (x ∷ xs) ys h z here there =
+    ⊎_elim (λ same. h.0 (Contains-append_right xs ys x (subst (Contains ys) (sym same) there)))
+    (λ later. distinct_apart xs ys h.1 z later there) (in_cases x z xs here)
+
+pub distinct-range : (a n : ℕ) → AreDistinct (range_with_len a n)
+distinct-range a zero = tt
+distinct-range a (suc n) = (
+  (λ h. let low = (in_range_from (a + 1) n a h).0 in let z : ⊥ = omega (arith, low) in z),
+  distinct-range (a + 1) n,
+)
+
+-- a piece of pieces that repeat nothing repeats nothing
+pub distinct_piece : {X Y : Type 0} (f : X → List Y) (xs : List X) → AreDistinct (flat_map f xs) → (x : X)
+    → Contains xs x → AreDistinct (f x)
+distinct_piece f [] h x in_it = absurd (nothing_in x in_it)
+distinct_piece f (z ∷ xs) h x in_it =
+    ⊎_elim (λ same. subst (λ w. AreDistinct (f w)) same (distinct_left (f z) (flat_map f xs) h))
+    (λ later. distinct_piece f xs (distinct_right (f z) (flat_map f xs) h) x later) (in_cases z x xs in_it)
+
+-- and an entry stands in one piece
+pub one_piece : {X Y : Type 0} (f : X → List Y) (xs : List X) → AreDistinct (flat_map f xs) → (x z : X) (y : Y)
+    → Contains xs x → Contains xs z → Contains (f x) y → Contains (f z) y → x ≡ z
+one_piece f [] h x z y in_x in_z at_x at_z = absurd (nothing_in x in_x)
+one_piece f (w ∷ xs) h x z y in_x in_z at_x at_z =
+    ⊎_elim
+    (λ same_x. ⊎_elim (λ same_z. sym same_x ∙ same_z)
+    (λ later_z. absurd
+    (distinct_apart (f w) (flat_map f xs) h y (subst (λ v. Contains (f v) y) (sym same_x) at_x)
+    (flat_map_has f xs z y later_z at_z))) (in_cases w z xs in_z))
+    (λ later_x. ⊎_elim
+    (λ same_z. absurd
+    (distinct_apart (f w) (flat_map f xs) h y (subst (λ v. Contains (f v) y) (sym same_z) at_z)
+    (flat_map_has f xs x y later_x at_x)))
+    (λ later_z. one_piece f xs (distinct_right (f w) (flat_map f xs) h) x z y later_x later_z at_x at_z)
+    (in_cases w z xs in_z)) (in_cases w x xs in_x)

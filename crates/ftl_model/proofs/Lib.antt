@@ -4,3 +4,4 @@ pub mod Kids
 pub mod Numbering
 pub mod SameTrees
 pub mod Standing
+pub mod ValueRanges

@@ -4,8 +4,7 @@ use Rattle.std.proofs.lemmas.List.{get_or-map, length-map}
 use Rattle.std.proofs.lemmas.List.Concat.{get_or-flat_map, length-flat_map}
 use Rattle.std.proofs.lemmas.List.Elements.{Contains-get_or}
 use mathlib.Core.Path.{fun_ext}
-use Rattle.ftl_lists.specs.Lists.{AreDistinct, place_in}
-use Rattle.ftl_lists.proofs.Elements.{distinct-append}
+use Rattle.ftl_lists.specs.Lists.{place_in}
 use Rattle.ftl_lists.proofs.Places.{piece_of, piece_within, place_is, place_of_entry, place_within}
 use Rattle.ftl_model.specs.AttributeGrammar.{AttributeGrammar, attributes_of}
 use Rattle.ftl_model.specs.Path.{Has, Path, class_at, node_at, number_of, preorder, top}
@@ -15,20 +14,9 @@ use Rattle.ftl_model.specs.Tree.{Forest, below_of, size}
 use Rattle.ftl_model.specs.TreeOf.{IsTreeOf}
 use Rattle.ftl_model.proofs.Numbering.{has-node_at, length-preorder, number_of-node_at}
 use Rattle.ftl_model.proofs.Standing.{node_at-number_of, number_of-lt}
-use Rattle.ftl_order.specs.Lawful.{IsLawful, OfClass, class_owner, interface_owner}
+use Rattle.ftl_order.specs.Lawful.{IsLawful, OfClass}
 use Rattle.ftl_order.proofs.Kids.{class_known, root_there}
-
--- no class has an attribute twice
-pub class_distinct : (g : AttributeGrammar) → IsLawful g → (k : ℕ) → k < g.class_count
-    → AreDistinct (attributes_of g k)
-class_distinct g law k known =
-    let i = g.interface k in
-    let shared = law.interfaces_known k known in
-    distinct-append (g.shared i) (g.private k) (law.shared_once i shared) (law.private_once k known)
-    (λ a here there.
-    let same : interface_owner i ≡ class_owner k =
-    law.one_owner (interface_owner i) (class_owner k) a (shared, here) (known, there) in
-    let z : ⊥ = grind (arith, same) in z)
+use Rattle.ftl_order.proofs.Owners.{class_distinct}
 
 module _ (g : AttributeGrammar) (t : Forest) where
   -- the instances of a node

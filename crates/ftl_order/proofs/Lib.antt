@@ -8,10 +8,12 @@ pub mod NotesLawful
 pub mod NotesOrders
 pub mod OneList
 pub mod OrderRank
+pub mod Owners
 pub mod PartReads
 pub mod Precedence
 pub mod Ranges
 pub mod ReadPairs
+pub mod RuleOrder
 pub mod Rows
 pub mod Runs
 pub mod Scheduled
@@ -21,4 +23,5 @@ pub mod SequenceHas
 pub mod SequenceOrder
 pub mod SequenceRises
 pub mod Spots
+pub mod TableRange
 pub mod TreeEquations

@@ -2,13 +2,15 @@
 use Rattle.std.proofs.Common.{◌≡◌, ◌≢◌, ◌⊎◌, ℕ, zero, suc, ◌<◌, ◌==◌, true, false, if◌then◌else◌, refl, ap, ap₂, inl, inr, lit<, arith, rules, List, [], ◌∷◌, ◌++◌, flat_map, Contains, ne_eqb, pos}
 use Rattle.std.specs.List.{AllByRecursion, range_with_len}
 use Rattle.ftl_lists.specs.Lists.{AreDistinct}
-use Rattle.ftl_lists.proofs.Elements.{each_in, flat_map_has, here_in, not_among, range_has}
+use Rattle.ftl_lists.proofs.Elements.{each_in, flat_map_has, here_in, range_has}
 use Rattle.ftl_model.specs.AttributeGrammar.{Occurrence, RuleName, Sort, each_read, for_child, for_self, inherited, input, kid, kid_before, last_read, local, own, prev_read, seen_by, self_read, single_read, synthesized, this_read}
 use Rattle.ftl_model.specs.Notes.{last_width, notes, notes_rules, plus, shift_rule, total_rule, x_rule}
-use Rattle.ftl_model.specs.Values.{number}
+use Rattle.ftl_model.specs.Values.{IsValueIn, in_range, narrow, number}
 use Rattle.ftl_model.proofs.FoldLaws.{fold_kids_same}
-use Rattle.ftl_order.specs.Lawful.{IsAlone, IsLawful, IsOwnSort, IsRule, MayReadForChild, MayReadForSelf, MayReadInStep, MayReadLater, OfChild, OfClass, Owner, Owns, PartsForChild, PartsForSelf, class_owner, interface_owner}
-use Rattle.ftl_order.proofs.Bounded.{each_below, one_owner_by}
+use Rattle.ftl_model.proofs.ValueRanges.{fold_keeps, sum_in}
+use Rattle.ftl_order.specs.Lawful.{IsAlone, IsLawful, IsOwnSort, IsRule, KeepsRange, MayReadForChild, MayReadForSelf, MayReadInStep, MayReadLater, OfChild, OfClass, Owner, Owns, PartsForChild, PartsForSelf, class_owner, declared, interface_owner}
+use Rattle.ftl_order.proofs.Bounded.{each_below}
+use Rattle.ftl_order.proofs.RuleOrder.{ordered_by_class}
 
 -- each attribute of each class
 each_class : (P : ℕ → ℕ → Type 0) → AllByRecursion (P 0) (0 ∷ 7 ∷ []) → AllByRecursion (P 1) (1 ∷ 2 ∷ 3 ∷ 8 ∷ [])
@@ -62,31 +64,6 @@ each_owned P page box note sheet item text (interface_owner i) a owns =
 each_owned P page box note sheet item text (class_owner k) a owns =
     each_below (λ k. Contains (notes.private k) a → P (class_owner k) a) 3
     (each_in (P (class_owner 2)) (9 ∷ []) (text, tt) a, (each_in (P (class_owner 1)) (8 ∷ []) (item, tt) a, (each_in (P (class_owner 0)) (7 ∷ []) (sheet, tt) a, tt))) k owns.0 owns.1
-
-abbrev owner_of : ℕ → Owner
-owner_of a =
-    if a == 0 then interface_owner 0
-    else (if a == 7 then class_owner 0 else (if a == 8 then class_owner 1 else (if a == 9 then class_owner 2
-    else (if a == 4 then interface_owner 2 else (if a == 5 then interface_owner 2
-    else (if a == 6 then interface_owner 2 else interface_owner 1))))))
-
-tells_owner : (x : Owner) (a : ℕ) → Owns notes x a → x ≡ owner_of a
-tells_owner = each_owned (λ x a. x ≡ owner_of a) refl (refl, (refl, (refl, tt))) (refl, (refl, (refl, tt))) refl refl refl
-
-each_is_owned : (a : ℕ) → a < 10 → (x : Owner) × Owns notes x a
-each_is_owned =
-    each_below (λ a. (x : Owner) × Owns notes x a) 10
-    ((class_owner 2, (lit< tt, (0, lit< tt, refl))), ((class_owner 1, (lit< tt, (0, lit< tt, refl))), ((class_owner 0, (lit< tt, (0, lit< tt, refl))), ((interface_owner 2, (lit< tt, (2, lit< tt, refl))), ((interface_owner 2, (lit< tt, (1, lit< tt, refl))), ((interface_owner 2, (lit< tt, (0, lit< tt, refl))), ((interface_owner 1, (lit< tt, (2, lit< tt, refl))), ((interface_owner 1, (lit< tt, (1, lit< tt, refl))), ((interface_owner 1, (lit< tt, (0, lit< tt, refl))), ((interface_owner 0, (lit< tt, (0, lit< tt, refl))), tt))))))))))
-
-shared_once : (i : ℕ) → i < 3 → AreDistinct (notes.shared i)
-shared_once =
-    each_below (λ i. AreDistinct (notes.shared i)) 3
-    ((not_among 4 (5 ∷ 6 ∷ []) (omega arith), (not_among 5 (6 ∷ []) (omega arith), (not_among 6 [] tt, tt))), ((not_among 1 (2 ∷ 3 ∷ []) (omega arith), (not_among 2 (3 ∷ []) (omega arith), (not_among 3 [] tt, tt))), ((not_among 0 [] tt, tt), tt)))
-
-private_once : (k : ℕ) → k < 3 → AreDistinct (notes.private k)
-private_once =
-    each_below (λ k. AreDistinct (notes.private k)) 3
-    ((not_among 9 [] tt, tt), ((not_among 8 [] tt, tt), ((not_among 7 [] tt, tt), tt)))
 
 abbrev OwnerSort : Owner → ℕ → Type 0
 OwnerSort (interface_owner i) a = notes.sort a ≢ local
@@ -202,27 +179,58 @@ each_alone =
     each_rule AloneAt
     ((λ kids s t same. ap (λ v. plus v (number (pos 1))) (same (kid 0 0 5) (here_in (kid 0 0 5) []))), (shift_alone, (x_alone, (total_alone, ((λ kids s t same. same (own 8) (here_in (own 8) [])), ((λ kids s t same. same (own 9) (here_in (own 9) [])), ((λ kids s t same. ap₂ plus (same (own 4) (0, lit< tt, refl)) (same (own 5) (1, lit< tt, refl))), tt)))))))
 
+abbrev RangeAt : RuleName → Type 0
+RangeAt (for_self k a) = KeepsRange narrow (notes.self_rule k a) 0
+RangeAt (for_child k c a) = (number : ℕ) → KeepsRange narrow (notes.child_rule k c a) number
+
+zero_in : IsValueIn narrow (number (pos 0))
+zero_in = search rules
+
+seven_in : IsValueIn narrow (number (pos 7))
+seven_in = search rules
+
+shift_range : (m : ℕ) → KeepsRange narrow shift_rule m
+shift_range m kids s h = go (kids 1) h
+  where
+    go : (n : ℕ) → ((o : Occurrence) → Contains (kid_before 1 2 n ++ []) o → IsValueIn narrow (s o))
+        → IsValueIn narrow (last_width n s)
+    go zero h = seven_in
+    go (suc before) h = h (kid 1 before 2) (here_in (kid 1 before 2) [])
+
+x_range : (m : ℕ) → KeepsRange narrow x_rule m
+x_range zero kids s h = h (own 7) (here_in (own 7) [])
+x_range (suc n) kids s h = sum_in narrow (plus (s (kid 1 n 1)) (s (kid 1 n 2))) (s (kid 1 (suc n) 3))
+
+total_range : KeepsRange narrow total_rule 0
+total_range kids s h =
+    fold_keeps (IsValueIn narrow) (kids 1) (λ acc n. plus (plus acc (s (kid 1 n 2))) (s (own 7))) (number (pos 0)) zero_in
+    (λ n below acc in_range. sum_in narrow (plus acc (s (kid 1 n 2))) (s (own 7)))
+
+each_range : (w : RuleName) → IsRule notes w → RangeAt w
+each_range =
+    each_rule RangeAt
+    ((λ kids s h. sum_in narrow (s (kid 0 0 5)) (number (pos 1))), ( shift_range, ( x_range, ( total_range, (    (λ kids s h. h (own 8) (here_in (own 8) [])), ( (λ kids s h. h (own 9) (here_in (own 9) [])), (    (λ kids s h. sum_in narrow (s (own 4)) (s (own 5))), tt)))))))
+
 pub notes_lawful : IsLawful notes
 notes_lawful =
     record {
+      width = inl refl;
       root_known = lit< tt;
       interfaces_known = λ k known. known;
       children_known = λ k c known declared.
           elim (c == 0) as (λ b. (if b then 2 else 1) < 3) [ true ↦ lit< tt | false ↦ lit< tt ];
-      attributes_known = each_owned (λ x a. a < 10) (lit< tt) (lit< tt, (lit< tt, (lit< tt, tt)))
-          (lit< tt, (lit< tt, (lit< tt, tt))) (lit< tt) (lit< tt) (lit< tt);
-      owned = each_is_owned;
-      one_owner = one_owner_by notes owner_of tells_owner;
-      shared_once = shared_once;
-      private_once = private_once;
+      numbering = refl;
       shared_sorts = λ i a owns. sorts (interface_owner i) a owns;
       root_sorts = each_in (λ a. notes.sort a ≢ inherited) (0 ∷ []) ((λ e. (let z : ⊥ = grind arith in z)), tt);
       private_sorts = λ k a owns. sorts (class_owner k) a owns;
       rules_are = rules_are;
       rules_have = rules_have;
       rules_once = rules_once;
+      rules_by_class = search (rules, ordered_by_class);
       self_parts = λ k a rule. parts_allowed (for_self k a) rule;
       self_alone = λ k a rule. each_alone (for_self k a) rule;
+      self_range = λ k a rule. each_range (for_self k a) rule;
       child_parts = λ k c a rule. parts_allowed (for_child k c a) rule;
       child_alone = λ k c a rule. each_alone (for_child k c a) rule;
+      child_range = λ k c a rule. each_range (for_child k c a) rule;
     }

@@ -8,10 +8,11 @@ use Rattle.ftl_model.specs.AttributeGrammar.{Part, Read, RuleName, each_read, fi
 use Rattle.ftl_model.specs.Notes.{no_items, notes, notes_rules}
 use Rattle.ftl_model.specs.Solves.{Instance, rule_named}
 use Rattle.ftl_model.specs.Table.{instance_number, instances}
+use Rattle.ftl_order.specs.Lawful.{class_of_rule, declared}
 use Rattle.ftl_order.specs.LegalOrder.{IsLegalOrder, IsStep, MustPrecede}
 use Rattle.ftl_order.specs.NotesOrders.{notes_order, notes_schedule, size_twice}
 use Rattle.ftl_order.specs.Ordered.{IsOrdered, IsOrderedRead, place_of}
-use Rattle.ftl_order.specs.Pairs.{Where, Writes, child_class, class_of_rule, parent_class, same_class}
+use Rattle.ftl_order.specs.Pairs.{Where, Writes, child_class, parent_class, same_class}
 use Rattle.ftl_order.specs.Schedule.{EachStandsOnce, entries, spot_of}
 use Rattle.ftl_order.proofs.Bounded.{each_below}
 use Rattle.ftl_order.proofs.Instances.{is_listed_instance}

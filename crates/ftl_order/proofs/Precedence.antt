@@ -6,7 +6,7 @@ use Rattle.ftl_lists.specs.Lists.{Before}
 use Rattle.ftl_model.specs.Path.{Above, Path, down, top}
 use Rattle.ftl_order.specs.LegalOrder.{FirstInPass, KeyFirst, Turn, TurnPrecedes, address}
 use Rattle.ftl_order.specs.Ordered.{IsSameRule, KeyBelow, VisitPlace}
-use Rattle.ftl_order.specs.Schedule.{HasOneKind, IsOnePass, PassKind, Placing, bottomup, inorder, topdown}
+use Rattle.ftl_order.specs.Schedule.{HasOneKind, PassKind, Placing, bottomup, inorder, topdown}
 
 -- ---- transitive
 

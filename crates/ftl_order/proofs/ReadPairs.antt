@@ -8,9 +8,9 @@ use Rattle.ftl_model.specs.Tree.{Forest}
 use Rattle.ftl_model.specs.TreeOf.{IsTreeOf}
 use Rattle.ftl_model.proofs.Fits.{kid_stands}
 use Rattle.ftl_model.proofs.Standing.{has_parent}
-use Rattle.ftl_order.specs.Lawful.{IsLawful, IsOwnSort, IsRule, MayReadLater, OfChild, OfClass}
+use Rattle.ftl_order.specs.Lawful.{IsLawful, IsOwnSort, IsRule, MayReadLater, OfChild, OfClass, class_of_rule, declared}
 use Rattle.ftl_order.specs.LegalOrder.{Turn, turn_by, turn_of}
-use Rattle.ftl_order.specs.Pairs.{IsPair, Pair, Where, Writes, WritesKid, WritesOwn, child_class, child_read, class_of_rule, is_by_prev, parent_class, same_class}
+use Rattle.ftl_order.specs.Pairs.{IsPair, Pair, Where, Writes, WritesKid, WritesOwn, child_class, child_read, is_by_prev, parent_class, same_class}
 use Rattle.ftl_order.specs.ReadPairs.{ReadsBy, Stand}
 use Rattle.ftl_order.specs.Reads.{Reads, equation_reads, rule_reads}
 use Rattle.ftl_order.proofs.Kids.{class_known}

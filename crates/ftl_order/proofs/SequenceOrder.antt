@@ -18,6 +18,7 @@ use Rattle.ftl_order.specs.Schedule.{EachStandsOnce, IsOnePass, Schedule, Spot, 
 use Rattle.ftl_order.specs.Sequence.{keyed, sequence_at, sequence_below, steps_at}
 use Rattle.ftl_order.proofs.Kids.{class_known}
 use Rattle.ftl_order.proofs.LegalOrders.{computed}
+use Rattle.ftl_order.proofs.Owners.{attribute_known}
 use Rattle.ftl_order.proofs.SequenceAddresses.{EarlierAddress, goes_before, into_block, local_goes, synthesized_goes}
 use Rattle.ftl_order.proofs.SequenceHas.{keyed_has, kid_in, visit_in}
 use Rattle.ftl_order.proofs.SequenceRises.{below_rises, starts_anywhere, steps_rise}
@@ -55,8 +56,8 @@ module _ (g : AttributeGrammar) (law : IsLawful g) (s : Schedule) (once : EachSt
   attribute_of_class : (k a : ℕ) → k < g.class_count → OfClass g k a → a < g.attribute_count
   attribute_of_class k a known of =
       ⊎_elim
-      (λ shared. law.attributes_known (interface_owner (g.interface k)) a (law.interfaces_known k known, shared))
-      (λ private. law.attributes_known (class_owner k) a (known, private))
+      (λ shared. attribute_known g law (interface_owner (g.interface k)) a (law.interfaces_known k known, shared))
+      (λ private. attribute_known g law (class_owner k) a (known, private))
       (Contains-append_cases (g.shared (g.interface k)) (g.private k) a of)
 
   keys : (k a b : ℕ) → k < g.class_count → Contains (attributes_of g k) a → Contains (attributes_of g k) b

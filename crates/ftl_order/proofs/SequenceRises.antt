@@ -13,8 +13,8 @@ use Rattle.ftl_model.specs.TreeOf.{FitBelow, StartsFrom}
 use Rattle.ftl_order.specs.Lawful.{IsLawful}
 use Rattle.ftl_order.specs.Schedule.{IsOnePass, Placing, Spot}
 use Rattle.ftl_order.specs.Sequence.{is_in_pass, is_same_sort, keyed, sequence_below, steps_at}
-use Rattle.ftl_order.proofs.Instances.{class_distinct}
 use Rattle.ftl_order.proofs.LegalOrders.{computed}
+use Rattle.ftl_order.proofs.Owners.{class_distinct}
 use Rattle.ftl_order.proofs.SequenceAddresses.{EarlierAddress, Goes, RisesBelow, StillToCome, address_by, at_kid, goes_before, inherited_goes, into_block, into_kid, is_keyed, key_before, kid_first, local_goes, synthesized_goes}
 
 module _ (g : AttributeGrammar) (law : IsLawful g) (at : Placing) (x : Spot)

@@ -11,7 +11,7 @@ use Rattle.ftl_model.specs.TreeOf.{IsTreeOf}
 use Rattle.ftl_model.specs.Values.{Value, overflow}
 use Rattle.ftl_model.proofs.Fits.{fits_at, kid_stands}
 use Rattle.ftl_model.proofs.Standing.{has_parent}
-use Rattle.ftl_order.specs.Lawful.{IsLawful, IsOwnSort, IsRule, IsSingle, MayReadLater, OfChild, OfClass}
+use Rattle.ftl_order.specs.Lawful.{IsLawful, IsOwnSort, IsRule, IsSingle, MayReadLater, OfChild, OfClass, declared}
 use Rattle.ftl_order.specs.OneTable.{ExactlyOneTable}
 use Rattle.ftl_order.specs.Reads.{EndsWithin, FallsAlongReads, Reads, ReadsEnd, equation_reads, rule_reads}
 use Rattle.ftl_order.proofs.EquationSystem.{Ends, Low, System, low_by_rank, solution, solution_solves, solutions_agree}

@@ -1,9 +1,10 @@
 -- What a grammar with its names gone has to meet: which numbers it may use, which attributes there may be, what each
 -- rule may read, and that its value depends on these reads alone. It speaks of the grammar and of no tree.
-use Rattle.std.specs.Prelude.{◌≡◌, ◌≢◌, ◌⊎◌, ℕ, ◌<◌, true, false, List, Contains}
-use Rattle.ftl_lists.specs.Lists.{AreDistinct}
+use Rattle.std.specs.Prelude.{◌≡◌, ◌≢◌, ◌⊎◌, ℕ, ◌<◌, true, false, List, ◌++◌, flat_map, Contains}
+use Rattle.std.specs.List.{range_with_len}
+use Rattle.ftl_lists.specs.Lists.{AreDistinct, NoneFalls}
 use Rattle.ftl_model.specs.AttributeGrammar.{AttributeGrammar, Occurrence, Parts, Read, Rule, RuleName, Sort, attributes_of, each_read, first_then, fold_over, for_child, for_self, inherited, input, last_read, local, plain, prev_read, read_occurrences, self_read, single_read, synthesized, this_read}
-use Rattle.ftl_model.specs.Values.{Value}
+use Rattle.ftl_model.specs.Values.{IsValueIn, Value, narrow, wide}
 
 -- ---- attributes, and who declares them
 
@@ -38,6 +39,11 @@ IsSingle g class c = (c < g.child_count class) × (g.is_list class c ≡ false)
 -- a declared child that has a list of kids
 abbrev pub IsListChild : AttributeGrammar → ℕ → ℕ → Type 0
 IsListChild g class c = (c < g.child_count class) × (g.is_list class c ≡ true)
+
+-- the class that has the rule
+abbrev pub class_of_rule : RuleName → ℕ
+class_of_rule (for_self class a) = class
+class_of_rule (for_child class c a) = class
 
 -- a rule that the grammar has: for a computed attribute of a class, or an inherited one of a child
 abbrev pub IsRule : AttributeGrammar → RuleName → Type 0
@@ -110,29 +116,43 @@ IsAlone rule k =
     → ((o : Occurrence) → Contains (read_occurrences rule.parts kids k) o → s o ≡ t o)
     → rule.value kids k s ≡ rule.value kids k t
 
+-- the rule's value for this kid is in the range of the width, where what it reads is
+abbrev pub KeepsRange : (greatest : ℕ) → Rule → (number : ℕ) → Type 0
+KeepsRange greatest rule k =
+    (kids : ℕ → ℕ) (s : Occurrence → Value)
+    → ((o : Occurrence) → Contains (read_occurrences rule.parts kids k) o → IsValueIn greatest (s o))
+    → IsValueIn greatest (rule.value kids k s)
+
 -- ---- lawful grammars
 
--- All numbers are in range, and each attribute has one owner, which declares it once. The interfaces share inputs,
--- inherited and synthesized attributes, and the root's has none that is inherited; a class adds inputs and locals. The
--- list of rules has each rule once. Each rule reads what it may, and depends on it alone.
+-- the attributes that are declared: interface by interface, and then class by class
+abbrev pub declared : AttributeGrammar → List ℕ
+declared g =
+    flat_map g.shared (range_with_len 0 g.interface_count) ++ flat_map g.private (range_with_len 0 g.class_count)
+
+-- The width is one of the two. All numbers are in range, and attributes are numbered as they are declared, each once.
+-- The interfaces share inputs, inherited and synthesized attributes, and the root's has none that is inherited; a class
+-- adds inputs and locals. The list of rules has each rule once, class by class. Each rule reads what it may, depends on it
+-- alone, and keeps to the range of the width.
 pub record IsLawful (g : AttributeGrammar) : Type 0 where
+  pub width : (g.greatest ≡ narrow) ⊎ (g.greatest ≡ wide)
   pub root_known : g.root < g.interface_count
   pub interfaces_known : (k : ℕ) → k < g.class_count → g.interface k < g.interface_count
   pub children_known :
       (k c : ℕ) → k < g.class_count → c < g.child_count k → g.child_interface k c < g.interface_count
-  pub attributes_known : (x : Owner) (a : ℕ) → Owns g x a → a < g.attribute_count
-  pub owned : (a : ℕ) → a < g.attribute_count → (x : Owner) × Owns g x a
-  pub one_owner : (x y : Owner) (a : ℕ) → Owns g x a → Owns g y a → x ≡ y
-  pub shared_once : (i : ℕ) → i < g.interface_count → AreDistinct (g.shared i)
-  pub private_once : (k : ℕ) → k < g.class_count → AreDistinct (g.private k)
+  pub numbering : declared g ≡ range_with_len 0 g.attribute_count
   pub shared_sorts : (i a : ℕ) → Owns g (interface_owner i) a → g.sort a ≢ local
   pub root_sorts : (a : ℕ) → Contains (g.shared g.root) a → g.sort a ≢ inherited
   pub private_sorts : (k a : ℕ) → Owns g (class_owner k) a → (g.sort a ≡ input) ⊎ (g.sort a ≡ local)
   pub rules_are : (w : RuleName) → Contains g.rules w → IsRule g w
   pub rules_have : (w : RuleName) → IsRule g w → Contains g.rules w
   pub rules_once : AreDistinct g.rules
+  pub rules_by_class : NoneFalls class_of_rule g.rules
   pub self_parts : (k a : ℕ) → IsRule g (for_self k a) → PartsForSelf g k (g.self_rule k a).parts
   pub self_alone : (k a : ℕ) → IsRule g (for_self k a) → IsAlone (g.self_rule k a) 0
+  pub self_range : (k a : ℕ) → IsRule g (for_self k a) → KeepsRange g.greatest (g.self_rule k a) 0
   pub child_parts : (k c a : ℕ) → IsRule g (for_child k c a) → PartsForChild g k c (g.child_rule k c a).parts
   pub child_alone :
       (k c a : ℕ) → IsRule g (for_child k c a) → (number : ℕ) → IsAlone (g.child_rule k c a) number
+  pub child_range :
+      (k c a : ℕ) → IsRule g (for_child k c a) → (number : ℕ) → KeepsRange g.greatest (g.child_rule k c a) number

@@ -1,3 +1,4 @@
+pub mod GrammarLaws
 pub mod Lawful
 pub mod LegalOrder
 pub mod NotesOrders

@@ -2,12 +2,7 @@
 use Rattle.std.specs.Prelude.{◌≡◌, ℕ, ◌<◌, Bool, true, false, Contains}
 use Rattle.ftl_model.specs.AttributeGrammar.{AttributeGrammar, Part, Read, RuleName, Sort, each_read, for_child, for_self, inherited, input, last_read, local, prev_read, reads_in, self_read, single_read, synthesized, this_read}
 use Rattle.ftl_model.specs.Solves.{rule_named}
-use Rattle.ftl_order.specs.Lawful.{IsRule}
-
--- the class that has the rule
-abbrev pub class_of_rule : RuleName → ℕ
-class_of_rule (for_self class a) = class
-class_of_rule (for_child class c a) = class
+use Rattle.ftl_order.specs.Lawful.{IsRule, class_of_rule}
 
 -- the grammar has this rule, and this part of it has this read
 abbrev pub IsReader : AttributeGrammar → RuleName → Part → Read → Type 0

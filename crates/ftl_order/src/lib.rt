@@ -3,11 +3,13 @@
 //! empty functions, in the words of `specs/`. There is no code here.
 #![tactic(auto)]
 
+mod grammar;
 mod legal_order;
 mod notes;
 mod numbers;
 mod one_table;
 
+pub use grammar::{attributes_have_owners, values_are_in_range};
 pub use legal_order::{
     exactly_one_table, inorder_sequences, legal_orders, ordered_reads, reads_are_pairs,
     runs_end_in_the_table, steps_that_must_precede,

@@ -75,22 +75,38 @@ rules_allowed : (w : RuleName) → IsRule chain w → RuleAllowed w
 rules_allowed w rule =
     each_rule RuleAllowed (a_allowed, chain_a_alone) (b_allowed, chain_b_alone) w rule
 
+one_in : IsValueIn narrow (number (pos 1))
+one_in = search rules
+
+two_in : IsValueIn narrow (number (pos 2))
+two_in = search rules
+
+a_range : (m : ℕ) → KeepsRange narrow chain_a m
+a_range zero kids s h = one_in
+a_range (suc n) kids s h = h (kid 0 n 1) (0, lit< tt, refl)
+
+b_range : (m : ℕ) → KeepsRange narrow chain_b m
+b_range zero kids s h = two_in
+b_range (suc n) kids s h = sum_in narrow (s (kid 0 n 0)) (s (kid 0 n 1))
+
+abbrev RangeAt : RuleName → Type 0
+RangeAt (for_self k a) = Unit {0}
+RangeAt (for_child k c a) = (number : ℕ) → KeepsRange narrow (chain.child_rule k c a) number
+
+ranges : (w : RuleName) → IsRule chain w → RangeAt w
+ranges = each_rule RangeAt a_range b_range
+
 differ : for_child 0 0 1 ≢ for_child 0 0 0
 differ e = let z : ⊥ = grind (arith, e) in z
 
 pub chain_lawful : IsLawful chain
 chain_lawful =
     record {
+      width = inl refl;
       root_known = lit< tt;
       interfaces_known = λ k known. known;
       children_known = λ k c known declared. lit< tt;
-      attributes_known = each_owned (λ x a. a < 2) (lit< tt) (lit< tt);
-      owned = each_below (λ a. (x : Owner) × Owns chain x a) 2
-          ((interface_owner 1, (lit< tt, (1, lit< tt, refl))), ((interface_owner 1, (lit< tt, (0, lit< tt, refl))), tt));
-      one_owner = one_owner_by chain (λ a. interface_owner 1) (each_owned (λ x a. x ≡ interface_owner 1) refl refl);
-      shared_once = each_below (λ i. AreDistinct (chain.shared i)) 2
-          ((not_among 0 (1 ∷ []) (omega arith), (not_among 1 [] tt, tt)), (tt, tt));
-      private_once = λ k known. tt;
+      numbering = refl;
       shared_sorts = λ i a owns e. (let z : ⊥ = grind arith in z);
       root_sorts = λ a h e. nothing_in a h;
       private_sorts = λ k a owns. absurd (nothing_in a owns.1);
@@ -101,10 +117,13 @@ chain_lawful =
         (λ h. each_in (λ v. v ≢ for_child 0 0 0) (for_child 0 0 1 ∷ []) (differ, tt) (for_child 0 0 0) h refl),
         ((λ h. nothing_in (for_child 0 0 1) h), tt),
       );
+      rules_by_class = search (rules, ordered_by_class);
       self_parts = λ k a rule. never_own rule.2;
       self_alone = λ k a rule. never_own rule.2;
+      self_range = λ k a rule. never_own rule.2;
       child_parts = λ k c a rule. (rules_allowed (for_child k c a) rule).0;
       child_alone = λ k c a rule. (rules_allowed (for_child k c a) rule).1;
+      child_range = λ k c a rule. ranges (for_child k c a) rule;
     }
 
 chain_once : EachStandsOnce chain chain_inorder

@@ -52,10 +52,6 @@ each_rule P h (for_child k c a) rule =
 
 -- ---- attributes and their owners
 
-abbrev owner_of : ℕ → Owner
-owner_of a = if a == 0 then interface_owner 0 else (if a == 5 then class_owner 2 else (if a == 6 then class_owner 2
-    else interface_owner 1))
-
 -- each attribute of each owner
 each_owned : (P : Owner → ℕ → Type 0) → P (interface_owner 0) 0
     → AllByRecursion (P (interface_owner 1)) (1 ∷ 2 ∷ 3 ∷ 4 ∷ [])
@@ -70,27 +66,6 @@ each_owned P h boxes words (class_owner k) a owns =
       each_in (P (class_owner 2)) (5 ∷ 6 ∷ []) words a,
       (each_in (P (class_owner 1)) [] tt a, (each_in (P (class_owner 0)) [] tt a, tt)),
     ) k owns.0 owns.1
-
-tells_owner : (x : Owner) (a : ℕ) → Owns stack x a → x ≡ owner_of a
-tells_owner = each_owned (λ x a. x ≡ owner_of a) refl (refl, (refl, (refl, (refl, tt)))) (refl, (refl, tt))
-
-abbrev OwnedBy : ℕ → Type 0
-OwnedBy a = (x : Owner) × Owns stack x a
-
-each_is_owned : (a : ℕ) → a < 7 → OwnedBy a
-each_is_owned =
-    each_below OwnedBy 7
-    ((class_owner 2, (lit< tt, (1, lit< tt, refl))), ((class_owner 2, (lit< tt, (0, lit< tt, refl))), ((interface_owner 1, (lit< tt, (3, lit< tt, refl))), ((interface_owner 1, (lit< tt, (2, lit< tt, refl))), ((interface_owner 1, (lit< tt, (1, lit< tt, refl))), ((interface_owner 1, (lit< tt, (0, lit< tt, refl))), ((interface_owner 0, (lit< tt, (0, lit< tt, refl))), tt)))))))
-
-shared_once : (i : ℕ) → i < 2 → AreDistinct (stack.shared i)
-shared_once =
-    each_below (λ i. AreDistinct (stack.shared i)) 2
-    ((not_among 1 (2 ∷ 3 ∷ 4 ∷ []) (omega arith), (not_among 2 (3 ∷ 4 ∷ []) (omega arith), (not_among 3 (4 ∷ []) (omega arith), (not_among 4 [] tt, tt)))), ((not_among 0 [] tt, tt), tt))
-
-private_once : (k : ℕ) → k < 3 → AreDistinct (stack.private k)
-private_once =
-    each_below (λ k. AreDistinct (stack.private k)) 3
-    ((not_among 5 (6 ∷ []) (omega arith), (not_among 6 [] tt, tt)), (tt, (tt, tt)))
 
 abbrev SharedSort : Owner → ℕ → Type 0
 SharedSort (interface_owner i) a = stack.sort a ≢ local
@@ -197,26 +172,54 @@ each_alone =
     each_rule AloneAt
     ((λ kids s t same. same (kid 0 0 4) (here_in (kid 0 0 4) [])), ((λ number kids s t same. refl), ((λ number kids s t same. refl), (column_w_alone, (column_h_alone, ((λ number kids s t same. same (own 1) (here_in (own 1) [])), (kids_y_alone, ((λ kids s t same. same (own 5) (here_in (own 5) [])), ((λ kids s t same. same (own 6) (here_in (own 6) [])), tt)))))))))
 
+abbrev RangeAt : RuleName → Type 0
+RangeAt (for_self k a) = KeepsRange narrow (stack.self_rule k a) 0
+RangeAt (for_child k c a) = (number : ℕ) → KeepsRange narrow (stack.child_rule k c a) number
+
+zero_in : IsValueIn narrow (number (pos 0))
+zero_in = search rules
+
+column_w_range : KeepsRange narrow column_w 0
+column_w_range kids s h =
+    fold_keeps (IsValueIn narrow) (kids 0) (λ acc n. greatest_of acc (s (kid 0 n 3))) (number (pos 0)) zero_in
+    (λ n below acc in_range. greatest_in narrow acc (s (kid 0 n 3)) in_range
+    (h (kid 0 n 3) (in_fold (each_read 0 3 ∷ []) kids 0 n (kid 0 n 3) below (here_in (kid 0 n 3) []))))
+
+column_h_range : KeepsRange narrow (column_h narrow) 0
+column_h_range kids s h =
+    fold_keeps (IsValueIn narrow) (kids 0) (λ acc n. sum_of narrow acc (s (kid 0 n 4))) (number (pos 0)) zero_in
+    (λ n below acc in_range. sum_in narrow acc (s (kid 0 n 4)))
+
+kids_y_range : (m : ℕ) → KeepsRange narrow (kids_y narrow) m
+kids_y_range zero kids s h = h (own 2) (here_in (own 2) [])
+kids_y_range (suc n) kids s h = sum_in narrow (s (kid 0 n 2)) (s (kid 0 n 4))
+
+each_range : (w : RuleName) → IsRule stack w → RangeAt w
+each_range =
+    each_rule RangeAt
+    ((λ kids s h. h (kid 0 0 4) (here_in (kid 0 0 4) [])), ((λ m kids s h. zero_in), ((λ m kids s h. zero_in),
+    (column_w_range, (column_h_range, ((λ m kids s h. h (own 1) (here_in (own 1) [])), (kids_y_range,
+    ((λ kids s h. h (own 5) (here_in (own 5) [])), ((λ kids s h. h (own 6) (here_in (own 6) [])), tt)))))))))
+
 pub stack_lawful : IsLawful stack
 stack_lawful =
     record {
+      width = inl refl;
       root_known = lit< tt;
       interfaces_known = each_below (λ k. stack.interface k < 2) 3 (lit< tt, (lit< tt, (lit< tt, tt)));
       children_known = λ k c known declared. lit< tt;
-      attributes_known = each_owned (λ x a. a < 7) (lit< tt) (lit< tt, (lit< tt, (lit< tt, (lit< tt, tt))))
-          (lit< tt, (lit< tt, tt));
-      owned = each_is_owned;
-      one_owner = one_owner_by stack owner_of tells_owner;
-      shared_once = shared_once;
-      private_once = private_once;
+      numbering = refl;
       shared_sorts = λ i a owns. sorts (interface_owner i) a owns;
       root_sorts = each_in (λ a. stack.sort a ≢ inherited) (0 ∷ []) ((λ e. (let z : ⊥ = grind arith in z)), tt);
       private_sorts = λ k a owns. sorts (class_owner k) a owns;
       rules_are = rules_are;
       rules_have = rules_have;
       rules_once = rules_once;
+      rules_by_class = search (rules, ordered_by_class);
       self_parts = λ k a rule. parts_allowed (for_self k a) rule;
       self_alone = λ k a rule. each_alone (for_self k a) rule;
+      self_range = λ k a rule. each_range (for_self k a) rule;
       child_parts = λ k c a rule. parts_allowed (for_child k c a) rule;
       child_alone = λ k c a rule. each_alone (for_child k c a) rule;
+      child_range = λ k c a rule. each_range (for_child k c a) rule;
     }
