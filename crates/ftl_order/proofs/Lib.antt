@@ -20,6 +20,7 @@ pub mod Scheduled
 pub mod Seen
 pub mod SequenceAddresses
 pub mod SequenceHas
+pub mod SequenceOnly
 pub mod SequenceOrder
 pub mod SequenceRises
 pub mod Spots

@@ -65,7 +65,7 @@ module _ (g : AttributeGrammar) (law : IsLawful g) (s : Schedule) (once : EachSt
       → (spot_of s a).index ≡ (spot_of s b).index → a ≡ b
   keys k a b known ha hb = own_keys g s once a b (attribute_of_class k a known ha) (attribute_of_class k b known hb)
 
-  sequence_rises : Rising (EarlierAddress g (spot_of s)) (sequence_at g (spot_of s) x t r)
+  pub sequence_rises : Rising (EarlierAddress g (spot_of s)) (sequence_at g (spot_of s) x t r)
   sequence_rises =
       let at = spot_of s in
       let known = class_known g t fits r root in

@@ -1,7 +1,7 @@
 -- What an ordered schedule gives: the writer of each read stands before the reader, a legal order exists, exactly one
 -- table solves, and a run along any legal order ends in it. It speaks of the project's values.
-use Rattle.std.specs.Prelude.{◌≡◌, ◌≢◌, ◌⊎◌, ◌↔◌, List, length}
-use Rattle.ftl_lists.specs.Lists.{StandsBefore}
+use Rattle.std.specs.Prelude.{◌≡◌, ◌≢◌, ◌⊎◌, ◌↔◌, List, length, Contains}
+use Rattle.ftl_lists.specs.Lists.{AreDistinct, StandsBefore}
 use Rattle.ftl_model.specs.AttributeGrammar.{AttributeGrammar, input}
 use Rattle.ftl_model.specs.Path.{AtOrAbove, Has, Path}
 use Rattle.ftl_model.specs.Solves.{Instance}
@@ -14,7 +14,7 @@ use Rattle.ftl_order.specs.LegalOrder.{HoldsInputs, IsLegalOrder, IsNearBefore, 
 use Rattle.ftl_order.specs.OneTable.{ExactlyOneList, ExactlyOneTable}
 use Rattle.ftl_order.specs.Ordered.{IsOrdered}
 use Rattle.ftl_order.specs.Reads.{Reads}
-use Rattle.ftl_order.specs.Schedule.{IsOnePass, Schedule, inorder, spot_of}
+use Rattle.ftl_order.specs.Schedule.{IsOnePass, Schedule, Spot, inorder, spot_of}
 use Rattle.ftl_order.specs.Sequence.{sequence, sequence_at}
 
 -- of each tree of a lawful grammar, under each schedule that is ordered for it
@@ -84,3 +84,11 @@ abbrev pub PrecedenceIsDecided : Type 0
 PrecedenceIsDecided =
     (g : AttributeGrammar) (t : Forest) (s : Schedule) (i j : Instance)
     → MustPrecede g t s i j ⊎ (MustPrecede g t s i j → ⊥)
+
+-- the sequence of a pass at a node has the steps of the pass that run at the node or below it, each once, and no other
+abbrev pub SequencesHaveTheirSteps : AttributeGrammar → Schedule → Forest → Type 0
+SequencesHaveTheirSteps g s t =
+    (p : Path) (x : Spot) → Has t p
+    → AreDistinct (sequence_at g (spot_of s) x t p)
+    × ((i : Instance) → Contains (sequence_at g (spot_of s) x t p) i
+    ↔ (IsStep g t i × IsOnePass (spot_of s i.attribute) x × AtOrAbove p (turn_of g i).visit))

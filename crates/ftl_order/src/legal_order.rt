@@ -1,5 +1,5 @@
 ghost use Rattle.ftl_order.specs.ReadPairs.{ReadsArePairs};
-ghost use Rattle.ftl_order.specs.OrderLaws.{PrecedenceIsTransitive, PrecedenceIsDecided, UnderOrderedSchedules, WritersStandNear, WritersPrecede, WritersStandBefore, LegalOrderExists, OneTableSolves, OneListSolves, InorderStepsStandInSequence, StepsBelowStandInSequence, RunsEndInTheTable};
+ghost use Rattle.ftl_order.specs.OrderLaws.{PrecedenceIsTransitive, PrecedenceIsDecided, UnderOrderedSchedules, WritersStandNear, WritersPrecede, WritersStandBefore, LegalOrderExists, OneTableSolves, OneListSolves, InorderStepsStandInSequence, StepsBelowStandInSequence, SequencesHaveTheirSteps, RunsEndInTheTable};
 
 /// A law: what a step reads is an input, or the rules of the two are a pair, and they stand on the
 /// tree as the pair says. It speaks of no schedule.
@@ -38,8 +38,10 @@ pub fn runs_end_in_the_table()
     ensures solves { UnderOrderedSchedules RunsEndInTheTable }
 {}
 
-/// A law: the order of the steps of an inorder pass is that of its sequence.
+/// A law: the sequence of an inorder pass has its steps, each once, in an order in which they may be
+/// done; at a node it has those that run there or below.
 pub fn inorder_sequences()
     ensures sequence { UnderOrderedSchedules InorderStepsStandInSequence }
     ensures below { UnderOrderedSchedules StepsBelowStandInSequence }
+    ensures steps { UnderOrderedSchedules SequencesHaveTheirSteps }
 {}

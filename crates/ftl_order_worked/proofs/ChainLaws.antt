@@ -1,18 +1,19 @@
 -- The chain grammar is lawful, and its inorder schedule ordered.
-use Rattle.std.proofs.Common.{◌≡◌, ◌≢◌, ◌⊎◌, ℕ, zero, suc, ◌<◌, ◌==◌, if◌then◌else◌, refl, sym, ap, ap₂, subst₂, inl, inr, ⊎_elim, lit<, arith, ne_eqb, List, [], ◌∷◌, count_by, Contains}
+use Rattle.std.proofs.Common.{◌≡◌, ◌≢◌, ◌⊎◌, ℕ, zero, suc, ◌<◌, ◌==◌, if◌then◌else◌, refl, sym, ap, ap₂, subst₂, inl, inr, ⊎_elim, lit<, arith, ne_eqb, List, [], ◌∷◌, count_by, Contains, rules, pos}
 use Rattle.std.specs.List.{AllByRecursion}
-use Rattle.ftl_lists.specs.Lists.{AreDistinct}
-use Rattle.ftl_lists.proofs.Elements.{each_in, not_among, nothing_in}
+use Rattle.ftl_lists.proofs.Elements.{each_in, nothing_in}
 use Rattle.ftl_model.specs.AttributeGrammar.{Part, Read, RuleName, first_part, for_child, for_self, inherited, input, kid, prev_read, reads_in, then_part}
 use Rattle.ftl_model.specs.Solves.{rule_named}
-use Rattle.ftl_model.specs.Values.{narrow, sum_of}
-use Rattle.ftl_order.specs.Lawful.{IsAlone, IsLawful, IsOwnSort, IsRule, MayReadForChild, MayReadLater, Owner, Owns, PartsForChild, class_owner, interface_owner}
+use Rattle.ftl_model.specs.Values.{IsValueIn, narrow, number, sum_of}
+use Rattle.ftl_model.proofs.ValueRanges.{sum_in}
+use Rattle.ftl_order.specs.Lawful.{IsAlone, IsLawful, IsOwnSort, IsRule, KeepsRange, MayReadForChild, MayReadLater, Owner, Owns, PartsForChild, class_of_rule, class_owner, declared, interface_owner}
 use Rattle.ftl_order.specs.Ordered.{IsOrdered, IsOrderedRead, place_of}
-use Rattle.ftl_order.specs.Pairs.{Where, Writes, class_of_rule, same_class}
+use Rattle.ftl_order.specs.Pairs.{Where, Writes, same_class}
 use Rattle.ftl_order.specs.Schedule.{EachStandsOnce, entries, spot_of}
+use Rattle.ftl_order.proofs.Bounded.{each_below}
 use Rattle.ftl_order.proofs.PartReads.{first_then_reads}
+use Rattle.ftl_order.proofs.RuleOrder.{ordered_by_class}
 use Rattle.ftl_order_worked.specs.Chain.{chain, chain_a, chain_b, chain_inorder}
-use Rattle.ftl_order.proofs.Bounded.{each_below, one_owner_by}
 
 no_children : (k c : ℕ) → c < chain.child_count (suc k) → ⊥
 no_children k c h =

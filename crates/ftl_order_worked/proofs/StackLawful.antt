@@ -1,15 +1,17 @@
 -- The stack grammar is lawful.
-use Rattle.std.proofs.Common.{◌≡◌, ◌≢◌, ◌⊎◌, ℕ, zero, suc, ◌<◌, ◌==◌, if◌then◌else◌, refl, ap, ap₂, inl, inr, lit<, arith, List, [], ◌∷◌, ◌++◌, flat_map, Contains, rules}
+use Rattle.std.proofs.Common.{◌≡◌, ◌≢◌, ◌⊎◌, ℕ, zero, suc, ◌<◌, ◌==◌, if◌then◌else◌, refl, ap, ap₂, inl, inr, lit<, arith, List, [], ◌∷◌, ◌++◌, flat_map, Contains, rules, pos}
 use Rattle.std.specs.List.{AllByRecursion, range_with_len}
 use Rattle.ftl_lists.specs.Lists.{AreDistinct}
-use Rattle.ftl_lists.proofs.Elements.{each_in, flat_map_has, here_in, not_among, range_has}
+use Rattle.ftl_lists.proofs.Elements.{each_in, flat_map_has, here_in, range_has}
 use Rattle.ftl_model.specs.AttributeGrammar.{Occurrence, Read, RuleName, Sort, each_read, for_child, for_self, inherited, input, kid, local, own, prev_read, seen_by, self_read, single_read}
 use Rattle.ftl_model.specs.Boxes.{boxes}
 use Rattle.ftl_model.specs.Stack.{column_h, column_w, kids_y, stack, stack_rules, word}
-use Rattle.ftl_model.specs.Values.{greatest_of, narrow, sum_of}
+use Rattle.ftl_model.specs.Values.{IsValueIn, greatest_of, in_range, narrow, number, sum_of}
 use Rattle.ftl_model.proofs.FoldLaws.{fold_kids_same}
-use Rattle.ftl_order.specs.Lawful.{IsAlone, IsLawful, IsOwnSort, IsRule, MayReadForChild, MayReadForSelf, MayReadInStep, MayReadLater, OfChild, OfClass, Owner, Owns, PartsForChild, PartsForSelf, class_owner, interface_owner}
-use Rattle.ftl_order.proofs.Bounded.{each_below, one_owner_by}
+use Rattle.ftl_model.proofs.ValueRanges.{fold_keeps, greatest_in, sum_in}
+use Rattle.ftl_order.specs.Lawful.{IsAlone, IsLawful, IsOwnSort, IsRule, KeepsRange, MayReadForChild, MayReadForSelf, MayReadInStep, MayReadLater, OfChild, OfClass, Owner, Owns, PartsForChild, PartsForSelf, class_owner, declared, interface_owner}
+use Rattle.ftl_order.proofs.Bounded.{each_below}
+use Rattle.ftl_order.proofs.RuleOrder.{ordered_by_class}
 
 -- each attribute of each class
 pub each_class : (P : ℕ → ℕ → Type 0) → P 0 0 → AllByRecursion (P 1) (1 ∷ 2 ∷ 3 ∷ 4 ∷ [])

@@ -9,9 +9,9 @@ use Rattle.ftl_model.specs.TreeOf.{IsTreeOf}
 use Rattle.ftl_order.specs.OneTable.{ExactlyOneList, ExactlyOneTable}
 use Rattle.ftl_order.specs.Ordered.{IsOrdered, IsOrderedPair}
 use Rattle.ftl_order.specs.Schedule.{EachStandsOnce, Schedule, entries, spot_of}
+use Rattle.ftl_order.proofs.Bounded.{each_below}
 use Rattle.ftl_order.proofs.Scheduled.{one_list_under, one_table_under}
 use Rattle.ftl_order_worked.specs.WorkedSchedules.{places_beside, sizes_then_places, stack_pairs}
-use Rattle.ftl_order.proofs.Bounded.{each_below}
 use Rattle.ftl_order_worked.proofs.StackLawful.{stack_lawful}
 use Rattle.ftl_order_worked.proofs.StackPairs.{pairs_listed}
 

@@ -1,8 +1,13 @@
 use Rattle.ftl_model.specs.Path.{top}
-use Rattle.ftl_order.specs.LegalOrder.{turn_of}
+use Rattle.ftl_lists.proofs.Rising.{before_once}
+use Rattle.ftl_order.specs.LegalOrder.{address, turn_of}
+use Rattle.ftl_order.specs.Schedule.{spot_of}
+use Rattle.ftl_order.specs.Sequence.{sequence_at}
+use Rattle.ftl_order.proofs.SequenceAddresses.{EarlierAddress}
+use Rattle.ftl_order.proofs.SequenceOnly.{rising_distinct, sequence_only}
 use Rattle.ftl_order.specs.Sequence.{sequence}
 use Rattle.ftl_order.proofs.Kids.{root_there}
-use Rattle.ftl_order.proofs.SequenceOrder.{precede_stands, stands_precede, top_above}
+use Rattle.ftl_order.proofs.SequenceOrder.{precede_stands, sequence_rises, stands_precede, step_there, top_above}
 use Rattle.ftl_order.proofs.legal_order.inorder_sequences.Goals as goal
 
 pub returns : goal.returns
@@ -14,6 +19,11 @@ returns c = record {
         precede_stands g law s ordered.once t fits top root i j step_i step_j above_i above_j pass kind,
         stands_precede g law s ordered.once t fits top root i j step_i step_j above_i above_j pass kind,
       );
+  steps = λ g s t law ordered fits p x there. (
+    rising_distinct (EarlierAddress g (spot_of s)) (λ i h. before_once (address (spot_of s) (turn_of g i)) (address (spot_of s) (turn_of g i)) h h)
+        (sequence_at g (spot_of s) x t p) (sequence_rises g law s ordered.once t fits x p there),
+    (λ i. (sequence_only g (spot_of s) x t p there i, (λ h. step_there g law s ordered.once t fits x p there i h.0 h.2 h.1))),
+  );
   below = λ g s t law ordered fits p i j there step_i step_j above_i above_j pass kind. (
     precede_stands g law s ordered.once t fits p there i j step_i step_j above_i above_j pass kind,
     stands_precede g law s ordered.once t fits p there i j step_i step_j above_i above_j pass kind,
