@@ -33,7 +33,7 @@ pub greatest_in : (greatest : ℕ) (a b : Value) → IsValueIn greatest a → Is
     → IsValueIn greatest (greatest_of a b)
 greatest_in greatest (number m) (number n) h k =
     elim (int_lt n m) as
-    (λ b. IsValueIn greatest (number (cond b m n)) ) [ true ↦ h | false ↦ k ]
+    (λ b. IsValueIn greatest (number (cond b m n))) [ true ↦ h | false ↦ k ]
 greatest_in greatest (number m) overflow h k = tt
 greatest_in greatest overflow b h k = tt
 

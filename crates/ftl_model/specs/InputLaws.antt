@@ -11,7 +11,7 @@ use Rattle.ftl_model.specs.Inputs.{IsSameButInputs}
 abbrev pub OfSameTrees : (Forest → Forest → Type 0) → Type 0
 OfSameTrees P = (t u : Forest) → IsSameButInputs t u → P t u
 
--- the same nodes, with the same classes, kids, sizes and numbers
+-- the same nodes
 abbrev pub HaveSameNodes : Forest → Forest → Type 0
 HaveSameNodes t u = (p : Path) → Has t p ↔ Has u p
 

@@ -1,18 +1,19 @@
 -- Worked pages of the stack grammar, written out by hand, to hold the definitions against.
-use Rattle.std.specs.Prelude.{◌≡◌, ℕ, List, [], ◌∷◌, ◌++◌, pos, map}
+use Rattle.std.specs.Prelude.{◌≡◌, ℕ, List, [], ◌∷◌, ◌++◌, pos, negsuc, map, length}
 use Rattle.std.specs.List.{AllByRecursion}
 use Rattle.ftl_model.specs.Values.{Value, number, overflow}
 use Rattle.ftl_model.specs.Tree.{Forest, none, tree}
 use Rattle.ftl_model.specs.AttributeGrammar.{AttributeGrammar}
 use Rattle.ftl_model.specs.Solves.{equation_value}
-use Rattle.ftl_model.specs.Table.{instances, value_in}
+use Rattle.ftl_model.specs.Table.{instances, instance_count, value_in}
 use Rattle.ftl_model.specs.Stack.{stack, sheet, column, word, only_child}
 
--- the equation of each instance holds
+-- there is a value for each instance, and the equation of each holds
 abbrev pub EachHoldsIn : AttributeGrammar → Forest → List Value → Type 0
 EachHoldsIn g t values =
     let s = value_in g t values in
-    AllByRecursion (λ i. s i ≡ equation_value g t s (g.sort i.attribute) i.node i.attribute) (instances g t)
+    (length values ≡ instance_count g t)
+    × AllByRecursion (λ i. s i ≡ equation_value g t s (g.sort i.attribute) i.node i.attribute) (instances g t)
 
 -- the same of the stack grammar
 abbrev pub EachHolds : Forest → List Value → Type 0
@@ -90,3 +91,45 @@ abbrev pub wide_words_values : List Value
 wide_words_values =
     numbers
     (2147483648 ∷ 0 ∷ 0 ∷ 1 ∷ 2147483648 ∷ 0 ∷ 0 ∷ 1 ∷ 1 ∷ 1 ∷ 1 ∷ 0 ∷ 1 ∷ 1 ∷ 2147483647 ∷ 1 ∷ 2147483647 ∷ [])
+
+-- two words of the greatest height
+abbrev pub highest_words : Forest
+highest_words = sheet_over (column_of (word_of_size 1 2147483647 (word_of_size 1 2147483647 none)) none)
+
+-- node by node: the sheet, the column, and its two words
+abbrev pub highest_words_values : List Value
+highest_words_values =
+    (overflow ∷ numbers (0 ∷ 0 ∷ 1 ∷ [])) ++ (overflow ∷ [])
+    ++ numbers (0 ∷ 0 ∷ 1 ∷ 2147483647 ∷ 1 ∷ 2147483647 ∷ [])
+    ++ numbers (0 ∷ 2147483647 ∷ 1 ∷ 2147483647 ∷ 1 ∷ 2147483647 ∷ [])
+
+-- the same on a wide page
+abbrev pub highest_wide_values : List Value
+highest_wide_values =
+    numbers (4294967294 ∷ 0 ∷ 0 ∷ 1 ∷ 4294967294 ∷ [])
+    ++ numbers (0 ∷ 0 ∷ 1 ∷ 2147483647 ∷ 1 ∷ 2147483647 ∷ [])
+    ++ numbers (0 ∷ 2147483647 ∷ 1 ∷ 2147483647 ∷ 1 ∷ 2147483647 ∷ [])
+
+-- a word of the greatest height of a wide page, and one more pixel below it
+abbrev pub widest_words : Forest
+widest_words = sheet_over (column_of (word_of_size 1 140737488355327 (word_of_size 1 1 none)) none)
+
+-- node by node
+abbrev pub widest_words_values : List Value
+widest_words_values =
+    (overflow ∷ numbers (0 ∷ 0 ∷ 1 ∷ [])) ++ (overflow ∷ [])
+    ++ numbers (0 ∷ 0 ∷ 1 ∷ 140737488355327 ∷ 1 ∷ 140737488355327 ∷ [])
+    ++ numbers (0 ∷ 140737488355327 ∷ 1 ∷ 1 ∷ 1 ∷ 1 ∷ [])
+
+-- no trees of the stack grammar: an input below the least one, no body, two bodies, a sheet as a body
+abbrev pub too_low : Forest
+too_low = sheet_over (tree word only_child (negsuc 2147483647 ∷ pos 1 ∷ []) none none)
+
+abbrev pub no_body : Forest
+no_body = sheet_over none
+
+abbrev pub two_bodies : Forest
+two_bodies = sheet_over (word_of_size 1 1 (word_of_size 1 1 none))
+
+abbrev pub sheet_in_sheet : Forest
+sheet_in_sheet = sheet_over (sheet_over (word_of_size 1 1 none))

@@ -7,7 +7,7 @@ ghost use Rattle.ftl_model.specs.Notes.{notes, two_items, two_items_values, no_i
 ghost use Rattle.ftl_model.specs.StackNames.{stack_names};
 ghost use Rattle.ftl_model.specs.Table.{value_in};
 ghost use Rattle.ftl_model.specs.TreeOf.{IsTreeOf};
-ghost use Rattle.ftl_model.specs.Worked.{EachHolds, EachHoldsIn, wide_words_values, two_words, two_words_values, empty_column, numbers, tall_words, tall_words_values, nested_columns, nested_columns_values, greatest_words, greatest_words_values};
+ghost use Rattle.ftl_model.specs.Worked.{EachHolds, EachHoldsIn, wide_words_values, highest_words, highest_words_values, highest_wide_values, widest_words, widest_words_values, too_low, no_body, two_bodies, sheet_in_sheet, two_words, two_words_values, empty_column, numbers, tall_words, tall_words_values, nested_columns, nested_columns_values, greatest_words, greatest_words_values};
 
 /// A law: the values of a column of two words hold each equation, and this is how they are printed.
 pub fn a_column_of_two_words()
@@ -83,4 +83,27 @@ pub fn reads_of_a_sheet_with_a_note()
     ensures no_last { read_occurrences shift_rule.parts (λ c. 0) 0 ≡ [] }
     ensures first { read_occurrences x_rule.parts (λ c. 2) 0 ≡ own 7 ∷ [] }
     ensures later { read_occurrences x_rule.parts (λ c. 2) 1 ≡ kid 1 0 1 ∷ kid 1 0 2 ∷ kid 1 1 3 ∷ [] }
+{}
+
+/// A law: two words of the greatest height overflow a narrow page and add up on a wide one, and a
+/// wide page overflows at its own greatest number.
+pub fn highest_words_of_both_widths()
+    ensures equations { EachHolds highest_words highest_words_values }
+    ensures text { boxes stack_names highest_words (value_in stack highest_words highest_words_values)
+        ≡ codes "0 Sheet h=overflow\n1 Column x=0 y=0 w=1 h=overflow\n2 Word x=0 y=0 w=1 h=2147483647\n3 Word x=0 y=2147483647 w=1 h=2147483647\n" }
+    ensures wide { EachHoldsIn (stack_in wide) highest_words highest_wide_values }
+    ensures wide_text { boxes stack_names highest_words (value_in (stack_in wide) highest_words highest_wide_values)
+        ≡ codes "0 Sheet h=4294967294\n1 Column x=0 y=0 w=1 h=4294967294\n2 Word x=0 y=0 w=1 h=2147483647\n3 Word x=0 y=2147483647 w=1 h=2147483647\n" }
+    ensures widest { EachHoldsIn (stack_in wide) widest_words widest_words_values }
+    ensures widest_text { boxes stack_names widest_words (value_in (stack_in wide) widest_words widest_words_values)
+        ≡ codes "0 Sheet h=overflow\n1 Column x=0 y=0 w=1 h=overflow\n2 Word x=0 y=0 w=1 h=140737488355327\n3 Word x=0 y=140737488355327 w=1 h=1\n" }
+{}
+
+/// A law: these are no trees of the grammar.
+pub fn trees_that_are_refused()
+    ensures too_low { IsTreeOf stack too_low → ⊥ }
+    ensures no_body { IsTreeOf stack no_body → ⊥ }
+    ensures two_bodies { IsTreeOf stack two_bodies → ⊥ }
+    ensures sheet_in_sheet { IsTreeOf stack sheet_in_sheet → ⊥ }
+    ensures wide_page { IsTreeOf (stack_in wide) too_low }
 {}

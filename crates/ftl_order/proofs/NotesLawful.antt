@@ -209,7 +209,7 @@ total_range kids s h =
 each_range : (w : RuleName) → IsRule notes w → RangeAt w
 each_range =
     each_rule RangeAt
-    ((λ kids s h. sum_in narrow (s (kid 0 0 5)) (number (pos 1))), ( shift_range, ( x_range, ( total_range, (    (λ kids s h. h (own 8) (here_in (own 8) [])), ( (λ kids s h. h (own 9) (here_in (own 9) [])), (    (λ kids s h. sum_in narrow (s (own 4)) (s (own 5))), tt)))))))
+    ((λ kids s h. sum_in narrow (s (kid 0 0 5)) (number (pos 1))), (shift_range, (x_range, (total_range, ((λ kids s h. h (own 8) (here_in (own 8) [])), ((λ kids s h. h (own 9) (here_in (own 9) [])), ((λ kids s h. sum_in narrow (s (own 4)) (s (own 5))), tt)))))))
 
 pub notes_lawful : IsLawful notes
 notes_lawful =

@@ -49,13 +49,17 @@ module _ (g : AttributeGrammar) (law : IsLawful g) where
   pub has_owner : (a : ℕ) → a < g.attribute_count → (x : Owner) × Owns g x a
   has_owner a known =
       ⊎_elim
-      (λ h. let i = in_flat_map g.shared interfaces a h in
-      (interface_owner i.0,
-      ((let b = (in_range_from 0 g.interface_count i.0 i.1).1 in let z : i.0 < g.interface_count = omega (arith, b) in z),
-      i.2)))
-      (λ h. let i = in_flat_map g.private classes a h in
-      (class_owner i.0,
-      ((let b = (in_range_from 0 g.class_count i.0 i.1).1 in let z : i.0 < g.class_count = omega (arith, b) in z), i.2)))
+      (λ h. let i = in_flat_map g.shared interfaces a h in (
+        interface_owner i.0,
+        (
+          (let b = (in_range_from 0 g.interface_count i.0 i.1).1 in let z : i.0 < g.interface_count = omega (arith, b) in z),
+          i.2,
+        ),
+      ))
+      (λ h. let i = in_flat_map g.private classes a h in (
+        class_owner i.0,
+        ((let b = (in_range_from 0 g.class_count i.0 i.1).1 in let z : i.0 < g.class_count = omega (arith, b) in z), i.2),
+      ))
       (Contains-append_cases (flat_map g.shared interfaces) (flat_map g.private classes) a
       (subst (λ (xs : List ℕ). Contains xs a) (sym law.numbering) (in_range g.attribute_count a known)))
 

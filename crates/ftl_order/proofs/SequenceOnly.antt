@@ -30,9 +30,11 @@ module _ (g : AttributeGrammar) (at : Placing) (x : Spot) (t : Forest) (r : Path
   steps_only sort computed p there below i h =
       let m = steps_go g at x sort (class_at t p) p i h in
       let k = is_keyed g at x sort (class_at t p) m.from m.there in
-      subst InPass m.is
-      (((there, k.of), (λ e. computed (sym k.sort_is ∙ e))), k.pass,
-      subst (λ s. AtOrAbove r (rule_node s p)) (sym k.sort_is) below)
+      subst InPass m.is (
+        ((there, k.of), (λ e. computed (sym k.sort_is ∙ e))),
+        k.pass,
+        subst (λ s. AtOrAbove r (rule_node s p)) (sym k.sort_is) below,
+      )
 
   inherited_computed : inherited ≢ input
   inherited_computed = grind arith

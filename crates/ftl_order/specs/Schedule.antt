@@ -22,7 +22,7 @@ Schedule = List (List Pass)
 abbrev pub entries : Schedule → List ℕ
 entries s = flat_map (λ (passes : List Pass). flat_map (λ (pass : Pass). pass.attributes) passes) s
 
--- each computed attribute stands in the lists exactly once
+-- each computed attribute stands in the lists exactly once; of other entries nothing is asked here
 abbrev pub EachStandsOnce : AttributeGrammar → Schedule → Type 0
 EachStandsOnce g s =
     (a : ℕ) → a < g.attribute_count → g.sort a ≢ input → count_by (λ b. b == a) (entries s) ≡ 1
@@ -42,7 +42,7 @@ Placing = ℕ → Spot
 abbrev pub IsOnePass : Spot → Spot → Type 0
 IsOnePass x y = (x.stage ≡ y.stage) × (x.pass ≡ y.pass)
 
--- the passes of one stage have numbers of their own
+-- the attributes of one pass are of one kind of pass
 abbrev pub HasOneKind : Placing → Type 0
 HasOneKind at = (a b : ℕ) → IsOnePass (at a) (at b) → (at a).kind ≡ (at b).kind
 

@@ -7,7 +7,7 @@ pub fn preorder_numbers()
     ensures whole { PreorderIsWhole }
 {}
 
-/// A law: the nodes below a node are those whose numbers follow its own, as many as its tree has.
+/// A law: the nodes below a node are those whose numbers follow its own, one fewer than its tree has.
 pub fn subtree_ranges()
     ensures ranges { SubtreesAreRanges }
 {}

@@ -6,7 +6,7 @@ use Rattle.ftl_model.specs.AttributeGrammar.{Part, Read, RuleName, first_part, f
 use Rattle.ftl_model.specs.Solves.{rule_named}
 use Rattle.ftl_model.specs.Values.{IsValueIn, narrow, number, sum_of}
 use Rattle.ftl_model.proofs.ValueRanges.{sum_in}
-use Rattle.ftl_order.specs.Lawful.{IsAlone, IsLawful, IsOwnSort, IsRule, KeepsRange, MayReadForChild, MayReadLater, Owner, Owns, PartsForChild, class_of_rule, class_owner, declared, interface_owner}
+use Rattle.ftl_order.specs.Lawful.{IsAlone, IsLawful, IsOwnSort, IsRule, KeepsRange, MayReadForChild, MayReadLater, Owner, Owns, PartsForChild, class_of_rule, class_owner, interface_owner}
 use Rattle.ftl_order.specs.Ordered.{IsOrdered, IsOrderedRead, place_of}
 use Rattle.ftl_order.specs.Pairs.{Where, Writes, same_class}
 use Rattle.ftl_order.specs.Schedule.{EachStandsOnce, entries, spot_of}

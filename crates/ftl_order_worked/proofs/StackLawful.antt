@@ -1,12 +1,12 @@
 -- The stack grammar is lawful.
-use Rattle.std.proofs.Common.{◌≡◌, ◌≢◌, ◌⊎◌, ℕ, zero, suc, ◌<◌, ◌==◌, if◌then◌else◌, refl, ap, ap₂, inl, inr, lit<, arith, List, [], ◌∷◌, ◌++◌, flat_map, Contains, rules, pos}
+use Rattle.std.proofs.Common.{◌≡◌, ◌≢◌, ◌⊎◌, ℕ, zero, suc, ◌<◌, refl, ap, ap₂, inl, inr, lit<, arith, List, [], ◌∷◌, ◌++◌, flat_map, Contains, rules, pos}
 use Rattle.std.specs.List.{AllByRecursion, range_with_len}
 use Rattle.ftl_lists.specs.Lists.{AreDistinct}
 use Rattle.ftl_lists.proofs.Elements.{each_in, flat_map_has, here_in, range_has}
 use Rattle.ftl_model.specs.AttributeGrammar.{Occurrence, Read, RuleName, Sort, each_read, for_child, for_self, inherited, input, kid, local, own, prev_read, seen_by, self_read, single_read}
 use Rattle.ftl_model.specs.Boxes.{boxes}
 use Rattle.ftl_model.specs.Stack.{column_h, column_w, kids_y, stack, stack_rules, word}
-use Rattle.ftl_model.specs.Values.{IsValueIn, greatest_of, in_range, narrow, number, sum_of}
+use Rattle.ftl_model.specs.Values.{IsValueIn, greatest_of, narrow, number, sum_of}
 use Rattle.ftl_model.proofs.FoldLaws.{fold_kids_same}
 use Rattle.ftl_model.proofs.ValueRanges.{fold_keeps, greatest_in, sum_in}
 use Rattle.ftl_order.specs.Lawful.{IsAlone, IsLawful, IsOwnSort, IsRule, KeepsRange, MayReadForChild, MayReadForSelf, MayReadInStep, MayReadLater, OfChild, OfClass, Owner, Owns, PartsForChild, PartsForSelf, class_owner, declared, interface_owner}
@@ -198,10 +198,28 @@ kids_y_range (suc n) kids s h = sum_in narrow (s (kid 0 n 2)) (s (kid 0 n 4))
 
 each_range : (w : RuleName) → IsRule stack w → RangeAt w
 each_range =
-    each_rule RangeAt
-    ((λ kids s h. h (kid 0 0 4) (here_in (kid 0 0 4) [])), ((λ m kids s h. zero_in), ((λ m kids s h. zero_in),
-    (column_w_range, (column_h_range, ((λ m kids s h. h (own 1) (here_in (own 1) [])), (kids_y_range,
-    ((λ kids s h. h (own 5) (here_in (own 5) [])), ((λ kids s h. h (own 6) (here_in (own 6) [])), tt)))))))))
+    each_rule RangeAt (
+      (λ kids s h. h (kid 0 0 4) (here_in (kid 0 0 4) [])),
+      (
+        (λ m kids s h. zero_in),
+        (
+          (λ m kids s h. zero_in),
+          (
+            column_w_range,
+            (
+              column_h_range,
+              (
+                (λ m kids s h. h (own 1) (here_in (own 1) [])),
+                (
+                  kids_y_range,
+                  ((λ kids s h. h (own 5) (here_in (own 5) [])), ((λ kids s h. h (own 6) (here_in (own 6) [])), tt)),
+                ),
+              ),
+            ),
+          ),
+        ),
+      ),
+    )
 
 pub stack_lawful : IsLawful stack
 stack_lawful =

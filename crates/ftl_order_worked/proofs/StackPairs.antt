@@ -9,7 +9,6 @@ use Rattle.ftl_model.specs.Stack.{stack, stack_rules}
 use Rattle.ftl_order.specs.Lawful.{class_of_rule, declared}
 use Rattle.ftl_order.specs.Pairs.{IsPair, IsReader, Pair, Where, Writes, WritesKid, WritesOwn, child_class, parent_class}
 use Rattle.ftl_order.proofs.PartReads.{first_then_reads, fold_reads, plain_reads}
-use Rattle.ftl_order.proofs.Rows.{turn}
 use Rattle.ftl_order_worked.specs.WorkedSchedules.{pair_of, stack_pairs}
 use Rattle.ftl_order_worked.proofs.StackLawful.{each_rule, stack_lawful}
 

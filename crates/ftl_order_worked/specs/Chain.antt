@@ -1,6 +1,6 @@
 -- A grammar whose kids read both attributes of the kid before, so that only an inorder pass orders it.
--- root R; interface R { } interface K { inh a, b; } class L : K { }
--- class C : R { kids : [K]; kids.a := first 1 then prev.b; kids.b := first 2 then prev.a + prev.b; }
+-- root R; interface R { } interface K { inh a, b; show a, b; }
+-- class C : R { kids : [K]; kids.a := first 1 then prev.b; kids.b := first 2 then prev.a + prev.b; } class L : K { }
 use Rattle.std.specs.Prelude.{ℕ, zero, suc, ◌==◌, if◌then◌else◌, true, List, [], ◌∷◌, pos}
 use Rattle.ftl_model.specs.AttributeGrammar.{AttributeGrammar, Occurrence, Rule, first_then, for_child, inherited, kid, plain, prev_read, then_part}
 use Rattle.ftl_model.specs.Path.{down, top}
@@ -56,7 +56,7 @@ chain =
       child_rule = λ class child a. if a == 0 then chain_a else chain_b;
     }
 
--- topdown { K.a K.b }, and inorder { K.a K.b }
+-- topdown { K.a K.b }
 abbrev pub chain_topdown : Schedule
 chain_topdown = stage topdown (0 ∷ (1 ∷ [])) ∷ []
 

@@ -1,4 +1,4 @@
--- The rows of the table of ordered reads, each at one case, in one pass of each kind.
+-- The rows of the table of ordered reads for one pass, each at one case or more, in passes of each kind.
 use Rattle.std.specs.Prelude.{ℕ, List, [], ◌∷◌}
 use Rattle.ftl_model.specs.AttributeGrammar.{Read, each_read, prev_read, self_read, single_read, this_read}
 use Rattle.ftl_order.specs.Ordered.{IsOrderedRead, VisitPlace}
@@ -46,6 +46,9 @@ ordered_rows =
     ∷ (row_case bottomup same_class (self_read 0) (for_synthesized 0) (for_synthesized 1)
     ∷ (row_case topdown same_class (prev_read 0 1) (for_kids 1 0) (for_kids 1 0)
     ∷ (row_case bottomup same_class (prev_read 0 1) (for_kids 1 0) (for_kids 1 0)
+    -- of one attribute, the child is declared earlier
+    ∷ (row_case topdown same_class (single_read 0 1) (for_kids 1 0) (for_kids 1 1)
+    ∷ (row_case inorder same_class (single_read 0 1) (for_kids 1 0) (for_kids 1 1)
     -- the writer runs at the parent, or at a kid
     ∷ (row_case topdown parent_class (self_read 1) (for_kids 1 0) (for_synthesized 0)
     ∷ (row_case bottomup child_class (each_read 0 1) (for_synthesized 1) (for_synthesized 0)
@@ -59,7 +62,7 @@ ordered_rows =
     ∷ (row_case inorder child_class (each_read 0 1) (for_synthesized 1) (for_synthesized 0)
     ∷ (row_case inorder child_class (single_read 0 1) (for_synthesized 1) (for_kids 0 1)
     ∷ (row_case inorder child_class (prev_read 0 1) (for_synthesized 1) (for_kids 0 0)
-    ∷ [])))))))))))))
+    ∷ [])))))))))))))))
 
 -- cases that are not
 abbrev pub refused_rows : List RowCase
@@ -69,6 +72,9 @@ refused_rows =
     ∷ (row_case bottomup same_class (self_read 1) (for_synthesized 1) (for_synthesized 0)
     ∷ (row_case topdown same_class (prev_read 0 1) (for_kids 1 0) (for_kids 0 0)
     ∷ (row_case bottomup same_class (prev_read 0 1) (for_kids 1 0) (for_kids 0 0)
+    -- of one attribute, the child is declared later
+    ∷ (row_case topdown same_class (single_read 1 1) (for_kids 1 1) (for_kids 1 0)
+    ∷ (row_case bottomup same_class (single_read 1 1) (for_kids 1 1) (for_kids 1 0)
     -- the writer runs at a kid, or at the parent
     ∷ (row_case topdown child_class (each_read 0 0) (for_synthesized 0) (for_synthesized 1)
     ∷ (row_case bottomup parent_class (self_read 0) (for_kids 0 0) (for_synthesized 1)
@@ -80,4 +86,4 @@ refused_rows =
     ∷ (row_case inorder child_class (each_read 0 0) (for_synthesized 0) (for_local 1)
     ∷ (row_case inorder child_class (this_read 0 0) (for_synthesized 0) (for_kids 1 0)
     ∷ (row_case inorder child_class (single_read 1 0) (for_synthesized 0) (for_kids 1 0)
-    ∷ [])))))))))))
+    ∷ [])))))))))))))

@@ -1,12 +1,12 @@
-ghost use Rattle.std.specs.Prelude.{◌≡◌, ◌↔◌, ◌⊎◌, ℕ, List, [], ◌∷◌, Contains};
+ghost use Rattle.std.specs.Prelude.{reverse, ◌≡◌, ◌↔◌, ◌⊎◌, ℕ, List, [], ◌∷◌, Contains};
 ghost use Rattle.std.specs.List.{AllByRecursion};
 ghost use Rattle.ftl_model.specs.Solves.{Instance, instance_of};
-ghost use Rattle.ftl_model.specs.Stack.{stack, column, word, box_y, box_h, word_iw};
+ghost use Rattle.ftl_model.specs.Stack.{stack, stack_rules, sheet, column, word, box_y, box_h, word_iw};
 ghost use Rattle.ftl_model.specs.Table.{SolvesList};
 ghost use Rattle.ftl_model.specs.TreeOf.{IsTreeOf};
-ghost use Rattle.ftl_model.specs.AttributeGrammar.{RuleName, for_self, self_read};
+ghost use Rattle.ftl_model.specs.AttributeGrammar.{RuleName, for_self, self_read, each_read, prev_read, last_read, plain, first_then, fold_over};
 ghost use Rattle.ftl_model.specs.Worked.{numbers, empty_column, two_words, two_words_values};
-ghost use Rattle.ftl_order.specs.Lawful.{IsLawful};
+ghost use Rattle.ftl_order.specs.Lawful.{IsLawful, PartsForSelf, PartsForChild};
 ghost use Rattle.ftl_order.specs.Schedule.{EachStandsOnce, spot_of};
 ghost use Rattle.ftl_order.specs.Sequence.{sequence};
 ghost use Rattle.ftl_order.specs.Reads.{Reads};
@@ -62,8 +62,8 @@ pub fn a_chain_of_three()
         ≡ three_kids_values }
 {}
 
-/// A law: each row of the table of ordered reads, at one case or more, and that an input has no
-/// writer.
+/// A law: each row of the table of ordered reads for one pass, at one case or more, and that an input
+/// has no writer.
 pub fn rows_of_ordered_reads()
     ensures ordered { AllByRecursion IsOrderedCase ordered_rows }
     ensures refused { AllByRecursion (λ x. IsOrderedCase x → ⊥) refused_rows }
@@ -98,4 +98,18 @@ pub fn legal_orders_of_an_empty_column()
 pub fn worked_tables_solve()
     ensures two_words { SolvesList stack two_words two_words_values }
     ensures three_kids { SolvesList chain three_kids three_kids_values }
+{}
+
+/// A law: parts that no lawful grammar has: `prev` for the first kid, `this` in the start of a fold,
+/// `last` and a fold in rules for kids of a list, `first` for a single child.
+pub fn parts_that_are_refused()
+    ensures first_prev { PartsForChild chain 0 0 (first_then (prev_read 0 0 ∷ []) []) → ⊥ }
+    ensures plain_prev { PartsForChild chain 0 0 (plain (prev_read 0 0 ∷ [])) → ⊥ }
+    ensures start_this { PartsForSelf stack column (fold_over 0 (each_read 0 box_h ∷ []) []) → ⊥ }
+    ensures list_last { PartsForChild stack column 0 (plain (last_read 0 box_h ∷ [])) → ⊥ }
+    ensures list_fold { PartsForChild stack column 0 (fold_over 0 [] []) → ⊥ }
+    ensures single_first { PartsForChild stack sheet 0 (first_then [] []) → ⊥ }
+    ensures root_inherits { IsLawful (record stack { root = 1 }) → ⊥ }
+    ensures rules_missing { IsLawful (record stack { rules = [] }) → ⊥ }
+    ensures rules_turned { IsLawful (record stack { rules = reverse stack_rules }) → ⊥ }
 {}

@@ -1,4 +1,3 @@
-use Rattle.ftl_model.specs.Stack.{stack}
 use Rattle.ftl_order_worked.proofs.StackSchedules.{one_stack_table}
 use Rattle.ftl_order_worked.proofs.stack.exactly_one_stack_table.Goals as goal
 

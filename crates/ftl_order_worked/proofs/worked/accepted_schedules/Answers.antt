@@ -1,5 +1,3 @@
-use Rattle.ftl_order.specs.Schedule.{inorder}
-use Rattle.ftl_order_worked.specs.WorkedSchedules.{places_beside, sizes_then_places}
 use Rattle.ftl_order_worked.proofs.ChainLaws.{chain_inorder_ordered}
 use Rattle.ftl_order_worked.proofs.StackSchedules.{places_beside_ordered, sizes_then_places_ordered}
 use Rattle.ftl_order_worked.proofs.worked.accepted_schedules.Goals as goal

@@ -1,4 +1,3 @@
-use Rattle.ftl_order_worked.specs.WorkedSteps.{sheet_first, without_y, x_first, y_first}
 use Rattle.ftl_order_worked.proofs.WorkedOrders.{sheet_first_illegal, without_y_illegal, x_first_legal, y_first_legal}
 use Rattle.ftl_order_worked.proofs.worked.legal_orders_of_an_empty_column.Goals as goal
 

@@ -1,5 +1,3 @@
-use Rattle.ftl_order.specs.Schedule.{inorder, topdown}
-use Rattle.ftl_order_worked.specs.WorkedSchedules.{heights_topdown}
 use Rattle.ftl_order_worked.proofs.WorkedPairs.{chain_ordered, chain_unordered, heights_unordered, places_first_unordered, sheet_ordered, slanted_unordered, width_stands_twice, y_is_missing}
 use Rattle.ftl_order_worked.proofs.worked.refused_schedules.Goals as goal
 

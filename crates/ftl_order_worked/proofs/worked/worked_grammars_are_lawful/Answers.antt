@@ -1,5 +1,3 @@
-use Rattle.ftl_model.specs.Stack.{stack}
-use Rattle.ftl_order_worked.specs.Chain.{chain}
 use Rattle.ftl_order_worked.proofs.ChainLaws.{chain_lawful}
 use Rattle.ftl_order_worked.proofs.StackLawful.{stack_lawful}
 use Rattle.ftl_order_worked.proofs.worked.worked_grammars_are_lawful.Goals as goal
