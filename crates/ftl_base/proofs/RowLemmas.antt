@@ -6,7 +6,7 @@ use Rattle.ftl_model.specs.Values.{Value}
 use Rattle.ftl_base.specs.declared.truth.Truth.{Truth}
 use Rattle.ftl_base.specs.declared.stack.Entry.{Entry}
 use Rattle.ftl_base.specs.declared.stack.Entry.TheVariants.{Number, Test}
-use Rattle.ftl_base.specs.Rows.{entry_of, entries_of}
+use Rattle.ftl_base.specs.StackRows.{entry_of, entries_of}
 
 -- three rows with a place k
 pub record Have (k : ℕ) (marks : List Bool) (values : List Value) (truths : List Truth) : Type 0 where

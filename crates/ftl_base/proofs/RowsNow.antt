@@ -8,12 +8,12 @@ use Rattle.ftl_base.specs.declared.truth.Truth.TheVariants.{No}
 use Rattle.ftl_base.specs.declared.stack.Entry.{Entry}
 use Rattle.ftl_base.specs.declared.stack.Entry.TheVariants.{Number, Test}
 use Rattle.ftl_base.specs.declared.stack.CodeStack.TheInside.{Inside}
-use Rattle.ftl_base.specs.Rows.{entries_of, row_entries, stacked_of, AreRows}
+use Rattle.ftl_base.specs.StackRows.{entries_of, row_entries, stacked_of, AreStackRows}
 use Rattle.ftl_base.specs.Stacked.{Stacked, EndsInValue, EndsInTruth}
 use Rattle.ftl_base.proofs.RowLemmas.{Have, length-entries_of, set_value, set_truth, popped_value, popped_truth}
 
 -- as many entries as the height says
-height_is : (s : Inside) (v : Stacked) → stacked_of s ≡ v → AreRows s → length v.entries ≡ s.height
+height_is : (s : Inside) (v : Stacked) → stacked_of s ≡ v → AreStackRows s → length v.entries ≡ s.height
 height_is s v e r =
     let n = length-entries_of _ _ _ s.depth r.marks r.values r.truths in
     let t = length-take s.height (row_entries s) in
@@ -21,19 +21,19 @@ height_is s v e r =
     omega (arith, r.height)
 
 -- where there is room, the height is a place
-pub has_place : (s : Inside) (v : Stacked) → stacked_of s ≡ v → AreRows s → length v.entries < v.room →
+pub has_place : (s : Inside) (v : Stacked) → stacked_of s ≡ v → AreStackRows s → length v.entries < v.room →
     s.height < s.depth
 has_place s v e r h =
     let a : s.depth ≡ v.room = ap (λ (w : Stacked). w.room) e in
     omega (arith, height_is s v e r)
 
 -- a place below the room is one of each row
-pub have : (s : Inside) (k : ℕ) → AreRows s → k < s.depth → Have k s.marks.items s.values.items s.truths.items
+pub have : (s : Inside) (k : ℕ) → AreStackRows s → k < s.depth → Have k s.marks.items s.values.items s.truths.items
 have s k r h =
     record { mark = omega (arith, r.marks); value = omega (arith, r.values); truth = omega (arith, r.truths) }
 
 -- the entries once a value stands at the height
-pub pushed_value : (s : Inside) (v : Stacked) (x : Value) → stacked_of s ≡ v → AreRows s → length v.entries < v.room →
+pub pushed_value : (s : Inside) (v : Stacked) (x : Value) → stacked_of s ≡ v → AreStackRows s → length v.entries < v.room →
     (let marks = slice_set s.marks.items s.height false in
     let values = slice_set s.values.items s.height x in
     take (s.height + 1) (entries_of marks values s.truths.items) ≡ v.entries ++ Number x ∷ [])
@@ -43,7 +43,7 @@ pushed_value s v x e r h =
     ∙ ap (λ (w : Stacked). w.entries ++ Number x ∷ []) e)
 
 -- the entries once a truth stands at the height
-pub pushed_truth : (s : Inside) (v : Stacked) (x : Truth) → stacked_of s ≡ v → AreRows s → length v.entries < v.room →
+pub pushed_truth : (s : Inside) (v : Stacked) (x : Truth) → stacked_of s ≡ v → AreStackRows s → length v.entries < v.room →
     (let marks = slice_set s.marks.items s.height true in
     let truths = slice_set s.truths.items s.height x in
     take (s.height + 1) (entries_of marks s.values.items truths) ≡ v.entries ++ Test x ∷ [])
@@ -53,13 +53,13 @@ pushed_truth s v x e r h =
     ∙ ap (λ (w : Stacked). w.entries ++ Test x ∷ []) e)
 
 -- the height before a pop
-above_zero : (s : Inside) (v : Stacked) (below : List Entry) (x : Entry) → stacked_of s ≡ v → AreRows s →
+above_zero : (s : Inside) (v : Stacked) (below : List Entry) (x : Entry) → stacked_of s ≡ v → AreStackRows s →
     v.entries ≡ below ++ x ∷ [] → s.height ≡ suc (s.height - 1)
 above_zero s v below x e r q =
     omega (arith, height_is s v e r, ap length q, length-append below (x ∷ []))
 
 -- the entries before the last one, a value, is taken off
-pub value_popped : (s : Inside) (v : Stacked) (d : Value) → stacked_of s ≡ v → AreRows s → EndsInValue v.entries →
+pub value_popped : (s : Inside) (v : Stacked) (d : Value) → stacked_of s ≡ v → AreStackRows s → EndsInValue v.entries →
     v.entries ≡ take (s.height - 1) (row_entries s)
     ++ Number (get_or s.values.items (s.height - 1) d) ∷ []
 value_popped s v d e r (below, x, q) =
@@ -70,7 +70,7 @@ value_popped s v d e r (below, x, q) =
     sym at ∙ popped_value k _ _ _ true d x No below (have s k r (omega (arith, r.height))) (at ∙ q)
 
 -- the entries before the last one, a truth, is taken off
-pub truth_popped : (s : Inside) (v : Stacked) (d : Truth) → stacked_of s ≡ v → AreRows s → EndsInTruth v.entries →
+pub truth_popped : (s : Inside) (v : Stacked) (d : Truth) → stacked_of s ≡ v → AreStackRows s → EndsInTruth v.entries →
     v.entries ≡ take (s.height - 1) (row_entries s)
     ++ Test (get_or s.truths.items (s.height - 1) d) ∷ []
 truth_popped s v d e r (below, x, q) =

@@ -1,6 +1,6 @@
 pub use Rattle.ftl_model.specs.Values
 pub mod Held
-pub mod Rows
+pub mod StackRows
 pub mod Stacked
 pub mod Truths
 pub mod Widths

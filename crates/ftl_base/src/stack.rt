@@ -30,14 +30,14 @@ pub struct CodeStack {
 }
 
 impl Model for CodeStack {
-    ghost use Rattle.ftl_base.specs.Rows.{stacked_of, AreRows};
+    ghost use Rattle.ftl_base.specs.StackRows.{stacked_of, AreStackRows};
     ghost use Rattle.ftl_base.specs.Stacked.{Stacked};
 
     ghost Value = { Stacked };
 
     ghost view = { stacked_of };
 
-    ghost invariant = { AreRows };
+    ghost invariant = { AreStackRows };
 }
 
 impl CodeStack {

@@ -1,5 +1,6 @@
 //! A sink in memory, which can be made to take few bytes at a time and to fail.
-ghost use Rattle.std.specs.Prelude.{◌≡◌, ◌↔◌, ◌<◌, ◌≤◌, [], length, IfOk, IsErr, IsTrue, OnErr, Some};
+ghost use Rattle.std.specs.Prelude.{◌≡◌, ◌↔◌, ◌<◌, ◌≤◌, [], length, IfOk, IsErr, IsTrue, OnErr};
+ghost use Rattle.std.specs.Prelude.{Some};
 ghost use Rattle.std.specs.Io.{WritesAtMost};
 ghost use Rattle.std.specs.Io.KnownBytes.{WriteAppends};
 ghost use Rattle.ftl_edge.specs.Counts.{Rose};
@@ -45,8 +46,8 @@ impl MemSink {
     /// Makes an empty sink, and reserves all of its room. A call takes at most `chunk` bytes, and
     /// the calls whose numbers, from 0 on, are in `failing` fail.
     pub fn new(alloc: Global, chunk: usize, failing: Vec<u64>) -> Result<MemSink, AllocError>
-        requires { 0 < chunk }
-        ensures { IfOk result (λ sink. sink ≡ record {
+        requires some { 0 < chunk }
+        ensures empty { IfOk result (λ sink. sink ≡ record {
           written = [];
           chunk = chunk;
           failing = failing.items;
@@ -65,7 +66,7 @@ impl MemSink {
 
     /// The bytes that were written.
     pub fn written(&self) -> &[u8]
-        ensures { result.now ≡ self.now.written }
+        ensures bytes { result.now ≡ self.now.written }
     {
         &self.written
     }

@@ -1,5 +1,6 @@
 //! A source in memory, which can be made to give few bytes at a time and to fail.
-ghost use Rattle.std.specs.Prelude.{◌≡◌, ◌↔◌, ◌<◌, ◌≤◌, [], ◌++◌, length, take, drop, min, Contains, IfOk, IsErr, OnErr, Some};
+ghost use Rattle.std.specs.Prelude.{◌≡◌, ◌↔◌, ◌<◌, ◌≤◌, [], ◌++◌, length, take, drop, min};
+ghost use Rattle.std.specs.Prelude.{Contains, IfOk, IsErr, OnErr, Some};
 ghost use Rattle.std.specs.Io.{ReadsAtMost};
 ghost use Rattle.std.specs.Io.KnownBytes.{ReadConsumes};
 ghost use Rattle.ftl_edge.specs.Counts.{raised, Rose, RisesByOk};
@@ -43,8 +44,8 @@ impl MemSource {
     /// Makes a source of these bytes. A call gives at most `chunk` of them, and the calls whose
     /// numbers, from 0 on, are in `failing` fail.
     pub fn new(bytes: Vec<u8>, chunk: usize, failing: Vec<u64>) -> MemSource
-        requires { 0 < chunk }
-        ensures { result ≡ record {
+        requires some { 0 < chunk }
+        ensures unread { result ≡ record {
           left = bytes.items;
           chunk = chunk;
           failing = failing.items;

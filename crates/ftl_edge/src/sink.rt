@@ -30,7 +30,7 @@ pub trait Sink {
 
     /// How often the sink has failed.
     fn faults(&self) -> u64
-        ensures { result ≡ fault_count self.now };
+        ensures count { result ≡ fault_count self.now };
 }
 
 /// Appends all of `bytes`, in as many calls as the sink needs.

@@ -26,7 +26,7 @@ impl<R: Input> Model for StdSource<R> {
 impl<R: Input> StdSource<R> {
     /// The standard input of this runtime, of which nothing was read.
     pub fn new(rt: &R) -> StdSource<R>
-        ensures { result ≡ record { calls = 0; taken = 0; fault_count = 0 } }
+        ensures unread { result ≡ record { calls = 0; taken = 0; fault_count = 0 } }
     {
         StdSource {
             reader: rt.reader(),
@@ -83,7 +83,7 @@ impl<'a, R: Print> Model for StdSink<'a, R> {
 impl<'a, R: Print> StdSink<'a, R> {
     /// The standard output of this runtime, to which nothing was written.
     pub fn new(rt: &'a R) -> StdSink<'a, R>
-        ensures { result ≡ 0 }
+        ensures unwritten { result ≡ 0 }
     {
         StdSink { rt, faults: 0 }
     }

@@ -1,5 +1,6 @@
 //! The words of the contracts at small values, and calls whose contracts are worked out by hand.
-ghost use Rattle.std.specs.Prelude.{◌≡◌, ℕ, ◌+◌, ◌-◌, ◌^◌, ◌⊎◌, [], ◌∷◌, length, take, IsErr, IsErrAnd, None, Some, Ok, Err};
+ghost use Rattle.std.specs.Prelude.{◌≡◌, ℕ, ◌+◌, ◌-◌, ◌^◌, ◌⊎◌, [], ◌∷◌, length, take, IsErr};
+ghost use Rattle.std.specs.Prelude.{IsErrAnd, None, Some, Ok, Err};
 ghost use Rattle.ftl_edge.specs.Counts.{raised, Rose, RoseBy, RisesByOk};
 ghost use Rattle.ftl_edge.specs.Sink.{AppendsFront};
 ghost use Rattle.ftl_edge.specs.Source.{TakesFront};
@@ -72,7 +73,8 @@ pub(super) fn read_endless(
     source: &mut Endless,
     limit: usize,
 ) -> Result<Vec<u8>, ReadAllFault>
-    ensures { IsErrAnd result (λ why. (why ≡ ReadAllFault.TooLong) ⊎ (why ≡ ReadAllFault.OutOfMemory)) }
+    ensures { IsErrAnd result
+        (λ why. (why ≡ ReadAllFault.TooLong) ⊎ (why ≡ ReadAllFault.OutOfMemory)) }
 {
     read_all(alloc, source, limit)
 }

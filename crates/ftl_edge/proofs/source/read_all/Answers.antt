@@ -9,7 +9,8 @@ loop-filled-preserved g c =
     record {
       held = turn.fits;
       at_most = turn.at_most;
-      consumed = Consumes-take_more _ _ _ _ _ c.loop-filled.filled c.in_ok-count.count turn.front before.consumed turn.ok;
+      consumed = Consumes-take_more _ _ _ _ _ c.loop-filled.filled c.in_ok-count.count turn.front before.consumed
+          turn.ok;
       counted = omega (arith, turn.taken, before.counted);
       no_more = omega (arith, turn.taken, before.no_more);
       kept = omega (arith, turn.kept, before.kept);

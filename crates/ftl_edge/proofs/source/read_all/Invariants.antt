@@ -7,7 +7,8 @@ abbrev pub invariant-loop-filled : goal.invariant-loop-filled
 invariant-loop-filled g l = record {
   held : l.filled ≤ vec_len l.bytes;
   at_most : l.filled ≤ l.limit + 1;
-  consumed : Consumes (g.S.Source.remaining l.initial.source) (g.S.Source.remaining l.source) (take l.filled l.bytes.items);
+  consumed : Consumes (g.S.Source.remaining l.initial.source) (g.S.Source.remaining l.source) (take l.filled
+      l.bytes.items);
   counted : raised (g.S.Source.taken l.initial.source) l.filled ≤ g.S.Source.taken l.source;
   no_more : g.S.Source.taken l.source ≤ g.S.Source.taken l.initial.source + l.filled;
   kept : g.S.Source.fault_count l.initial.source ≤ g.S.Source.fault_count l.source;

@@ -27,7 +27,7 @@ abbrev pub stacked_of : Inside → Stacked
 stacked_of s = record { room = s.depth; entries = take s.height (row_entries s) }
 
 -- each row has room for all entries, and no more stand there
-pub record AreRows (s : Inside) : Type 0 where
+pub record AreStackRows (s : Inside) : Type 0 where
   pub height : s.height ≤ s.depth
   pub values : length s.values.items ≡ s.depth
   pub truths : length s.truths.items ≡ s.depth
