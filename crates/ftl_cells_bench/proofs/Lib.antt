@@ -1,1 +1,2 @@
 pub mod ChainsLaws
+pub mod GivenCellsLaws

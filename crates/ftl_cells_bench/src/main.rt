@@ -1,57 +1,54 @@
-//! Fills two chains of items on shared cells and tells how long that took. The words are who walks
-//! (`one` hand, `two` threads, or one hand that the work drives: `driven`), how many thousands of
-//! items, and `walk` for the nanoseconds of the walk, or `ends` for those of opening and closing.
+//! Fills two chains of items on shared cells, or opens cells and closes them, and tells how long that
+//! took. The words are what is done (`one` hand, `two` threads, one hand that the work drives:
+//! `driven`, or `ends`), how many thousands of items or cells, and `time` for the nanoseconds.
 #![tactic(auto)]
 
 mod chains;
+mod given_cells;
 mod runs;
 mod walk;
 
-use runs::{Hands, Spent, measure};
+use given_cells::open_and_close;
+use runs::{Hands, measure};
 use std::rt::Env;
 use std::{env, io};
 
-/// What of the time is told.
+/// What is measured.
 #[derive(Clone, Copy)]
-enum Told {
-    Nothing,
-    Walk,
+enum What {
+    Walk(Hands),
     Ends,
 }
 
-/// Who walks the chains, how many thousands of items they have, and what is told.
-fn wanted(rt: &(impl Env + AllocGlobal)) -> io::Result<Option<(Hands, u16, Told)>> {
+/// What is measured, with how many thousands, and whether the time is wanted.
+fn wanted(rt: &(impl Env + AllocGlobal)) -> io::Result<Option<(What, u16, bool)>> {
     let mut words = env::args(rt)?.skip(1);
-    let hands = match words.next() {
-        Some(word) if word.as_str() == "one" => Hands::One,
-        Some(word) if word.as_str() == "two" => Hands::Two,
-        Some(word) if word.as_str() == "driven" => Hands::Driven,
+    let what = match words.next() {
+        Some(word) if word.as_str() == "one" => What::Walk(Hands::One),
+        Some(word) if word.as_str() == "two" => What::Walk(Hands::Two),
+        Some(word) if word.as_str() == "driven" => What::Walk(Hands::Driven),
+        Some(word) if word.as_str() == "ends" => What::Ends,
         _ => return Ok(None),
     };
     let Some(Ok(thousands)) = words.next().map(|word| word.as_str().parse::<u16>()) else {
         return Ok(None);
     };
-    let told = match words.next() {
-        Some(word) if word.as_str() == "walk" => Told::Walk,
-        Some(word) if word.as_str() == "ends" => Told::Ends,
-        _ => Told::Nothing,
-    };
-    Ok(Some((hands, thousands, told)))
+    Ok(Some((what, thousands, words.next().is_some())))
 }
 
 fn main(rt: HostRuntime) -> io::Result<()> {
-    let Some((hands, thousands, told)) = wanted(&rt)? else {
-        println!(rt; "usage: ftl_cells_bench one|two|driven THOUSANDS [walk|ends]")?;
+    let Some((what, thousands, timed)) = wanted(&rt)? else {
+        println!(rt; "usage: ftl_cells_bench one|two|driven|ends THOUSANDS [time]")?;
         return Ok(());
     };
-    let Some(Spent { open, walk, close }) = measure(&rt, rt.alloc(), hands, thousands)? else {
-        println!(rt; "not filled")?;
-        return Ok(());
+    let spent = match what {
+        What::Walk(hands) => measure(&rt, rt.alloc(), hands, thousands)?,
+        What::Ends => open_and_close(&rt, rt.alloc(), thousands)?,
     };
-    match told {
-        Told::Nothing => println!(rt; "filled")?,
-        Told::Walk => println!(rt; "{}", walk.as_nanos())?,
-        Told::Ends => println!(rt; "{}", open.as_nanos().saturating_add(close.as_nanos()))?,
+    match spent {
+        Some(spent) if timed => println!(rt; "{}", spent.as_nanos())?,
+        Some(_) => println!(rt; "filled")?,
+        None => println!(rt; "not filled")?,
     }
     Ok(())
 }

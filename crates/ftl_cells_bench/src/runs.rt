@@ -100,36 +100,23 @@ pub(crate) enum Hands {
     Driven,
 }
 
-/// How long the parts of a run took.
-pub(crate) struct Spent {
-    /// The cells were opened.
-    pub(crate) open: Duration,
-    /// Both chains were filled.
-    pub(crate) walk: Duration,
-    /// The words were given back.
-    pub(crate) close: Duration,
-}
-
 /// How long it took to fill both chains, or none where a hand found an item taken or memory ran out.
 pub(crate) fn measure<R: Threads + Clock + Sync>(
     rt: &R,
     alloc: Global,
     hands: Hands,
     thousands: u16,
-) -> io::Result<Option<Spent>> {
+) -> io::Result<Option<Duration>> {
     let work = Chains { thousands };
     let (second, end) = (work.second(), work.items());
-    let first = first_words(alloc, thousands)?;
-    let start = Instant::now(rt)?;
-    let (cells, hand) = Cells::open(alloc, work, first)?;
-    let open = start.elapsed(rt)?;
+    let (cells, hand) = Cells::open(alloc, work, first_words(alloc, thousands)?)?;
     let start = Instant::now(rt)?;
     let walked = match hands {
         Hands::One => walk_all(alloc, &cells, hand, Way::Asked, 0, end),
         Hands::Two => walk_by_two(rt, alloc, &cells, hand, second, end),
         Hands::Driven => walk_all(alloc, &cells, hand, Way::Driven, 0, end),
     };
-    let walk = start.elapsed(rt)?;
+    let spent = start.elapsed(rt)?;
     let Some(mut hand) = walked else {
         return Ok(None);
     };
@@ -137,8 +124,6 @@ pub(crate) fn measure<R: Threads + Clock + Sync>(
     let HandPlace::Ended = hand.place() else {
         return Ok(None);
     };
-    let start = Instant::now(rt)?;
     drop(cells.close(hand));
-    let close = start.elapsed(rt)?;
-    Ok(Some(Spent { open, walk, close }))
+    Ok(Some(spent))
 }
