@@ -20,15 +20,23 @@ impl<
     E: Fn(Global, &mut Input<'_>, usize) -> Result<Expr, ReadFault>,
     C: Fn(Global, &mut Input<'_>, usize) -> Result<Cond, ReadFault>,
 > Nested<E, C> {
+    fn boxed_expr(&self, alloc: Global, input: &mut Input<'_>) -> Result<Boxed<Expr>, ReadFault>
+        requires { IsNested E.Fn C.Fn self.now }
+        ensures { Reads (reading.expr self.now.depth input.old) result input.new }
+    {
+        let inner = self.expr(alloc, input)?;
+        Ok(Boxed::new(alloc, inner)?)
+    }
+
     // An expression and `)`, after `(`.
     #[tactic(auto, unfolding(ftl_syntax::specs::SumReading::group))]
     fn group(&self, alloc: Global, input: &mut Input<'_>) -> Result<Boxed<Expr>, ReadFault>
         requires { IsNested E.Fn C.Fn self.now }
         ensures { Reads (spec.group (reading.expr self.now.depth) input.old) result input.new }
     {
-        let inner = self.expr(alloc, input)?;
+        let inner = self.boxed_expr(alloc, input)?;
         input.expect(Kind::RightParen)?;
-        Ok(Boxed::new(alloc, inner)?)
+        Ok(inner)
     }
 
     #[tactic(auto, unfolding(ftl_syntax::specs::SumReading::plain))]
@@ -61,11 +69,11 @@ impl<
         ensures { Reads (spec.pair (reading.expr self.now.depth) input.old) result input.new }
     {
         input.expect(Kind::LeftParen)?;
-        let first = self.expr(alloc, input)?;
+        let first = self.boxed_expr(alloc, input)?;
         input.expect(Kind::Comma)?;
-        let second = self.expr(alloc, input)?;
+        let second = self.boxed_expr(alloc, input)?;
         input.expect(Kind::RightParen)?;
-        Ok((Boxed::new(alloc, first)?, Boxed::new(alloc, second)?))
+        Ok((first, second))
     }
 
     // A child, its attribute, and what stands after `or`, after `last`.
