@@ -29,10 +29,8 @@ fn comma_name(alloc: Global, input: &mut Input<'_>) -> Result<Option<Name>, Read
 
 // The names of a list, of which the first was read.
 fn more_names(alloc: Global, input: &mut Input<'_>, first: Name) -> Result<Vec<Name>, ReadFault>
-    ensures {
-        ReadsAs (λ v. v.items) (chain_of push spec.comma_name (first ∷ []) input.old)
-            result input.new
-    }
+    ensures { ReadsAs (λ v. v.items) (chain_of push spec.comma_name (first ∷ []) input.old)
+        result input.new }
 {
     let mut found = Vec::new(alloc);
     found.push(first)?;

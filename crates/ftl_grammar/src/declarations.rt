@@ -162,10 +162,8 @@ fn declarations(
     alloc: Global,
     input: &mut Input<'_>,
 ) -> Result<(InterfaceList, ClassList), ReadFault>
-    ensures {
-        Reads (chain_of spec.add_declaration (spec.declaration spec.any_expr) ([], []) input.old)
-            result input.new
-    }
+    ensures { Reads (chain_of spec.add_declaration (spec.declaration spec.any_expr) ([], [])
+        input.old) result input.new }
 {
     let mut interfaces = Items::new(alloc);
     let mut classes = Items::new(alloc);
@@ -182,15 +180,16 @@ fn declarations(
 }
 
 /// A grammar, to the end of the text.
-#[tactic(
-    auto,
-    unfolding(
-        ftl_syntax::specs::GrammarReading::grammar,
-        ftl_syntax::specs::GrammarReading::grammar_level
-    )
-)]
+#[tactic(auto, unfolding(ftl_syntax::specs::GrammarReading::grammar))]
 pub fn grammar(alloc: Global, input: &mut Input<'_>) -> Result<Grammar, ReadFault>
     ensures { Reads (spec.grammar input.old) result input.new }
+{
+    grammar_level(alloc, input)
+}
+
+#[tactic(auto, unfolding(ftl_syntax::specs::GrammarReading::grammar_level))]
+fn grammar_level(alloc: Global, input: &mut Input<'_>) -> Result<Grammar, ReadFault>
+    ensures { Reads (spec.grammar_level spec.any_expr input.old) result input.new }
 {
     input.expect(Kind::Root)?;
     let root = input.name(alloc)?;

@@ -124,10 +124,8 @@ pub fn rules(
     input: &mut Input<'_>,
     first: Option<Rule>,
 ) -> Result<RuleList, ReadFault>
-    ensures {
-        Reads (chain_of push (spec.rule spec.any_expr) (spec.list_of first) input.old)
-            result input.new
-    }
+    ensures { Reads (chain_of push (spec.rule spec.any_expr) (spec.list_of first) input.old)
+        result input.new }
 {
     let mut found = list_of(alloc, first)?;
     for _turn in 0..input.left() {

@@ -9,7 +9,7 @@ returns-in_err-item c =
     let l = c.loop-turn in
     let item = spec.declaration spec.any_expr in
     let e = turn spec.add_declaration item _ l._turn (l.interfaces, l.classes) l.input
-        c.loop-turn-test.true l.invariant in
+    c.loop-turn-test.true l.invariant in
     first_of (search rules, grind (arith, common_steps))
 
 pub returns-in_default : goal.returns-in_default
@@ -17,7 +17,7 @@ returns-in_default c =
     let l = c.loop-turn in
     let item = spec.declaration spec.any_expr in
     let e = turn spec.add_declaration item _ l._turn (l.interfaces, l.classes) l.input
-        c.loop-turn-test.true l.invariant in
+    c.loop-turn-test.true l.invariant in
     first_of (search rules, grind (arith, common_steps))
 
 pub loop-turn-preserved : goal.loop-turn-preserved
@@ -25,7 +25,7 @@ loop-turn-preserved c =
     let l = c.loop-turn in
     let item = spec.declaration spec.any_expr in
     let e = turn spec.add_declaration item _ l._turn (l.interfaces, l.classes) l.input
-        c.loop-turn-test.true l.invariant in
+    c.loop-turn-test.true l.invariant in
     first_of (search rules, grind (arith, common_steps))
 
 pub returns : goal.returns
@@ -33,5 +33,5 @@ returns c =
     let l = c.loop-turn in
     let item = spec.declaration spec.any_expr in
     let e = no_turn spec.add_declaration item _ l._turn (l.interfaces, l.classes) l.input
-        c.loop-turn-test.false l.invariant in
+    c.loop-turn-test.false l.invariant in
     first_of (search rules, grind (arith, common_steps))
