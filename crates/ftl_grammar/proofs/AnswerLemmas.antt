@@ -33,21 +33,29 @@ shallow_answer scanned shallow = by (grammar (symbols_of scanned)) refl
 pub some_answer : (scanned : Tokenized) → Answer scanned
 some_answer scanned = by (too_deep_or_shallow brackets limit scanned)
   where
-    by : ((at : ℕ) × IsTooDeepAt brackets limit scanned at) ⊎ IsShallow brackets limit (symbols_of scanned) → Answer scanned
+    by : ((at : ℕ) × IsTooDeepAt brackets limit scanned at) ⊎ IsShallow brackets limit (symbols_of scanned)
+        → Answer scanned
     by (inl deep) = (Err (TooDeep deep.0), (λ memory. cc), deep.1)
     by (inr shallow) = shallow_answer scanned shallow
 
 -- and no other
 pub any_two_answers : (scanned : Tokenized) (answer other : Result Grammar SyntaxFault) → answer ≢ Err OutOfMemory
     → other ≢ Err OutOfMemory → ReadsGrammar scanned answer → ReadsGrammar scanned other → answer ≡ other
-any_two_answers scanned (Ok g) (Ok h) told other_told a b = ap Ok (one_grammar (symbols_of scanned) g h a.spells b.spells)
-any_two_answers scanned (Ok g) (Err (TooDeep at)) told other_told a b = absurd (not_shallow brackets limit scanned b a.shallow)
+any_two_answers scanned (Ok g) (Ok h) told other_told a b =
+    ap Ok (one_grammar (symbols_of scanned) g h a.spells b.spells)
+any_two_answers scanned (Ok g) (Err (TooDeep at)) told other_told a b =
+    absurd (not_shallow brackets limit scanned b a.shallow)
 any_two_answers scanned (Ok g) (Err (Syntax at)) told other_told a b = absurd (b.none g a.spells)
-any_two_answers scanned (Err (TooDeep at)) (Ok h) told other_told a b = absurd (not_shallow brackets limit scanned a b.shallow)
-any_two_answers scanned (Err (TooDeep at)) (Err (TooDeep there)) told other_told a b = ap (λ k. Err (TooDeep k)) (one_too_deep brackets limit scanned a b)
-any_two_answers scanned (Err (TooDeep at)) (Err (Syntax there)) told other_told a b = absurd (not_shallow brackets limit scanned a b.shallow)
+any_two_answers scanned (Err (TooDeep at)) (Ok h) told other_told a b =
+    absurd (not_shallow brackets limit scanned a b.shallow)
+any_two_answers scanned (Err (TooDeep at)) (Err (TooDeep there)) told other_told a b =
+    ap (λ k. Err (TooDeep k)) (one_too_deep brackets limit scanned a b)
+any_two_answers scanned (Err (TooDeep at)) (Err (Syntax there)) told other_told a b =
+    absurd (not_shallow brackets limit scanned a b.shallow)
 any_two_answers scanned (Err (Syntax at)) (Ok h) told other_told a b = absurd (a.none h b.spells)
-any_two_answers scanned (Err (Syntax at)) (Err (TooDeep there)) told other_told a b = absurd (not_shallow brackets limit scanned b a.shallow)
-any_two_answers scanned (Err (Syntax at)) (Err (Syntax there)) told other_told a b = ap (λ k. Err (Syntax k)) (one_place a.place b.place)
+any_two_answers scanned (Err (Syntax at)) (Err (TooDeep there)) told other_told a b =
+    absurd (not_shallow brackets limit scanned b a.shallow)
+any_two_answers scanned (Err (Syntax at)) (Err (Syntax there)) told other_told a b =
+    ap (λ k. Err (Syntax k)) (one_place a.place b.place)
 any_two_answers scanned (Err OutOfMemory) other told other_told a b = absurd (told refl)
 any_two_answers scanned answer (Err OutOfMemory) told other_told a b = absurd (other_told refl)

@@ -1,4 +1,4 @@
-pub mod Nests
+pub mod View
 pub mod Read
 pub use Rattle.ftl_reading.specs.Depth
 pub use Rattle.ftl_reading.specs.Place

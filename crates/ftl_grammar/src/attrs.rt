@@ -5,7 +5,7 @@ ghost use Rattle.ftl_reading.specs.Reader.{Reads, push, chain_of};
 ghost use Rattle.ftl_syntax.specs.Trees.{attr_decl};
 ghost use Rattle.ftl_syntax.specs.InterfaceReading as spec;
 ghost use Rattle.ftl_syntax.specs.InterfaceReading.{append};
-ghost use Rattle.ftl_grammar.specs.Nests.{ReadsAs};
+ghost use Rattle.ftl_grammar.specs.View.{ReadsAs};
 
 use ftl_reading::{Input, ReadFault};
 use ftl_syntax::{AttrDecl, AttrDecls, AttrKind, NameList};
@@ -29,7 +29,8 @@ fn comma_name(alloc: Global, input: &mut Input<'_>) -> Result<Option<Name>, Read
 
 // The names of a list, of which the first was read.
 fn more_names(alloc: Global, input: &mut Input<'_>, first: Name) -> Result<Vec<Name>, ReadFault>
-    ensures { ReadsAs (λ v. v.items) (chain_of push spec.comma_name (first ∷ []) input.old) result input.new }
+    ensures { ReadsAs (λ v. v.items) (chain_of push spec.comma_name (first ∷ []) input.old)
+        result input.new }
 {
     let mut found = Vec::new(alloc);
     found.push(first)?;

@@ -2,7 +2,6 @@
 
 ghost use Rattle.std.specs.Prelude.{[]};
 ghost use Rattle.ftl_reading.specs.Reader.{Reads, push, chain_of, until_of};
-ghost use Rattle.ftl_syntax.specs.ExpressionReading as reading;
 ghost use Rattle.ftl_syntax.specs.GrammarReading as spec;
 ghost use Rattle.ftl_syntax.specs.InterfaceReading as interfaces;
 
@@ -78,7 +77,7 @@ fn named(
     input: &mut Input<'_>,
     name: Name,
 ) -> Result<ChainItem<Child, Rule>, ReadFault>
-    ensures { Reads (spec.named (reading.expr spec.bracket_depth) name input.old) result input.new }
+    ensures { Reads (spec.named spec.any_expr name input.old) result input.new }
 {
     match input.peek() {
         Some(Kind::Colon) => {
@@ -92,7 +91,7 @@ fn named(
 // One more child, or the first rule if it is a child's.
 #[tactic(auto, unfolding(ftl_syntax::specs::GrammarReading::member))]
 fn member(alloc: Global, input: &mut Input<'_>) -> Result<ChainItem<Child, Rule>, ReadFault>
-    ensures { Reads (spec.member (reading.expr spec.bracket_depth) input.old) result input.new }
+    ensures { Reads (spec.member spec.any_expr input.old) result input.new }
 {
     match input.peek() {
         Some(Kind::Name) => {
@@ -105,7 +104,7 @@ fn member(alloc: Global, input: &mut Input<'_>) -> Result<ChainItem<Child, Rule>
 
 // The children of a class, and the rule that ended them, if it was a child's.
 fn children(alloc: Global, input: &mut Input<'_>) -> Result<(ChildList, Option<Rule>), ReadFault>
-    ensures { Reads (until_of push (spec.member (reading.expr spec.bracket_depth)) [] input.old) result input.new }
+    ensures { Reads (until_of push (spec.member spec.any_expr) [] input.old) result input.new }
 {
     let mut found = Items::new(alloc);
     for _turn in 0..input.left() {
@@ -121,7 +120,7 @@ fn children(alloc: Global, input: &mut Input<'_>) -> Result<(ChildList, Option<R
 // The rest of a class, after `class`.
 #[tactic(auto, unfolding(ftl_syntax::specs::GrammarReading::class))]
 fn class(alloc: Global, input: &mut Input<'_>) -> Result<Class, ReadFault>
-    ensures { Reads (spec.class (reading.expr spec.bracket_depth) input.old) result input.new }
+    ensures { Reads (spec.class spec.any_expr input.old) result input.new }
 {
     let name = input.name(alloc)?;
     input.expect(Kind::Colon)?;
@@ -143,7 +142,7 @@ fn class(alloc: Global, input: &mut Input<'_>) -> Result<Class, ReadFault>
 // One more interface or class, if there is one.
 #[tactic(auto, unfolding(ftl_syntax::specs::GrammarReading::declaration))]
 fn declaration(alloc: Global, input: &mut Input<'_>) -> Result<Option<Declaration>, ReadFault>
-    ensures { Reads (spec.declaration (reading.expr spec.bracket_depth) input.old) result input.new }
+    ensures { Reads (spec.declaration spec.any_expr input.old) result input.new }
 {
     match input.peek() {
         Some(Kind::Interface) => {
@@ -163,7 +162,8 @@ fn declarations(
     alloc: Global,
     input: &mut Input<'_>,
 ) -> Result<(InterfaceList, ClassList), ReadFault>
-    ensures { Reads (chain_of spec.add_declaration (spec.declaration (reading.expr spec.bracket_depth)) ([], []) input.old) result input.new }
+    ensures { Reads (chain_of spec.add_declaration (spec.declaration spec.any_expr) ([], [])
+        input.old) result input.new }
 {
     let mut interfaces = Items::new(alloc);
     let mut classes = Items::new(alloc);
@@ -180,9 +180,16 @@ fn declarations(
 }
 
 /// A grammar, to the end of the text.
-#[tactic(auto, unfolding(ftl_syntax::specs::GrammarReading::grammar, ftl_syntax::specs::GrammarReading::grammar_level))]
+#[tactic(auto, unfolding(ftl_syntax::specs::GrammarReading::grammar))]
 pub fn grammar(alloc: Global, input: &mut Input<'_>) -> Result<Grammar, ReadFault>
     ensures { Reads (spec.grammar input.old) result input.new }
+{
+    grammar_level(alloc, input)
+}
+
+#[tactic(auto, unfolding(ftl_syntax::specs::GrammarReading::grammar_level))]
+fn grammar_level(alloc: Global, input: &mut Input<'_>) -> Result<Grammar, ReadFault>
+    ensures { Reads (spec.grammar_level spec.any_expr input.old) result input.new }
 {
     input.expect(Kind::Root)?;
     let root = input.name(alloc)?;

@@ -7,8 +7,8 @@ ghost use Rattle.ftl_grammar.specs.declared.fault.SyntaxFault.{SyntaxFault};
 ghost use Rattle.ftl_grammar.specs.declared.fault.SyntaxFault.TheVariants.{OutOfMemory};
 ghost use Rattle.ftl_grammar.specs.Read.{ReadsGrammar};
 
-/// Each text has one answer, want of memory aside: the one grammar that its tokens spell, or the one
-/// fault with its one place.
+/// Each text has one answer, want of memory aside: the one grammar that its tokens spell, or the
+/// one fault with its one place.
 pub fn one_answer()
     ensures some { (scanned : Tokenized) → (answer : Result Grammar SyntaxFault)
         × (answer ≢ Err OutOfMemory) × ReadsGrammar scanned answer }

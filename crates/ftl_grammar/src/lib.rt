@@ -1,18 +1,15 @@
 //! The tokens of a text go in and the grammar that they spell comes out, or the place at which they
 //! go wrong. `specs/Read.antt` says what is answered; which tokens spell which grammar stands in
-//! `ftl_syntax`, in `specs/GrammarSpelling.antt` and `specs/Spelling.antt`, a line of the syntax each.
+//! `ftl_syntax`, in `specs/GrammarSpelling.antt` and `specs/Spelling.antt`, a line of the syntax
+//! each. Expressions are read by `ftl_expression`.
 #![tactic(auto)]
 
 mod attrs;
-mod conds;
 mod declarations;
 mod fault;
 mod laws;
-mod nested;
 mod read;
-mod reads;
 mod rules;
-mod sums;
 
 pub use fault::SyntaxFault;
 pub use ftl_syntax::{
@@ -22,6 +19,3 @@ pub use ftl_syntax::{
 };
 pub use laws::one_answer;
 pub use read::read_grammar;
-
-#[cfg(test)]
-mod tests;

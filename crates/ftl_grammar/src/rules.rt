@@ -2,11 +2,9 @@
 
 ghost use Rattle.std.specs.Prelude.{◌≡◌, [], IfOk};
 ghost use Rattle.ftl_reading.specs.Reader.{Reads, push, chain_of};
-ghost use Rattle.ftl_syntax.specs.ExpressionReading as spec;
-ghost use Rattle.ftl_syntax.specs.GrammarReading as rules;
+ghost use Rattle.ftl_syntax.specs.GrammarReading as spec;
 
-use crate::nested::expr;
-use crate::reads::dot_name;
+use ftl_expression::{dot_name, expr};
 use ftl_reading::{Input, ReadFault};
 use ftl_syntax::{Body, Expr, Rule, RuleList, Target};
 use ftl_tokens::{Kind, Name};
@@ -16,8 +14,8 @@ use std::alloc::{AllocError, Global};
 // One level of brackets more than may be open: where no more are, the last level is never read.
 const DEPTH: usize = 65;
 
-fn any(alloc: Global, input: &mut Input<'_>) -> Result<Expr, ReadFault>
-    ensures { Reads (spec.expr rules.bracket_depth input.old) result input.new }
+fn any_expr(alloc: Global, input: &mut Input<'_>) -> Result<Expr, ReadFault>
+    ensures { Reads (spec.any_expr input.old) result input.new }
 {
     expr(alloc, input, DEPTH)
 }
@@ -25,57 +23,57 @@ fn any(alloc: Global, input: &mut Input<'_>) -> Result<Expr, ReadFault>
 // The rest of a fold, after `fold`.
 #[tactic(auto, unfolding(ftl_syntax::specs::GrammarReading::fold))]
 fn fold(alloc: Global, input: &mut Input<'_>) -> Result<Body, ReadFault>
-    ensures { Reads (rules.fold (spec.expr rules.bracket_depth) input.old) result input.new }
+    ensures { Reads (spec.fold spec.any_expr input.old) result input.new }
 {
     let child = input.name(alloc)?;
     input.expect(Kind::From)?;
-    let first = any(alloc, input)?;
+    let first = any_expr(alloc, input)?;
     input.expect(Kind::With)?;
-    let next = any(alloc, input)?;
+    let next = any_expr(alloc, input)?;
     Ok(Body::Fold(child, first, next))
 }
 
 #[tactic(auto, unfolding(ftl_syntax::specs::GrammarReading::own_body))]
 fn own_body(alloc: Global, input: &mut Input<'_>) -> Result<Body, ReadFault>
-    ensures { Reads (rules.own_body (spec.expr rules.bracket_depth) input.old) result input.new }
+    ensures { Reads (spec.own_body spec.any_expr input.old) result input.new }
 {
     match input.peek() {
         Some(Kind::Fold) => {
             input.skip();
             fold(alloc, input)
         }
-        _ => Ok(Body::Plain(any(alloc, input)?)),
+        _ => Ok(Body::Plain(any_expr(alloc, input)?)),
     }
 }
 
 // Two expressions with `then` between them, after `first`.
 #[tactic(auto, unfolding(ftl_syntax::specs::GrammarReading::first_then))]
 fn first_then(alloc: Global, input: &mut Input<'_>) -> Result<Body, ReadFault>
-    ensures { Reads (rules.first_then (spec.expr rules.bracket_depth) input.old) result input.new }
+    ensures { Reads (spec.first_then spec.any_expr input.old) result input.new }
 {
-    let first = any(alloc, input)?;
+    let first = any_expr(alloc, input)?;
     input.expect(Kind::Then)?;
-    let later = any(alloc, input)?;
+    let later = any_expr(alloc, input)?;
     Ok(Body::FirstThen(first, later))
 }
 
 #[tactic(auto, unfolding(ftl_syntax::specs::GrammarReading::child_body))]
 fn child_body(alloc: Global, input: &mut Input<'_>) -> Result<Body, ReadFault>
-    ensures { Reads (rules.child_body (spec.expr rules.bracket_depth) input.old) result input.new }
+    ensures { Reads (spec.child_body spec.any_expr input.old) result input.new }
 {
     match input.peek() {
         Some(Kind::First) => {
             input.skip();
             first_then(alloc, input)
         }
-        _ => Ok(Body::Plain(any(alloc, input)?)),
+        _ => Ok(Body::Plain(any_expr(alloc, input)?)),
     }
 }
 
 // The rest of a rule for the node itself, after `self`.
 #[tactic(auto, unfolding(ftl_syntax::specs::GrammarReading::own_rule))]
 fn own_rule(alloc: Global, input: &mut Input<'_>) -> Result<Rule, ReadFault>
-    ensures { Reads (rules.own_rule (spec.expr rules.bracket_depth) input.old) result input.new }
+    ensures { Reads (spec.own_rule spec.any_expr input.old) result input.new }
 {
     let attr = dot_name(alloc, input)?;
     input.expect(Kind::Assign)?;
@@ -90,7 +88,7 @@ fn own_rule(alloc: Global, input: &mut Input<'_>) -> Result<Rule, ReadFault>
 /// The rest of a rule for a child, after the child's name.
 #[tactic(auto, unfolding(ftl_syntax::specs::GrammarReading::child_rule))]
 pub fn child_rule(alloc: Global, input: &mut Input<'_>, child: Name) -> Result<Rule, ReadFault>
-    ensures { Reads (rules.child_rule (spec.expr rules.bracket_depth) child input.old) result input.new }
+    ensures { Reads (spec.child_rule spec.any_expr child input.old) result input.new }
 {
     let attr = dot_name(alloc, input)?;
     input.expect(Kind::Assign)?;
@@ -105,7 +103,7 @@ pub fn child_rule(alloc: Global, input: &mut Input<'_>, child: Name) -> Result<R
 // One more rule, if there is one.
 #[tactic(auto, unfolding(ftl_syntax::specs::GrammarReading::rule))]
 fn rule(alloc: Global, input: &mut Input<'_>) -> Result<Option<Rule>, ReadFault>
-    ensures { Reads (rules.rule (spec.expr rules.bracket_depth) input.old) result input.new }
+    ensures { Reads (spec.rule spec.any_expr input.old) result input.new }
 {
     match input.peek() {
         Some(Kind::SelfWord) => {
@@ -126,7 +124,8 @@ pub fn rules(
     input: &mut Input<'_>,
     first: Option<Rule>,
 ) -> Result<RuleList, ReadFault>
-    ensures { Reads (chain_of push (rules.rule (spec.expr rules.bracket_depth)) (rules.list_of first) input.old) result input.new }
+    ensures { Reads (chain_of push (spec.rule spec.any_expr) (spec.list_of first) input.old)
+        result input.new }
 {
     let mut found = list_of(alloc, first)?;
     for _turn in 0..input.left() {
@@ -139,7 +138,7 @@ pub fn rules(
 }
 
 fn list_of(alloc: Global, first: Option<Rule>) -> Result<RuleList, AllocError>
-    ensures { IfOk result (λ found. found ≡ rules.list_of first) }
+    ensures { IfOk result (λ found. found ≡ spec.list_of first) }
 {
     let mut found = Items::new(alloc);
     if let Some(rule) = first {

@@ -6,7 +6,9 @@ use Rattle.ftl_syntax.specs.declared.expression.Atom.{Atom}
 use Rattle.ftl_syntax.specs.declared.expression.Unary.{Unary}
 use Rattle.ftl_syntax.specs.declared.expression.Term.{Term}
 use Rattle.ftl_syntax.specs.declared.expression.Sum.{Sum}
-use Rattle.ftl_syntax.specs.Spelling.{SpellsRead, SpellsPlain, SpellsAtom, SpellsUnary, SpellsTerm, SpellsSum, own, this, prev, of_child, plain_number, plain_acc, plain_read, plain_group, plain_atom, least, greatest, last_or, unsigned, negative, term_of, sum_of}
+use Rattle.ftl_syntax.specs.Spelling.{SpellsRead, SpellsPlain, SpellsAtom, SpellsUnary, SpellsTerm, SpellsSum, own}
+use Rattle.ftl_syntax.specs.Spelling.{this, prev, of_child, plain_number, plain_acc, plain_read, plain_group}
+use Rattle.ftl_syntax.specs.Spelling.{plain_atom, least, greatest, last_or, unsigned, negative, term_of, sum_of}
 use Rattle.ftl_syntax.proofs.Heads.{form}
 
 -- the first token may begin this form, or one that it may be

@@ -4,7 +4,8 @@ use Rattle.ftl_tokens.specs.declared.kind.Kind.{Kind}
 use Rattle.ftl_tokens.specs.declared.kind.Kind.TheVariants as kind
 use Rattle.ftl_reading.specs.Reader.{Reader, next_kind, push}
 use Rattle.ftl_reading.proofs.Told.{Told}
-use Rattle.ftl_reading.proofs.Alike.{Alike, AlikeAt, pure_alike, look_alike, alike_at_any, bind_alike, map_alike, none_alike}
+use Rattle.ftl_reading.proofs.Alike.{Alike, AlikeAt, pure_alike, look_alike, alike_at_any, bind_alike, map_alike}
+use Rattle.ftl_reading.proofs.Alike.{none_alike}
 use Rattle.ftl_reading.proofs.TokenAlike.{past_alike, skip_alike}
 use Rattle.ftl_reading.proofs.ChainAlike.{TakesSome, takes_some, chain_alike}
 use Rattle.ftl_syntax.specs.declared.expression.Cond.{Cond}
@@ -13,7 +14,8 @@ use Rattle.ftl_syntax.specs.declared.expression.Expr.TheVariants as exprs
 use Rattle.ftl_syntax.specs.Trees as trees
 use Rattle.ftl_syntax.specs.Spelling.{SpellsCond, SpellsExpr}
 use Rattle.ftl_syntax.specs.ExpressionReading as reading
-use Rattle.ftl_syntax.specs.ExpressionReading.{bracketed, test_by, test, and_test_by, and_test, conj, or_conj_by, or_conj, cond_level, choice, expr_by, expr_level}
+use Rattle.ftl_syntax.specs.ExpressionReading.{bracketed, test_by, test, and_test_by, and_test, conj, or_conj_by}
+use Rattle.ftl_syntax.specs.ExpressionReading.{or_conj, cond_level, choice, expr_by, expr_level}
 use Rattle.ftl_syntax.proofs.Heads.{height, past_plain, past_bracket, past_end_bracket}
 use Rattle.ftl_syntax.proofs.Lengths.{some_and_test, some_or_conj}
 use Rattle.ftl_syntax.proofs.CondTold.{and_test_told, or_conj_told, expr_told, cond_told}

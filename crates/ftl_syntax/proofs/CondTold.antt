@@ -4,7 +4,8 @@ use Rattle.ftl_tokens.specs.declared.kind.Kind.{Kind}
 use Rattle.ftl_tokens.specs.declared.kind.Kind.TheVariants as kind
 use Rattle.ftl_tokens.specs.Tokenized.{fixed}
 use Rattle.ftl_reading.specs.Reader.{Tokens, Reader}
-use Rattle.ftl_reading.proofs.Told.{example, Told, ToldAt, bind_told, map_told, pure_told, refuse_told, wider_told, look_told, at_any}
+use Rattle.ftl_reading.proofs.Told.{example, Told, ToldAt, bind_told, map_told, pure_told, refuse_told, wider_told}
+use Rattle.ftl_reading.proofs.Told.{look_told, at_any}
 use Rattle.ftl_reading.proofs.TokenTold.{past_told, end_told, skip_told}
 use Rattle.ftl_reading.proofs.ChainTold.{OrNone, Added, chain_told, chain_added}
 use Rattle.ftl_syntax.specs.declared.expression.Test.{Test}
@@ -14,10 +15,14 @@ use Rattle.ftl_syntax.specs.declared.expression.Cond.{Cond}
 use Rattle.ftl_syntax.specs.declared.expression.Expr.{Expr}
 use Rattle.ftl_syntax.specs.declared.expression.Expr.TheVariants as exprs
 use Rattle.ftl_syntax.specs.Trees as trees
-use Rattle.ftl_syntax.specs.Spelling.{SpellsTest, SpellsAndTests, SpellsConj, SpellsOrConjs, SpellsCond, SpellsExpr, grouped, negated, no_tests, more_tests, conj_of, no_conjs, more_conjs, cond_of, plain_sum, if_then_else}
+use Rattle.ftl_syntax.specs.Spelling.{SpellsTest, SpellsAndTests, SpellsConj, SpellsOrConjs, SpellsCond, SpellsExpr}
+use Rattle.ftl_syntax.specs.Spelling.{grouped, negated, no_tests, more_tests, conj_of, no_conjs, more_conjs, cond_of}
+use Rattle.ftl_syntax.specs.Spelling.{plain_sum, if_then_else}
 use Rattle.ftl_syntax.specs.ExpressionReading as reading
-use Rattle.ftl_syntax.specs.ExpressionReading.{bracketed, test_by, test, and_test_by, and_test, conj, or_conj_by, or_conj, cond_level, choice, expr_by, expr_level}
-use Rattle.ftl_syntax.proofs.Parts.{Bracketed, bracketed_of, AndTest, and_test_of, OrConj, or_conj_of, Choice, choice_of}
+use Rattle.ftl_syntax.specs.ExpressionReading.{bracketed, test_by, test, and_test_by, and_test, conj, or_conj_by}
+use Rattle.ftl_syntax.specs.ExpressionReading.{or_conj, cond_level, choice, expr_by, expr_level}
+use Rattle.ftl_syntax.proofs.Parts.{Bracketed, bracketed_of, AndTest, and_test_of, OrConj, or_conj_of, Choice}
+use Rattle.ftl_syntax.proofs.Parts.{choice_of}
 use Rattle.ftl_syntax.proofs.Examples.{zero_sum, zero_expr, zero_cond}
 use Rattle.ftl_syntax.proofs.SumTold.{sum_told, comparison_told}
 

@@ -1,11 +1,13 @@
 -- Conditions and expressions are read whole: `x_went` by the reader `x`.
-use Rattle.std.proofs.Common.{◌≡◌, ℕ, zero, suc, ◌<◌, ◌≤◌, Bool, List, [], ◌∷◌, ◌++◌, Option, Some, None, refl, sym, ap, subst, append_assoc, arith}
+use Rattle.std.proofs.Common.{◌≡◌, ℕ, zero, suc, ◌<◌, ◌≤◌, Bool, List, [], ◌∷◌, ◌++◌, Option, Some, None, refl, sym, ap}
+use Rattle.std.proofs.Common.{subst, append_assoc, arith}
 use Rattle.ftl_tokens.specs.declared.kind.Kind.{Kind}
 use Rattle.ftl_tokens.specs.declared.kind.Kind.TheVariants as kind
 use Rattle.ftl_tokens.specs.Tokenized.{fixed}
 use Rattle.ftl_reading.specs.Reader.{Tokens, Reader, ◌>>=◌, ◌>>◌, ◌<$>◌, pure, next_kind, expect, push, chain_of}
 use Rattle.ftl_reading.proofs.ChainTold.{Chain, chain_none, chain_more}
-use Rattle.ftl_reading.proofs.Went.{got, Went, Complete, went_bind, went_map, went_pure, went_past, went_skip, went_by, went_grouped}
+use Rattle.ftl_reading.proofs.Went.{got, Went, Complete, went_bind, went_map, went_pure, went_past, went_skip, went_by}
+use Rattle.ftl_reading.proofs.Went.{went_grouped}
 use Rattle.ftl_reading.proofs.ChainWent.{CompleteItem, chain_follows, chain_went}
 use Rattle.ftl_syntax.specs.declared.expression.Test.{Test}
 use Rattle.ftl_syntax.specs.declared.expression.Test.TheVariants as tests
@@ -14,11 +16,15 @@ use Rattle.ftl_syntax.specs.declared.expression.Cond.{Cond}
 use Rattle.ftl_syntax.specs.declared.expression.Expr.{Expr}
 use Rattle.ftl_syntax.specs.declared.expression.Expr.TheVariants as exprs
 use Rattle.ftl_syntax.specs.Trees as trees
-use Rattle.ftl_syntax.specs.Spelling.{SpellsTest, SpellsAndTests, SpellsConj, SpellsOrConjs, SpellsCond, SpellsExpr, grouped, negated, compared, no_tests, more_tests, conj_of, no_conjs, more_conjs, cond_of, plain_sum, if_then_else}
+use Rattle.ftl_syntax.specs.Spelling.{SpellsTest, SpellsAndTests, SpellsConj, SpellsOrConjs, SpellsCond, SpellsExpr}
+use Rattle.ftl_syntax.specs.Spelling.{grouped, negated, compared, no_tests, more_tests, conj_of, no_conjs, more_conjs}
+use Rattle.ftl_syntax.specs.Spelling.{cond_of, plain_sum, if_then_else}
 use Rattle.ftl_syntax.specs.ExpressionReading as reading
-use Rattle.ftl_syntax.specs.ExpressionReading.{bracketed, test_by, test, and_test_by, and_test, conj, or_conj_by, or_conj, cond_level, choice, expr_by, expr_level}
+use Rattle.ftl_syntax.specs.ExpressionReading.{bracketed, test_by, test, and_test_by, and_test, conj, or_conj_by}
+use Rattle.ftl_syntax.specs.ExpressionReading.{or_conj, cond_level, choice, expr_by, expr_level}
 use Rattle.ftl_syntax.specs.SumReading.{sum, comparison}
-use Rattle.ftl_syntax.proofs.Parts.{Bracketed, bracketed_of, AndTest, and_test_of, OrConj, or_conj_of, Choice, choice_of}
+use Rattle.ftl_syntax.proofs.Parts.{Bracketed, bracketed_of, AndTest, and_test_of, OrConj, or_conj_of, Choice}
+use Rattle.ftl_syntax.proofs.Parts.{choice_of}
 use Rattle.ftl_syntax.proofs.Heads.{level, Looser, form, height, past_plain, past_bracket, past_end_bracket}
 use Rattle.ftl_syntax.proofs.Begins.{sum_begins}
 use Rattle.ftl_syntax.proofs.SumWent.{sum_went, comparison_went}

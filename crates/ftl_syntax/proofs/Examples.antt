@@ -4,7 +4,10 @@ use Rattle.ftl_tokens.specs.declared.kind.Kind.TheVariants as kind
 use Rattle.ftl_tokens.specs.Tokenized.{number, fixed}
 use Rattle.ftl_reading.proofs.Told.{Example, example}
 use Rattle.ftl_syntax.specs.declared.expression.Atom.TheVariants as atoms
-use Rattle.ftl_syntax.specs.Spelling.{SpellsPlain, SpellsAtom, SpellsUnary, SpellsTerm, SpellsSum, SpellsTest, SpellsConj, SpellsCond, SpellsExpr, less, plain_number, plain_atom, unsigned, no_factors, term_of, no_terms, sum_of, compared, no_tests, conj_of, no_conjs, cond_of, plain_sum}
+use Rattle.ftl_syntax.specs.Spelling.{SpellsPlain, SpellsAtom, SpellsUnary, SpellsTerm, SpellsSum, SpellsTest}
+use Rattle.ftl_syntax.specs.Spelling.{SpellsConj, SpellsCond, SpellsExpr, less, plain_number, plain_atom, unsigned}
+use Rattle.ftl_syntax.specs.Spelling.{no_factors, term_of, no_terms, sum_of, compared, no_tests, conj_of, no_conjs}
+use Rattle.ftl_syntax.specs.Spelling.{cond_of, plain_sum}
 
 pub zero_plain : Example SpellsPlain
 zero_plain = example (number 0 ∷ []) (atoms.Number 0) plain_number

@@ -18,10 +18,15 @@ use Rattle.ftl_syntax.specs.Trees as trees
 use Rattle.ftl_syntax.specs.Trees.{NameText}
 use Rattle.ftl_syntax.specs.Spelling.{SpellsExpr}
 use Rattle.ftl_syntax.specs.GrammarReading as reading
-use Rattle.ftl_syntax.specs.GrammarReading.{own_body_by, own_body, child_body_by, child_body, rule_by, named_by, named, member_by, member, list_of, class, declaration_by, declaration, add_declaration, grammar_level}
-use Rattle.ftl_syntax.specs.InterfaceReading.{comma_name_by, comma_name, names, name_line, attr_group, attrs_by, attrs, own_attrs_by, own_attrs, append, shown_by, shown, interface, list_child, single_child, child_by, child}
+use Rattle.ftl_syntax.specs.GrammarReading.{own_body_by, own_body, child_body_by, child_body, rule_by, named_by, named}
+use Rattle.ftl_syntax.specs.GrammarReading.{member_by, member, list_of, class, declaration_by, declaration}
+use Rattle.ftl_syntax.specs.GrammarReading.{add_declaration, grammar_level}
+use Rattle.ftl_syntax.specs.InterfaceReading.{comma_name_by, comma_name, names, name_line, attr_group, attrs_by, attrs}
+use Rattle.ftl_syntax.specs.InterfaceReading.{own_attrs_by, own_attrs, append, shown_by, shown, interface, list_child}
+use Rattle.ftl_syntax.specs.InterfaceReading.{single_child, child_by, child}
 use Rattle.ftl_syntax.proofs.Heads.{height, past_plain, past_bracket, past_end_bracket, past_name}
-use Rattle.ftl_syntax.proofs.Lengths.{some_comma_name, some_attrs, some_own_attrs, some_rule, some_child, some_declaration}
+use Rattle.ftl_syntax.proofs.Lengths.{some_comma_name, some_attrs, some_own_attrs, some_rule, some_child}
+use Rattle.ftl_syntax.proofs.Lengths.{some_declaration}
 use Rattle.ftl_syntax.proofs.InterfaceTold.{comma_name_told, attrs_told, own_attrs_told}
 use Rattle.ftl_syntax.proofs.RuleTold.{rule_told, member_told}
 use Rattle.ftl_syntax.proofs.GrammarTold.{declaration_told}
@@ -165,7 +170,8 @@ module _ {expr other : Reader Expr} {n : ℕ} (expr_told : Told SpellsExpr expr)
       (λ d. past_alike kind.Assign (past_plain kind.Assign refl)
       (bind_alike own_body_alike (λ x. past_alike kind.Semicolon (past_plain kind.Semicolon refl) pure_alike)))
 
-  child_rule_alike : (c : NameText) → Alike height (suc n) (suc n) (reading.child_rule expr c) (reading.child_rule other c)
+  child_rule_alike : (c : NameText)
+      → Alike height (suc n) (suc n) (reading.child_rule expr c) (reading.child_rule other c)
   unfolding reading.child_rule
   child_rule_alike c =
       bind_alike dot_name_alike
@@ -219,7 +225,8 @@ module _ {expr other : Reader Expr} {n : ℕ} (expr_told : Told SpellsExpr expr)
           skip_alike kind.Interface tt (past_plain kind.Interface refl)
           (map_alike (λ x. Some (declarations.Interface x)) interface_alike)
       each (Some kind.Class) =
-          skip_alike kind.Class tt (past_plain kind.Class refl) (map_alike (λ x. Some (declarations.Class x)) class_alike)
+          skip_alike kind.Class tt (past_plain kind.Class refl)
+          (map_alike (λ x. Some (declarations.Class x)) class_alike)
       each _ = alike_at_any pure_alike
 
   pub grammar_level_alike : Alike height (suc n) (suc n) (grammar_level expr) (grammar_level other)
@@ -228,5 +235,7 @@ module _ {expr other : Reader Expr} {n : ℕ} (expr_told : Told SpellsExpr expr)
       past_alike kind.Root (past_plain kind.Root refl)
       (name_alike past_name
       (λ d. past_alike kind.Semicolon (past_plain kind.Semicolon refl)
-      (bind_alike (chain_alike add_declaration declaration_alike (some_declarations expr_told) (some_declarations other_told) ([], []))
+      (bind_alike
+      (chain_alike add_declaration declaration_alike
+      (some_declarations expr_told) (some_declarations other_told) ([], []))
       (λ xs. bind_alike at_end_alike (λ u. pure_alike)))))

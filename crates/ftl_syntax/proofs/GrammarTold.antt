@@ -1,12 +1,14 @@
 -- What the readers of classes and grammars tell: `x_told` of the reader `x`.
-use Rattle.std.proofs.Common.{◌≡◌, List, [], ◌∷◌, ◌++◌, Option, Some, None, refl, sym, ap, ◌∙◌, subst, append_assoc, append-nil}
+use Rattle.std.proofs.Common.{◌≡◌, List, [], ◌∷◌, ◌++◌, Option, Some, None, refl, sym, ap, ◌∙◌, subst, append_assoc}
+use Rattle.std.proofs.Common.{append-nil}
 use Rattle.ftl_tokens.specs.declared.kind.Kind.{Kind}
 use Rattle.ftl_tokens.specs.declared.kind.Kind.TheVariants as kind
 use Rattle.ftl_tokens.specs.Tokenized.{name, fixed}
 use Rattle.ftl_reading.specs.Reader.{Tokens, Reader, push, ◌>>=◌, ◌>>◌, pure, expect, chain_of, until_of}
 use Rattle.ftl_reading.proofs.Told.{example, After, Told, ToldAt, bind_told, map_told, pure_told, look_told, at_any}
 use Rattle.ftl_reading.proofs.TokenTold.{past_told, name_told, end_told, skip_told, at_end_told}
-use Rattle.ftl_reading.proofs.ChainTold.{OrNone, Chain, none, more, chain_told, chain_added, Until, stopped, ended, went_on, until_told}
+use Rattle.ftl_reading.proofs.ChainTold.{OrNone, Chain, none, more, chain_told, chain_added, Until, stopped, ended}
+use Rattle.ftl_reading.proofs.ChainTold.{went_on, until_told}
 use Rattle.ftl_syntax.specs.declared.expression.Expr.{Expr}
 use Rattle.ftl_syntax.specs.declared.rules.AttrDecl.{AttrDecl}
 use Rattle.ftl_syntax.specs.declared.rules.Interface.{Interface}
@@ -17,11 +19,16 @@ use Rattle.ftl_syntax.specs.declared.rules.Declaration.TheVariants as declaratio
 use Rattle.ftl_syntax.specs.Trees as trees
 use Rattle.ftl_syntax.specs.Trees.{NameText}
 use Rattle.ftl_syntax.specs.Spelling.{SpellsExpr}
-use Rattle.ftl_syntax.specs.GrammarSpelling.{SpellsChild, SpellsChildren, SpellsRule, SpellsRules, SpellsDeclarations, SpellsGrammar, no_children, more_children, no_rules, more_rules, class_of, interface_of, SpellsOwnAttrs, no_own_attrs, no_declarations, interface_declared, class_declared, grammar_of}
+use Rattle.ftl_syntax.specs.GrammarSpelling.{SpellsChild, SpellsChildren, SpellsRule, SpellsRules, SpellsDeclarations}
+use Rattle.ftl_syntax.specs.GrammarSpelling.{SpellsGrammar, no_children, more_children, no_rules, more_rules, class_of}
+use Rattle.ftl_syntax.specs.GrammarSpelling.{interface_of, SpellsOwnAttrs, no_own_attrs, no_declarations}
+use Rattle.ftl_syntax.specs.GrammarSpelling.{interface_declared, class_declared, grammar_of}
 use Rattle.ftl_syntax.specs.GrammarReading as reading
-use Rattle.ftl_syntax.specs.GrammarReading.{member, list_of, class, declaration_by, declaration, add_declaration, grammar_level, grammar, bracket_depth}
+use Rattle.ftl_syntax.specs.GrammarReading.{member, list_of, class, declaration_by, declaration, add_declaration}
+use Rattle.ftl_syntax.specs.GrammarReading.{grammar_level, grammar, bracket_depth}
 use Rattle.ftl_syntax.specs.InterfaceReading.{append, own_attrs}
-use Rattle.ftl_syntax.proofs.RuleParts.{InterfaceRest, interface_rest, ChildRule, ClassRest, class_rest, DeclarationOf, interface_of_declaration, class_of_declaration}
+use Rattle.ftl_syntax.proofs.RuleParts.{InterfaceRest, interface_rest, ChildRule, ClassRest, class_rest, DeclarationOf}
+use Rattle.ftl_syntax.proofs.RuleParts.{interface_of_declaration, class_of_declaration}
 use Rattle.ftl_syntax.proofs.InterfaceTold.{own_attrs_told, own_attrs_spell, interface_told}
 use Rattle.ftl_syntax.proofs.RuleTold.{from_child_rule, rule_told, member_told}
 
@@ -138,7 +145,8 @@ interface_declared_turn : (a : Tokens) (x : Interface) → InterfaceRest a x
     → DeclarationOf (fixed kind.Interface ∷ a) (declarations.Interface x)
 interface_declared_turn a x (interface_rest s t) = interface_of_declaration (interface_of s t)
 
-class_declared_turn : (a : Tokens) (x : Class) → ClassRest a x → DeclarationOf (fixed kind.Class ∷ a) (declarations.Class x)
+class_declared_turn : (a : Tokens) (x : Class)
+    → ClassRest a x → DeclarationOf (fixed kind.Class ∷ a) (declarations.Class x)
 class_declared_turn a x (class_rest s t u) = class_of_declaration (class_of s t u)
 
 -- a class of which all but `}` is read
@@ -208,7 +216,8 @@ module _ {expr : Reader Expr} (expr_told : Told SpellsExpr expr) where
     where
       each : (k : Option Kind) → ToldAt k (OrNone DeclarationOf) (declaration_by expr k)
       each (Some kind.Interface) =
-          skip_told kind.Interface tt (map_told (λ x. Some (declarations.Interface x)) interface_told interface_declared_turn)
+          skip_told kind.Interface tt
+          (map_told (λ x. Some (declarations.Interface x)) interface_told interface_declared_turn)
       each (Some kind.Class) =
           skip_told kind.Class tt (map_told (λ x. Some (declarations.Class x)) class_told class_declared_turn)
       each _ = at_any (pure_told refl)

@@ -1,11 +1,14 @@
 -- Classes and grammars are read whole: `x_went` by the reader `x`.
-use Rattle.std.proofs.Common.{◌≡◌, ℕ, suc, ◌<◌, List, [], ◌∷◌, ◌++◌, Option, Some, None, refl, sym, ap, ◌∙◌, subst, append_assoc, append-nil, arith}
+use Rattle.std.proofs.Common.{◌≡◌, ℕ, suc, ◌<◌, List, [], ◌∷◌, ◌++◌, Option, Some, None, refl, sym, ap, ◌∙◌, subst}
+use Rattle.std.proofs.Common.{append_assoc, append-nil, arith}
 use Rattle.ftl_tokens.specs.declared.kind.Kind.{Kind}
 use Rattle.ftl_tokens.specs.declared.kind.Kind.TheVariants as kind
 use Rattle.ftl_tokens.specs.Tokenized.{name, fixed}
-use Rattle.ftl_reading.specs.Reader.{Tokens, Reader, ◌>>=◌, ◌>>◌, pure, next_kind, expect, take_name, at_end, push, chain_of, until_of}
+use Rattle.ftl_reading.specs.Reader.{Tokens, Reader, ◌>>=◌, ◌>>◌, pure, next_kind, expect, take_name, at_end, push}
+use Rattle.ftl_reading.specs.Reader.{chain_of, until_of}
 use Rattle.ftl_reading.proofs.ChainTold.{Chain, none, more, Until, stopped, ended, went_on}
-use Rattle.ftl_reading.proofs.Went.{got, Went, Complete, went_bind, went_map, went_pure, went_past, went_skip, went_name, went_by, went_grouped}
+use Rattle.ftl_reading.proofs.Went.{got, Went, Complete, went_bind, went_map, went_pure, went_past, went_skip}
+use Rattle.ftl_reading.proofs.Went.{went_name, went_by, went_grouped}
 use Rattle.ftl_reading.proofs.ChainWent.{CompleteItem, chain_went}
 use Rattle.ftl_reading.proofs.UntilWent.{until_went}
 use Rattle.ftl_syntax.specs.declared.expression.Expr.{Expr}
@@ -19,11 +22,16 @@ use Rattle.ftl_syntax.specs.declared.rules.Grammar.{Grammar}
 use Rattle.ftl_syntax.specs.Trees as trees
 use Rattle.ftl_syntax.specs.Trees.{NameText}
 use Rattle.ftl_syntax.specs.Spelling.{SpellsExpr}
-use Rattle.ftl_syntax.specs.GrammarSpelling.{SpellsChild, SpellsChildren, SpellsRule, SpellsRules, SpellsDeclarations, SpellsGrammar, single, list, no_children, more_children, own_rule, child_rule, no_rules, more_rules, class_of, interface_of, no_declarations, interface_declared, class_declared, grammar_of}
+use Rattle.ftl_syntax.specs.GrammarSpelling.{SpellsChild, SpellsChildren, SpellsRule, SpellsRules, SpellsDeclarations}
+use Rattle.ftl_syntax.specs.GrammarSpelling.{SpellsGrammar, single, list, no_children, more_children, own_rule}
+use Rattle.ftl_syntax.specs.GrammarSpelling.{child_rule, no_rules, more_rules, class_of, interface_of, no_declarations}
+use Rattle.ftl_syntax.specs.GrammarSpelling.{interface_declared, class_declared, grammar_of}
 use Rattle.ftl_syntax.specs.GrammarReading as reading
-use Rattle.ftl_syntax.specs.GrammarReading.{member, list_of, class, declaration_by, declaration, add_declaration, grammar_level}
+use Rattle.ftl_syntax.specs.GrammarReading.{member, list_of, class, declaration_by, declaration, add_declaration}
+use Rattle.ftl_syntax.specs.GrammarReading.{grammar_level}
 use Rattle.ftl_syntax.specs.InterfaceReading.{append, own_attrs}
-use Rattle.ftl_syntax.proofs.RuleParts.{interface_rest, ChildRule, child_rule_of, child_rule_rest, ClassRest, class_rest, DeclarationOf, interface_of_declaration, class_of_declaration}
+use Rattle.ftl_syntax.proofs.RuleParts.{interface_rest, ChildRule, child_rule_of, child_rule_rest, ClassRest}
+use Rattle.ftl_syntax.proofs.RuleParts.{class_rest, DeclarationOf, interface_of_declaration, class_of_declaration}
 use Rattle.ftl_syntax.proofs.GrammarTold.{LastRule}
 use Rattle.ftl_syntax.proofs.Heads as heads
 use Rattle.ftl_syntax.proofs.Heads.{Looser, Later, height, past_plain, past_name}

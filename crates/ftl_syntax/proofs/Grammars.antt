@@ -1,6 +1,7 @@
 -- What the reader of grammars answers, in the words of the syntax: the grammar that the tokens spell, or the place at
 -- which they go wrong.
-use Rattle.std.proofs.Common.{◌≡◌, ℕ, suc, ◌-◌, ◌<◌, true, List, [], ◌++◌, length, Ok, Err, sym, ap, ◌∙◌, subst, append-nil, arith}
+use Rattle.std.proofs.Common.{◌≡◌, ℕ, suc, ◌-◌, ◌<◌, true, List, [], ◌++◌, length, Ok, Err, sym, ap, ◌∙◌, subst}
+use Rattle.std.proofs.Common.{append-nil, arith}
 use Rattle.ftl_tokens.specs.declared.kind.Kind.TheVariants as kind
 use Rattle.ftl_tokens.specs.Tokenized.{Tokenized, Symbol, symbols_of, name, number, fixed}
 use Rattle.ftl_reading.specs.Reader.{Tokens, Reader, same_kind, expect, take_name, chain_of}

@@ -1,10 +1,12 @@
 -- What the readers of names, attributes, interfaces and children tell: `x_told` of the reader `x`.
-use Rattle.std.proofs.Common.{true, false, List, [], ◌∷◌, ◌++◌, map, Option, Some, refl, sym, ◌∙◌, subst, append_assoc, append-nil}
+use Rattle.std.proofs.Common.{true, false, List, [], ◌∷◌, ◌++◌, map, Option, Some, refl, sym, ◌∙◌, subst, append_assoc}
+use Rattle.std.proofs.Common.{append-nil}
 use Rattle.ftl_tokens.specs.declared.kind.Kind.{Kind}
 use Rattle.ftl_tokens.specs.declared.kind.Kind.TheVariants as kind
 use Rattle.ftl_tokens.specs.Tokenized.{name, fixed}
 use Rattle.ftl_reading.specs.Reader.{Tokens, push}
-use Rattle.ftl_reading.proofs.Told.{example, After, Told, ToldAt, bind_told, map_told, pure_told, wider_told, look_told, at_any}
+use Rattle.ftl_reading.proofs.Told.{example, After, Told, ToldAt, bind_told, map_told, pure_told, wider_told, look_told}
+use Rattle.ftl_reading.proofs.Told.{at_any}
 use Rattle.ftl_reading.proofs.TokenTold.{past_told, name_told, end_told, skip_told}
 use Rattle.ftl_reading.proofs.ChainTold.{OrNone, Chain, none, more, Added, chain_told, chain_added}
 use Rattle.ftl_syntax.specs.declared.rules.AttrKind.{AttrKind}
@@ -12,9 +14,15 @@ use Rattle.ftl_syntax.specs.declared.rules.AttrKind.TheVariants as attr
 use Rattle.ftl_syntax.specs.declared.rules.AttrDecl.{AttrDecl}
 use Rattle.ftl_syntax.specs.Trees as trees
 use Rattle.ftl_syntax.specs.Trees.{NameText}
-use Rattle.ftl_syntax.specs.GrammarSpelling.{SpellsNames, SpellsAttrGroup, SpellsAttrs, SpellsShown, SpellsOwnAttrGroup, SpellsOwnAttrs, one_name, more_names, inh_group, syn_group, input_group, no_attrs, more_attrs, none_shown, some_shown, own_input_group, own_local_group, no_own_attrs, more_own_attrs}
-use Rattle.ftl_syntax.specs.InterfaceReading.{comma_name_by, comma_name, names, name_line, attr_group, attrs_by, attrs, own_attrs_by, own_attrs, append, shown_by, shown, interface, list_child, single_child, child_by, child}
-use Rattle.ftl_syntax.proofs.RuleParts.{CommaName, comma_name_of, NameLine, name_line_of, InterfaceRest, interface_rest, ChildRest, single_rest, list_rest}
+use Rattle.ftl_syntax.specs.GrammarSpelling.{SpellsNames, SpellsAttrGroup, SpellsAttrs, SpellsShown, SpellsOwnAttrGroup}
+use Rattle.ftl_syntax.specs.GrammarSpelling.{SpellsOwnAttrs, one_name, more_names, inh_group, syn_group, input_group}
+use Rattle.ftl_syntax.specs.GrammarSpelling.{no_attrs, more_attrs, none_shown, some_shown, own_input_group}
+use Rattle.ftl_syntax.specs.GrammarSpelling.{own_local_group, no_own_attrs, more_own_attrs}
+use Rattle.ftl_syntax.specs.InterfaceReading.{comma_name_by, comma_name, names, name_line, attr_group, attrs_by, attrs}
+use Rattle.ftl_syntax.specs.InterfaceReading.{own_attrs_by, own_attrs, append, shown_by, shown, interface, list_child}
+use Rattle.ftl_syntax.specs.InterfaceReading.{single_child, child_by, child}
+use Rattle.ftl_syntax.proofs.RuleParts.{CommaName, comma_name_of, NameLine, name_line_of, InterfaceRest, interface_rest}
+use Rattle.ftl_syntax.proofs.RuleParts.{ChildRest, single_rest, list_rest}
 
 -- ---- names
 
@@ -29,7 +37,8 @@ one_more_name : (a b : Tokens) (n : NameText) (ns : List NameText) → CommaName
     → MoreNames (a ++ b) (n ∷ ns)
 one_more_name a b n ns comma_name_of rest = record { after = λ m. more_names (rest.after n) }
 
-names_turn : (n : NameText) (a : Tokens) (ns : List NameText) → Chain push CommaName (n ∷ []) a ns → SpellsNames (name n ∷ a) ns
+names_turn : (n : NameText) (a : Tokens) (ns : List NameText)
+    → Chain push CommaName (n ∷ []) a ns → SpellsNames (name n ∷ a) ns
 names_turn n a ns all =
     let added = chain_added MoreNames no_more_names one_more_name all in
     subst (λ l. SpellsNames (name n ∷ a) l) (sym added.all) (added.spells.after n)
@@ -58,7 +67,8 @@ name_line_told =
 -- ---- attributes
 
 attr_group_told : {S : Tokens → Option (List AttrDecl) → Type 0} (k : AttrKind)
-    → ((a : Tokens) (ns : List NameText) → NameLine a ns → S a (Some (map (trees.attr_decl k) ns))) → Told S (attr_group k)
+    → ((a : Tokens) (ns : List NameText) → NameLine a ns → S a (Some (map (trees.attr_decl k) ns)))
+    → Told S (attr_group k)
 unfolding attr_group
 attr_group_told k turn = map_told (λ ns. Some (map (trees.attr_decl k) ns)) name_line_told turn
 

@@ -1,11 +1,13 @@
 -- Names, attributes, interfaces and children are read whole: `x_went` by the reader `x`.
-use Rattle.std.proofs.Common.{◌≡◌, ℕ, suc, ◌<◌, true, false, List, [], ◌∷◌, ◌++◌, map, Option, Some, None, refl, sym, ap, subst, append_assoc, append-nil, arith}
+use Rattle.std.proofs.Common.{◌≡◌, ℕ, suc, ◌<◌, true, false, List, [], ◌∷◌, ◌++◌, map, Option, Some, None, refl, sym}
+use Rattle.std.proofs.Common.{ap, subst, append_assoc, append-nil, arith}
 use Rattle.ftl_tokens.specs.declared.kind.Kind.{Kind}
 use Rattle.ftl_tokens.specs.declared.kind.Kind.TheVariants as kind
 use Rattle.ftl_tokens.specs.Tokenized.{name, fixed}
 use Rattle.ftl_reading.specs.Reader.{Tokens, ◌>>=◌, ◌>>◌, pure, next_kind, expect, push, chain_of}
 use Rattle.ftl_reading.proofs.ChainTold.{Chain, none, more, chain_none, chain_more}
-use Rattle.ftl_reading.proofs.Went.{got, Went, went_bind, went_map, went_pure, went_past, went_skip, went_name, went_by, went_grouped}
+use Rattle.ftl_reading.proofs.Went.{got, Went, went_bind, went_map, went_pure, went_past, went_skip, went_name, went_by}
+use Rattle.ftl_reading.proofs.Went.{went_grouped}
 use Rattle.ftl_reading.proofs.ChainWent.{CompleteItem, chain_went}
 use Rattle.ftl_syntax.specs.declared.rules.AttrKind.{AttrKind}
 use Rattle.ftl_syntax.specs.declared.rules.AttrKind.TheVariants as attr
@@ -14,9 +16,15 @@ use Rattle.ftl_syntax.specs.declared.rules.Interface.{Interface}
 use Rattle.ftl_syntax.specs.declared.rules.Child.{Child}
 use Rattle.ftl_syntax.specs.Trees as trees
 use Rattle.ftl_syntax.specs.Trees.{NameText}
-use Rattle.ftl_syntax.specs.GrammarSpelling.{SpellsNames, SpellsAttrGroup, SpellsAttrs, SpellsShown, SpellsOwnAttrGroup, SpellsOwnAttrs, one_name, more_names, inh_group, syn_group, input_group, no_attrs, more_attrs, none_shown, some_shown, own_input_group, own_local_group, no_own_attrs, more_own_attrs}
-use Rattle.ftl_syntax.specs.InterfaceReading.{comma_name_by, comma_name, names, name_line, attr_group, attrs_by, attrs, own_attrs_by, own_attrs, append, shown_by, shown, interface, list_child, single_child, child_by, child}
-use Rattle.ftl_syntax.proofs.RuleParts.{CommaName, comma_name_of, NameLine, name_line_of, InterfaceRest, interface_rest, ChildRest, single_rest, list_rest}
+use Rattle.ftl_syntax.specs.GrammarSpelling.{SpellsNames, SpellsAttrGroup, SpellsAttrs, SpellsShown, SpellsOwnAttrGroup}
+use Rattle.ftl_syntax.specs.GrammarSpelling.{SpellsOwnAttrs, one_name, more_names, inh_group, syn_group, input_group}
+use Rattle.ftl_syntax.specs.GrammarSpelling.{no_attrs, more_attrs, none_shown, some_shown, own_input_group}
+use Rattle.ftl_syntax.specs.GrammarSpelling.{own_local_group, no_own_attrs, more_own_attrs}
+use Rattle.ftl_syntax.specs.InterfaceReading.{comma_name_by, comma_name, names, name_line, attr_group, attrs_by, attrs}
+use Rattle.ftl_syntax.specs.InterfaceReading.{own_attrs_by, own_attrs, append, shown_by, shown, interface, list_child}
+use Rattle.ftl_syntax.specs.InterfaceReading.{single_child, child_by, child}
+use Rattle.ftl_syntax.proofs.RuleParts.{CommaName, comma_name_of, NameLine, name_line_of, InterfaceRest, interface_rest}
+use Rattle.ftl_syntax.proofs.RuleParts.{ChildRest, single_rest, list_rest}
 use Rattle.ftl_syntax.proofs.Heads.{list_part, Later, height, past_plain, past_bracket, past_end_bracket, past_name}
 use Rattle.ftl_syntax.proofs.Lengths.{some_comma_name, some_attrs, some_own_attrs}
 

@@ -11,9 +11,12 @@ use Rattle.ftl_syntax.specs.declared.rules.Rule.{Rule}
 use Rattle.ftl_syntax.specs.declared.rules.Declaration.{Declaration}
 use Rattle.ftl_syntax.specs.Trees.{NameText}
 use Rattle.ftl_syntax.specs.Spelling.{SpellsFactor, SpellsSignedTerm, times, over, plus, minus}
-use Rattle.ftl_syntax.specs.GrammarSpelling.{SpellsAttrGroup, SpellsOwnAttrGroup, SpellsChild, SpellsRule, inh_group, syn_group, input_group, own_input_group, own_local_group, single, list, own_rule, child_rule, interface_of, class_of}
+use Rattle.ftl_syntax.specs.GrammarSpelling.{SpellsAttrGroup, SpellsOwnAttrGroup, SpellsChild, SpellsRule, inh_group}
+use Rattle.ftl_syntax.specs.GrammarSpelling.{syn_group, input_group, own_input_group, own_local_group, single, list}
+use Rattle.ftl_syntax.specs.GrammarSpelling.{own_rule, child_rule, interface_of, class_of}
 use Rattle.ftl_syntax.proofs.Parts.{AndTest, and_test_of, OrConj, or_conj_of}
-use Rattle.ftl_syntax.proofs.RuleParts.{CommaName, comma_name_of, ChildRule, child_rule_of, DeclarationOf, interface_of_declaration, class_of_declaration}
+use Rattle.ftl_syntax.proofs.RuleParts.{CommaName, comma_name_of, ChildRule, child_rule_of, DeclarationOf}
+use Rattle.ftl_syntax.proofs.RuleParts.{interface_of_declaration, class_of_declaration}
 
 pub some_factor : {a : Tokens} {x : Factor} → SpellsFactor a x → 0 < length a
 some_factor (times s) = omega arith

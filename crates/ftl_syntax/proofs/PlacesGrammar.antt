@@ -35,7 +35,8 @@ grammar_went spells zero small = absurd (omega arith)
 grammar_went spells (suc n) small = (grammar_level_went (expr_went (suc n)) spells small).reads
 
 -- readers at other depths are like the reader of grammars, and read all that is spelled
-grammar_placed : Placed SpellsGrammar height bracket_depth bracket_depth grammar (λ k. grammar_level (expr (bracket_depth + k)))
+grammar_placed : Placed SpellsGrammar height bracket_depth bracket_depth grammar
+    (λ k. grammar_level (expr (bracket_depth + k)))
 unfolding grammar
 grammar_placed = record {
   alike = λ k.

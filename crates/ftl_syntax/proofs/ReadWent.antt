@@ -9,7 +9,8 @@ use Rattle.ftl_reading.proofs.Went.{Went, went_map, went_pure, went_past, went_s
 use Rattle.ftl_syntax.specs.declared.expression.Read.{Read}
 use Rattle.ftl_syntax.specs.declared.expression.Read.TheVariants as reads
 use Rattle.ftl_syntax.specs.Trees.{NameText}
-use Rattle.ftl_syntax.specs.Spelling.{SpellsRead, SpellsCmp, own, this, prev, of_child, less, less_eq, more, more_eq, equal, unequal}
+use Rattle.ftl_syntax.specs.Spelling.{SpellsRead, SpellsCmp, own, this, prev, of_child, less, less_eq, more, more_eq}
+use Rattle.ftl_syntax.specs.Spelling.{equal, unequal}
 use Rattle.ftl_syntax.specs.SumReading.{dot_name, read_by, read, comparator_by, comparator}
 use Rattle.ftl_syntax.proofs.Parts.{DotName, dot_name_of}
 use Rattle.ftl_syntax.proofs.Heads.{Looser, height, past_plain, past_name}

@@ -17,7 +17,8 @@ use Rattle.ftl_syntax.specs.declared.rules.Declaration.TheVariants as declaratio
 use Rattle.ftl_syntax.specs.Trees as trees
 use Rattle.ftl_syntax.specs.Trees.{NameText}
 use Rattle.ftl_syntax.specs.Spelling.{SpellsExpr}
-use Rattle.ftl_syntax.specs.GrammarSpelling.{SpellsNames, SpellsAttrs, SpellsShown, SpellsInterface, SpellsOwnAttrs, SpellsChildren, SpellsOwnBody, SpellsChildBody, SpellsRules, SpellsClass}
+use Rattle.ftl_syntax.specs.GrammarSpelling.{SpellsNames, SpellsAttrs, SpellsShown, SpellsInterface, SpellsOwnAttrs}
+use Rattle.ftl_syntax.specs.GrammarSpelling.{SpellsChildren, SpellsOwnBody, SpellsChildBody, SpellsRules, SpellsClass}
 
 -- `,` and a name
 pub data CommaName : Tokens → NameText → Type 0 where
@@ -29,7 +30,8 @@ pub data NameLine : Tokens → List NameText → Type 0 where
 
 -- what stands after `interface`
 pub data InterfaceRest : Tokens → Interface → Type 0 where
-  interface_rest : {n : NameText} {a b : Tokens} {xs : List AttrDecl} {ns : List NameText} → SpellsAttrs a xs → SpellsShown b ns
+  interface_rest : {n : NameText} {a b : Tokens} {xs : List AttrDecl} {ns : List NameText}
+      → SpellsAttrs a xs → SpellsShown b ns
       → InterfaceRest (name n ∷ fixed kind.LeftBrace ∷ (a ++ (b ++ (fixed kind.RightBrace ∷ []))))
       (trees.interface n xs ns)
 
@@ -76,5 +78,6 @@ pub data ClassRest : Tokens → Class → Type 0 where
 
 -- an interface or a class
 pub data DeclarationOf : Tokens → Declaration → Type 0 where
-  interface_of_declaration : {a : Tokens} {x : Interface} → SpellsInterface a x → DeclarationOf a (declarations.Interface x)
+  interface_of_declaration : {a : Tokens} {x : Interface}
+      → SpellsInterface a x → DeclarationOf a (declarations.Interface x)
   class_of_declaration : {a : Tokens} {x : Class} → SpellsClass a x → DeclarationOf a (declarations.Class x)

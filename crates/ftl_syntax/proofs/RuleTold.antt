@@ -5,7 +5,8 @@ use Rattle.ftl_tokens.specs.declared.kind.Kind.TheVariants as kind
 use Rattle.ftl_tokens.specs.Tokenized.{name, fixed}
 use Rattle.ftl_reading.specs.declared.chain_item.ChainItem.TheVariants.{Next, Last}
 use Rattle.ftl_reading.specs.Reader.{Tokens, Reader}
-use Rattle.ftl_reading.proofs.Told.{Example, example, After, Told, ToldAt, bind_told, map_told, pure_told, wider_told, look_told, at_any}
+use Rattle.ftl_reading.proofs.Told.{Example, example, After, Told, ToldAt, bind_told, map_told, pure_told, wider_told}
+use Rattle.ftl_reading.proofs.Told.{look_told, at_any}
 use Rattle.ftl_reading.proofs.TokenTold.{past_told, name_told, end_told, skip_told}
 use Rattle.ftl_reading.proofs.ChainTold.{OrNone, ChainItemOf}
 use Rattle.ftl_syntax.specs.declared.expression.Expr.{Expr}
@@ -17,14 +18,18 @@ use Rattle.ftl_syntax.specs.declared.rules.Rule.{Rule}
 use Rattle.ftl_syntax.specs.Trees as trees
 use Rattle.ftl_syntax.specs.Trees.{NameText}
 use Rattle.ftl_syntax.specs.Spelling.{SpellsExpr}
-use Rattle.ftl_syntax.specs.GrammarSpelling.{SpellsChild, SpellsOwnBody, SpellsChildBody, SpellsRule, single, list, own_plain, child_plain, own_rule, child_rule}
+use Rattle.ftl_syntax.specs.GrammarSpelling.{SpellsChild, SpellsOwnBody, SpellsChildBody, SpellsRule, single, list}
+use Rattle.ftl_syntax.specs.GrammarSpelling.{own_plain, child_plain, own_rule, child_rule}
 use Rattle.ftl_syntax.specs.GrammarSpelling as spelling
 use Rattle.ftl_syntax.specs.GrammarReading as reading
-use Rattle.ftl_syntax.specs.GrammarReading.{own_body_by, own_body, child_body_by, child_body, rule_by, named_by, named, member_by, member}
+use Rattle.ftl_syntax.specs.GrammarReading.{own_body_by, own_body, child_body_by, child_body, rule_by, named_by, named}
+use Rattle.ftl_syntax.specs.GrammarReading.{member_by, member}
 use Rattle.ftl_syntax.proofs.Parts.{DotName, dot_name_of}
 use Rattle.ftl_syntax.proofs.Examples.{zero_expr}
 use Rattle.ftl_syntax.proofs.SumTold.{dot_name_told}
-use Rattle.ftl_syntax.proofs.RuleParts.{ChildRest, single_rest, list_rest, FoldRest, fold_rest, FirstRest, first_rest, OwnRuleRest, own_rule_rest, ChildRuleRest, child_rule_rest, ChildRule, child_rule_of}
+use Rattle.ftl_syntax.proofs.RuleParts.{ChildRest, single_rest, list_rest, FoldRest, fold_rest, FirstRest, first_rest}
+use Rattle.ftl_syntax.proofs.RuleParts.{OwnRuleRest, own_rule_rest, ChildRuleRest, child_rule_rest, ChildRule}
+use Rattle.ftl_syntax.proofs.RuleParts.{child_rule_of}
 use Rattle.ftl_syntax.proofs.InterfaceTold.{child_told}
 
 -- ---- what the parts make

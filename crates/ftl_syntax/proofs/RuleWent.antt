@@ -1,12 +1,14 @@
 -- Rules are read whole: `x_went` by the reader `x`.
-use Rattle.std.proofs.Common.{◌≡◌, ℕ, suc, ◌<◌, ◌≤◌, List, [], ◌∷◌, ◌++◌, Option, Some, None, refl, ap, append_assoc, arith}
+use Rattle.std.proofs.Common.{◌≡◌, ℕ, suc, ◌<◌, ◌≤◌, List, [], ◌∷◌, ◌++◌, Option, Some, None, refl, ap, append_assoc}
+use Rattle.std.proofs.Common.{arith}
 use Rattle.ftl_tokens.specs.declared.kind.Kind.{Kind}
 use Rattle.ftl_tokens.specs.declared.kind.Kind.TheVariants as kind
 use Rattle.ftl_tokens.specs.Tokenized.{name, fixed}
 use Rattle.ftl_reading.specs.declared.chain_item.ChainItem.TheVariants.{Stop, Next, Last}
 use Rattle.ftl_reading.specs.Reader.{Tokens, Reader, ◌>>=◌, ◌>>◌, ◌<$>◌, pure, next_kind, expect, push}
 use Rattle.ftl_reading.proofs.ChainTold.{Chain, chain_none, chain_more}
-use Rattle.ftl_reading.proofs.Went.{got, Went, Complete, went_bind, went_map, went_pure, went_past, went_skip, went_name, went_by, went_grouped}
+use Rattle.ftl_reading.proofs.Went.{got, Went, Complete, went_bind, went_map, went_pure, went_past, went_skip}
+use Rattle.ftl_reading.proofs.Went.{went_name, went_by, went_grouped}
 use Rattle.ftl_reading.proofs.ChainWent.{CompleteItem}
 use Rattle.ftl_reading.proofs.UntilWent.{CompleteChainItem}
 use Rattle.ftl_syntax.specs.declared.expression.Expr.{Expr}
@@ -18,12 +20,16 @@ use Rattle.ftl_syntax.specs.declared.rules.Rule.{Rule}
 use Rattle.ftl_syntax.specs.Trees as trees
 use Rattle.ftl_syntax.specs.Trees.{NameText}
 use Rattle.ftl_syntax.specs.Spelling.{SpellsExpr, plain_sum, if_then_else}
-use Rattle.ftl_syntax.specs.GrammarSpelling.{SpellsChild, SpellsOwnBody, SpellsChildBody, SpellsRule, SpellsRules, single, list, own_plain, child_plain, own_rule, child_rule, no_rules, more_rules}
+use Rattle.ftl_syntax.specs.GrammarSpelling.{SpellsChild, SpellsOwnBody, SpellsChildBody, SpellsRule, SpellsRules}
+use Rattle.ftl_syntax.specs.GrammarSpelling.{single, list, own_plain, child_plain, own_rule, child_rule, no_rules}
+use Rattle.ftl_syntax.specs.GrammarSpelling.{more_rules}
 use Rattle.ftl_syntax.specs.GrammarSpelling as spelling
 use Rattle.ftl_syntax.specs.GrammarReading as reading
-use Rattle.ftl_syntax.specs.GrammarReading.{own_body_by, own_body, child_body_by, child_body, rule_by, named_by, named, member_by, member}
+use Rattle.ftl_syntax.specs.GrammarReading.{own_body_by, own_body, child_body_by, child_body, rule_by, named_by, named}
+use Rattle.ftl_syntax.specs.GrammarReading.{member_by, member}
 use Rattle.ftl_syntax.proofs.Parts.{dot_name_of}
-use Rattle.ftl_syntax.proofs.RuleParts.{single_rest, list_rest, FoldRest, fold_rest, FirstRest, first_rest, OwnRuleRest, own_rule_rest, ChildRuleRest, child_rule_rest, ChildRule, child_rule_of}
+use Rattle.ftl_syntax.proofs.RuleParts.{single_rest, list_rest, FoldRest, fold_rest, FirstRest, first_rest, OwnRuleRest}
+use Rattle.ftl_syntax.proofs.RuleParts.{own_rule_rest, ChildRuleRest, child_rule_rest, ChildRule, child_rule_of}
 use Rattle.ftl_syntax.proofs.Heads.{Looser, form, list_part, Later, height, past_plain, past_name}
 use Rattle.ftl_syntax.proofs.Begins.{sum_begins}
 use Rattle.ftl_syntax.proofs.ReadWent.{dot_name_went}
@@ -208,7 +214,8 @@ module _ {expr : Reader Expr} {n : ℕ} (expr_went : Complete height (suc n) (su
   unfolding member
   member_stops rest e = ap (λ p. p rest) (member_other expr (next_kind rest) e)
 
-  pub members_went : CompleteChainItem height (suc n) AfterMembers (λ rest. Unit {0}) SpellsChild ChildRule (member expr)
+  pub members_went : CompleteChainItem height (suc n) AfterMembers (λ rest. Unit {0}) SpellsChild ChildRule
+      (member expr)
   members_went = record {
     found = λ s rest follows small. next_went s rest small;
     last = λ s rest follows small. last_went s rest small;

@@ -4,8 +4,10 @@ use Rattle.ftl_tokens.specs.declared.kind.Kind.{Kind}
 use Rattle.ftl_tokens.specs.declared.kind.Kind.TheVariants as kind
 use Rattle.ftl_reading.specs.Reader.{Reader, next_kind, push}
 use Rattle.ftl_reading.proofs.Told.{Told}
-use Rattle.ftl_reading.proofs.Alike.{Alike, AlikeAt, pure_alike, refuse_alike, look_alike, alike_at_any, bind_alike, map_alike}
-use Rattle.ftl_reading.proofs.TokenAlike.{past_alike, name_alike, last_name_alike, number_alike, positive_alike, skip_alike}
+use Rattle.ftl_reading.proofs.Alike.{Alike, AlikeAt, pure_alike, refuse_alike, look_alike, alike_at_any, bind_alike}
+use Rattle.ftl_reading.proofs.Alike.{map_alike}
+use Rattle.ftl_reading.proofs.TokenAlike.{past_alike, name_alike, last_name_alike, number_alike, positive_alike}
+use Rattle.ftl_reading.proofs.TokenAlike.{skip_alike}
 use Rattle.ftl_reading.proofs.ChainAlike.{TakesSome, takes_some, chain_alike}
 use Rattle.ftl_syntax.specs.declared.expression.Read.TheVariants as reads
 use Rattle.ftl_syntax.specs.declared.expression.Atom.TheVariants as atoms
@@ -15,7 +17,9 @@ use Rattle.ftl_syntax.specs.declared.expression.Expr.{Expr}
 use Rattle.ftl_syntax.specs.Trees as trees
 use Rattle.ftl_syntax.specs.Spelling.{SpellsExpr}
 use Rattle.ftl_syntax.specs.SumReading as reading
-use Rattle.ftl_syntax.specs.SumReading.{dot_name, read_by, read, comparator_by, comparator, group, plain_by, plain, pair, atom_by, atom, unary_by, unary, factor_by, factor, term, signed_by, signed, sum, comparison}
+use Rattle.ftl_syntax.specs.SumReading.{dot_name, read_by, read, comparator_by, comparator, group, plain_by, plain}
+use Rattle.ftl_syntax.specs.SumReading.{pair, atom_by, atom, unary_by, unary, factor_by, factor, term, signed_by}
+use Rattle.ftl_syntax.specs.SumReading.{signed, sum, comparison}
 use Rattle.ftl_syntax.proofs.Heads.{height, past_plain, past_paren, past_end_paren, past_name, past_number}
 use Rattle.ftl_syntax.proofs.Lengths.{some_factor, some_signed}
 use Rattle.ftl_syntax.proofs.SumTold.{factor_told, signed_told}

@@ -6,8 +6,10 @@ use Rattle.ftl_tokens.specs.declared.kind.Kind.{Kind}
 use Rattle.ftl_tokens.specs.declared.kind.Kind.TheVariants as kind
 use Rattle.ftl_tokens.specs.Tokenized.{name, fixed}
 use Rattle.ftl_reading.specs.Reader.{Tokens, Reader}
-use Rattle.ftl_reading.proofs.Told.{example, Told, ToldAt, bind_told, map_told, pure_told, refuse_told, wider_told, look_told, at_any}
-use Rattle.ftl_reading.proofs.TokenTold.{past_told, name_told, last_name_told, number_told, positive_told, end_told, skip_told}
+use Rattle.ftl_reading.proofs.Told.{example, Told, ToldAt, bind_told, map_told, pure_told, refuse_told, wider_told}
+use Rattle.ftl_reading.proofs.Told.{look_told, at_any}
+use Rattle.ftl_reading.proofs.TokenTold.{past_told, name_told, last_name_told, number_told, positive_told, end_told}
+use Rattle.ftl_reading.proofs.TokenTold.{skip_told}
 use Rattle.ftl_reading.proofs.ChainTold.{OrNone, chain_told, chain_spells}
 use Rattle.ftl_syntax.specs.declared.expression.Read.TheVariants as reads
 use Rattle.ftl_syntax.specs.declared.expression.Atom.{Atom}
@@ -18,10 +20,18 @@ use Rattle.ftl_syntax.specs.Trees.{NameText}
 use Rattle.ftl_syntax.specs.declared.expression.Factor.TheVariants as factors
 use Rattle.ftl_syntax.specs.declared.expression.Sum.{Sum}
 use Rattle.ftl_syntax.specs.declared.expression.Test.TheVariants as tests
-use Rattle.ftl_syntax.specs.Spelling.{SpellsRead, SpellsPlain, SpellsAtom, SpellsUnary, SpellsFactor, SpellsFactors, SpellsTerm, SpellsSignedTerm, SpellsSignedTerms, SpellsSum, SpellsTest, SpellsExpr, own, this, prev, of_child, less, less_eq, more, more_eq, equal, unequal, plain_number, plain_acc, plain_read, plain_group, plain_atom, least, greatest, last_or, unsigned, negative, times, over, no_factors, more_factors, term_of, plus, minus, no_terms, more_terms, sum_of, compared}
+use Rattle.ftl_syntax.specs.Spelling.{SpellsRead, SpellsPlain, SpellsAtom, SpellsUnary, SpellsFactor, SpellsFactors}
+use Rattle.ftl_syntax.specs.Spelling.{SpellsTerm, SpellsSignedTerm, SpellsSignedTerms, SpellsSum, SpellsTest}
+use Rattle.ftl_syntax.specs.Spelling.{SpellsExpr, own, this, prev, of_child, less, less_eq, more, more_eq, equal}
+use Rattle.ftl_syntax.specs.Spelling.{unequal, plain_number, plain_acc, plain_read, plain_group, plain_atom, least}
+use Rattle.ftl_syntax.specs.Spelling.{greatest, last_or, unsigned, negative, times, over, no_factors, more_factors}
+use Rattle.ftl_syntax.specs.Spelling.{term_of, plus, minus, no_terms, more_terms, sum_of, compared}
 use Rattle.ftl_syntax.specs.SumReading as reading
-use Rattle.ftl_syntax.specs.SumReading.{dot_name, read_by, read, comparator_by, comparator, group, plain_by, plain, pair, atom_by, atom, unary_by, unary, factor_by, factor, term, signed_by, signed, sum, comparison}
-use Rattle.ftl_syntax.proofs.Parts.{DotName, dot_name_of, Comparator, comparator_of, Grouped, grouped_of, Paired, paired_of, LastOr, last_or_of}
+use Rattle.ftl_syntax.specs.SumReading.{dot_name, read_by, read, comparator_by, comparator, group, plain_by, plain}
+use Rattle.ftl_syntax.specs.SumReading.{pair, atom_by, atom, unary_by, unary, factor_by, factor, term, signed_by}
+use Rattle.ftl_syntax.specs.SumReading.{signed, sum, comparison}
+use Rattle.ftl_syntax.proofs.Parts.{DotName, dot_name_of, Comparator, comparator_of, Grouped, grouped_of, Paired}
+use Rattle.ftl_syntax.proofs.Parts.{paired_of, LastOr, last_or_of}
 use Rattle.ftl_syntax.proofs.Examples.{zero_plain, zero_sum, zero_expr}
 
 -- ---- what the parts make

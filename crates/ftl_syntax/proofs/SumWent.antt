@@ -1,12 +1,14 @@
 -- Sums are read whole: `x_went` by the reader `x`.
-use Rattle.std.proofs.Common.{◌≡◌, ℕ, suc, ◌<◌, ◌≤◌, true, false, List, [], ◌∷◌, ◌++◌, Option, Some, None, refl, ap, append_assoc, arith}
+use Rattle.std.proofs.Common.{◌≡◌, ℕ, suc, ◌<◌, ◌≤◌, true, false, List, [], ◌∷◌, ◌++◌, Option, Some, None, refl, ap}
+use Rattle.std.proofs.Common.{append_assoc, arith}
 use Rattle.ftl_base.specs.declared.comparison.Cmp.{Cmp}
 use Rattle.ftl_tokens.specs.declared.kind.Kind.{Kind}
 use Rattle.ftl_tokens.specs.declared.kind.Kind.TheVariants as kind
 use Rattle.ftl_tokens.specs.Tokenized.{name, number, fixed}
 use Rattle.ftl_reading.specs.Reader.{Tokens, Reader, ◌>>=◌, ◌>>◌, ◌<$>◌, pure, next_kind, expect, push, chain_of}
 use Rattle.ftl_reading.proofs.ChainTold.{Chain, chain_none, chain_more}
-use Rattle.ftl_reading.proofs.Went.{got, Went, Complete, went_bind, went_map, went_pure, went_past, went_skip, went_name, went_number, went_positive, went_by, went_grouped}
+use Rattle.ftl_reading.proofs.Went.{got, Went, Complete, went_bind, went_map, went_pure, went_past, went_skip}
+use Rattle.ftl_reading.proofs.Went.{went_name, went_number, went_positive, went_by, went_grouped}
 use Rattle.ftl_reading.proofs.ChainWent.{CompleteItem, chain_follows, chain_went}
 use Rattle.ftl_syntax.specs.declared.expression.Atom.{Atom}
 use Rattle.ftl_syntax.specs.declared.expression.Atom.TheVariants as atoms
@@ -20,11 +22,18 @@ use Rattle.ftl_syntax.specs.declared.expression.Test.TheVariants as tests
 use Rattle.ftl_syntax.specs.declared.expression.Expr.{Expr}
 use Rattle.ftl_syntax.specs.Trees as trees
 use Rattle.ftl_syntax.specs.Trees.{NameText}
-use Rattle.ftl_syntax.specs.Spelling.{SpellsCmp, SpellsPlain, SpellsAtom, SpellsUnary, SpellsFactor, SpellsFactors, SpellsTerm, SpellsSignedTerm, SpellsSignedTerms, SpellsSum, SpellsExpr, plain_number, plain_acc, plain_read, plain_group, plain_atom, least, greatest, last_or, unsigned, negative, times, over, no_factors, more_factors, term_of, plus, minus, no_terms, more_terms, sum_of}
+use Rattle.ftl_syntax.specs.Spelling.{SpellsCmp, SpellsPlain, SpellsAtom, SpellsUnary, SpellsFactor, SpellsFactors}
+use Rattle.ftl_syntax.specs.Spelling.{SpellsTerm, SpellsSignedTerm, SpellsSignedTerms, SpellsSum, SpellsExpr}
+use Rattle.ftl_syntax.specs.Spelling.{plain_number, plain_acc, plain_read, plain_group, plain_atom, least, greatest}
+use Rattle.ftl_syntax.specs.Spelling.{last_or, unsigned, negative, times, over, no_factors, more_factors, term_of, plus}
+use Rattle.ftl_syntax.specs.Spelling.{minus, no_terms, more_terms, sum_of}
 use Rattle.ftl_syntax.specs.SumReading as reading
-use Rattle.ftl_syntax.specs.SumReading.{dot_name, read_by, read, comparator_by, comparator, group, plain_by, plain, pair, atom_by, atom, unary_by, unary, factor_by, factor, term, signed_by, signed, sum, comparison}
+use Rattle.ftl_syntax.specs.SumReading.{dot_name, read_by, read, comparator_by, comparator, group, plain_by, plain}
+use Rattle.ftl_syntax.specs.SumReading.{pair, atom_by, atom, unary_by, unary, factor_by, factor, term, signed_by}
+use Rattle.ftl_syntax.specs.SumReading.{signed, sum, comparison}
 use Rattle.ftl_syntax.proofs.Parts.{dot_name_of, Grouped, grouped_of, Paired, paired_of, LastOr, last_or_of}
-use Rattle.ftl_syntax.proofs.Heads.{level, Looser, form, height, past_plain, past_paren, past_end_paren, past_name, past_number}
+use Rattle.ftl_syntax.proofs.Heads.{level, Looser, form, height, past_plain, past_paren, past_end_paren, past_name}
+use Rattle.ftl_syntax.proofs.Heads.{past_number}
 use Rattle.ftl_syntax.proofs.ReadWent.{dot_name_went, read_went, comparator_went, comparator_looser}
 use Rattle.ftl_syntax.proofs.Begins.{read_begins, plain_begins, atom_begins}
 use Rattle.ftl_syntax.proofs.Lengths.{some_factor, some_signed}

@@ -1,5 +1,5 @@
--- How conditions and expressions are read, one token ahead. What stands between brackets is read by the parameters `expr`
--- and `cond`.
+-- How conditions and expressions are read, one token ahead. What stands between brackets is read by the parameters
+-- `expr` and `cond`.
 use Rattle.std.specs.Prelude.{ℕ, zero, suc, true, false, Bool, [], ◌∷◌, Option, Some, None}
 use Rattle.ftl_tokens.specs.declared.kind.Kind.{Kind}
 use Rattle.ftl_tokens.specs.declared.kind.Kind.TheVariants as kind

@@ -4,7 +4,8 @@ use Rattle.ftl_tokens.specs.declared.kind.Kind.{Kind}
 use Rattle.ftl_tokens.specs.declared.kind.Kind.TheVariants as kind
 use Rattle.ftl_reading.specs.declared.chain_item.ChainItem.{ChainItem}
 use Rattle.ftl_reading.specs.declared.chain_item.ChainItem.TheVariants.{Stop, Next, Last}
-use Rattle.ftl_reading.specs.Reader.{Reader, ◌>>=◌, ◌>>◌, ◌<$>◌, pure, next_kind, skip, expect, take_name, at_end, push, chain_of, until_of}
+use Rattle.ftl_reading.specs.Reader.{Reader, ◌>>=◌, ◌>>◌, ◌<$>◌, pure, next_kind, skip, expect, take_name, at_end, push}
+use Rattle.ftl_reading.specs.Reader.{chain_of, until_of}
 use Rattle.ftl_syntax.specs.declared.expression.Expr.{Expr}
 use Rattle.ftl_syntax.specs.declared.rules.Interface.{Interface}
 use Rattle.ftl_syntax.specs.declared.rules.Child.{Child}
@@ -155,6 +156,10 @@ module _ (expr : Reader Expr) where
 abbrev pub bracket_depth : ℕ
 bracket_depth = suc limit
 
+-- an expression in which at most 64 brackets are open
+abbrev pub any_expr : Reader Expr
+any_expr = reading.expr bracket_depth
+
 -- a whole grammar, in which at most 64 brackets are open
 unfoldable pub grammar : Reader Grammar
-grammar = grammar_level (reading.expr bracket_depth)
+grammar = grammar_level any_expr

@@ -46,8 +46,9 @@ pub data SpellsShown : Tokens → List NameText → Type 0 where
 
 -- interface = "interface" NAME "{" { ("inh"|"syn"|"input") names ";" } [ "show" names ";" ] "}"
 pub data SpellsInterface : Tokens → Interface → Type 0 where
-  interface_of : {n : NameText} {a b : Tokens} {xs : List AttrDecl} {ns : List NameText} → SpellsAttrs a xs → SpellsShown b ns
-      → SpellsInterface (fixed kind.Interface ∷ name n ∷ fixed kind.LeftBrace ∷ (a ++ (b ++ (fixed kind.RightBrace ∷ []))))
+  interface_of : {n : NameText} {a b : Tokens} {xs : List AttrDecl} {ns : List NameText}
+      → SpellsAttrs a xs → SpellsShown b ns → SpellsInterface
+      (fixed kind.Interface ∷ name n ∷ fixed kind.LeftBrace ∷ (a ++ (b ++ (fixed kind.RightBrace ∷ []))))
       (interface n xs ns)
 
 -- ("input"|"local") names ";", as in a class
@@ -65,10 +66,12 @@ pub data SpellsOwnAttrs : Tokens → List AttrDecl → Type 0 where
 
 -- child = NAME ":" NAME ";" | NAME ":" "[" NAME "]" ";"
 pub data SpellsChild : Tokens → Child → Type 0 where
-  single : {c n : NameText} → SpellsChild (name c ∷ fixed kind.Colon ∷ name n ∷ fixed kind.Semicolon ∷ []) (child c n false)
+  single : {c n : NameText}
+      → SpellsChild (name c ∷ fixed kind.Colon ∷ name n ∷ fixed kind.Semicolon ∷ []) (child c n false)
   list : {c n : NameText}
       → SpellsChild
-      (name c ∷ fixed kind.Colon ∷ fixed kind.LeftBracket ∷ name n ∷ fixed kind.RightBracket ∷ fixed kind.Semicolon ∷ [])
+      (name c ∷ fixed kind.Colon ∷ fixed kind.LeftBracket ∷ name n ∷ fixed kind.RightBracket ∷ fixed kind.Semicolon
+      ∷ [])
       (child c n true)
 
 -- { child }

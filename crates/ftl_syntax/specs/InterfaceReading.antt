@@ -2,7 +2,8 @@
 use Rattle.std.specs.Prelude.{true, false, List, [], ◌∷◌, ◌++◌, map, Option, Some, None}
 use Rattle.ftl_tokens.specs.declared.kind.Kind.{Kind}
 use Rattle.ftl_tokens.specs.declared.kind.Kind.TheVariants as kind
-use Rattle.ftl_reading.specs.Reader.{Reader, ◌>>=◌, ◌>>◌, ◌<$>◌, pure, next_kind, skip, expect, take_name, push, chain_of}
+use Rattle.ftl_reading.specs.Reader.{Reader, ◌>>=◌, ◌>>◌, ◌<$>◌, pure, next_kind, skip, expect, take_name, push}
+use Rattle.ftl_reading.specs.Reader.{chain_of}
 use Rattle.ftl_syntax.specs.declared.rules.AttrKind.{AttrKind}
 use Rattle.ftl_syntax.specs.declared.rules.AttrKind.TheVariants as attr
 use Rattle.ftl_syntax.specs.declared.rules.AttrDecl.{AttrDecl}

@@ -53,10 +53,12 @@ mutual
   pub data SpellsAtom : Tokens → Atom → Type 0 where
     plain_atom : {a : Tokens} {x : Atom} → SpellsPlain a x → SpellsAtom a x
     least : {a b : Tokens} {x y : Expr} → SpellsExpr a x → SpellsExpr b y
-        → SpellsAtom (fixed kind.Min ∷ fixed kind.LeftParen ∷ (a ++ (fixed kind.Comma ∷ (b ++ (fixed kind.RightParen ∷ [])))))
+        → SpellsAtom
+        (fixed kind.Min ∷ fixed kind.LeftParen ∷ (a ++ (fixed kind.Comma ∷ (b ++ (fixed kind.RightParen ∷ [])))))
         (atom.Least x y)
     greatest : {a b : Tokens} {x y : Expr} → SpellsExpr a x → SpellsExpr b y
-        → SpellsAtom (fixed kind.Max ∷ fixed kind.LeftParen ∷ (a ++ (fixed kind.Comma ∷ (b ++ (fixed kind.RightParen ∷ [])))))
+        → SpellsAtom
+        (fixed kind.Max ∷ fixed kind.LeftParen ∷ (a ++ (fixed kind.Comma ∷ (b ++ (fixed kind.RightParen ∷ [])))))
         (atom.Greatest x y)
     last_or : {c n : NameText} {a : Tokens} {x : Atom} → SpellsPlain a x
         → SpellsAtom (fixed kind.Last ∷ name c ∷ fixed kind.Dot ∷ name n ∷ fixed kind.Or ∷ a) (atom.LastOr c n x)
@@ -103,7 +105,8 @@ mutual
     grouped : {a : Tokens} {x : Cond} → SpellsCond a x
         → SpellsTest (fixed kind.LeftBracket ∷ (a ++ (fixed kind.RightBracket ∷ []))) (test.Group false x)
     negated : {a : Tokens} {x : Cond} → SpellsCond a x
-        → SpellsTest (fixed kind.Bang ∷ fixed kind.LeftBracket ∷ (a ++ (fixed kind.RightBracket ∷ []))) (test.Group true x)
+        → SpellsTest (fixed kind.Bang ∷ fixed kind.LeftBracket ∷ (a ++ (fixed kind.RightBracket ∷ [])))
+        (test.Group true x)
     compared : {a b : Tokens} {x y : Sum} {k : Kind} {c : Cmp} → SpellsSum a x → SpellsCmp k c → SpellsSum b y
         → SpellsTest (a ++ (fixed k ∷ b)) (test.Compare c x y)
 

@@ -4,7 +4,8 @@ use Rattle.ftl_base.specs.declared.comparison.Cmp.{Cmp}
 use Rattle.ftl_base.specs.declared.comparison.Cmp.TheVariants as cmp
 use Rattle.ftl_tokens.specs.declared.kind.Kind.{Kind}
 use Rattle.ftl_tokens.specs.declared.kind.Kind.TheVariants as kind
-use Rattle.ftl_reading.specs.Reader.{Reader, ◌>>=◌, ◌>>◌, ◌<$>◌, pure, refuse, next_kind, skip, expect, take_name, take_number, take_positive, push, chain_of}
+use Rattle.ftl_reading.specs.Reader.{Reader, ◌>>=◌, ◌>>◌, ◌<$>◌, pure, refuse, next_kind, skip, expect, take_name}
+use Rattle.ftl_reading.specs.Reader.{take_number, take_positive, push, chain_of}
 use Rattle.ftl_syntax.specs.declared.expression.Read.{Read}
 use Rattle.ftl_syntax.specs.declared.expression.Read.TheVariants as reads
 use Rattle.ftl_syntax.specs.declared.expression.Atom.{Atom}

@@ -12,7 +12,8 @@ ghost use Rattle.ftl_syntax.specs.declared.rules.Grammar.{Grammar};
 
 /// No tokens spell two grammars.
 pub fn one_grammar()
-    ensures { (tokens : Tokens) (g h : Grammar) → SpellsGrammar tokens g → SpellsGrammar tokens h → g ≡ h }
+    ensures { (tokens : Tokens) (g h : Grammar)
+        → SpellsGrammar tokens g → SpellsGrammar tokens h → g ≡ h }
 {}
 
 /// The tokens of a text go wrong at one byte at most.
@@ -21,14 +22,16 @@ pub fn one_place()
         → IsPlaceOf SpellsGrammar scanned other → at ≡ other }
 {}
 
-/// What the reader of grammars reads is spelled so, and what is spelled so is read, where the brackets
-/// aren't too deep. Where it refuses a token, no grammar is spelled, and the tokens go wrong there.
+/// What the reader of grammars reads is spelled so, and what is spelled so is read, where the
+/// brackets aren't too deep. Where it refuses a token, no grammar is spelled, and the tokens go
+/// wrong there.
 pub fn reads_grammars()
-    ensures read { (tokens left : Tokens) (g : Grammar) → grammar tokens ≡ Ok (g, left) → SpellsGrammar tokens g }
+    ensures read { (tokens left : Tokens) (g : Grammar)
+        → grammar tokens ≡ Ok (g, left) → SpellsGrammar tokens g }
     ensures spelled { (tokens : Tokens) (g : Grammar) → IsShallow brackets limit tokens
         → SpellsGrammar tokens g → grammar tokens ≡ Ok (g, []) }
-    ensures refused { (tokens rest : Tokens) → IsShallow brackets limit tokens → grammar tokens ≡ Err rest
-        → (g : Grammar) → SpellsGrammar tokens g → ⊥ }
-    ensures place { (tokens rest : Tokens) → IsShallow brackets limit tokens → grammar tokens ≡ Err rest
-        → LongestFront SpellsGrammar tokens rest }
+    ensures refused { (tokens rest : Tokens) → IsShallow brackets limit tokens
+        → grammar tokens ≡ Err rest → (g : Grammar) → SpellsGrammar tokens g → ⊥ }
+    ensures place { (tokens rest : Tokens) → IsShallow brackets limit tokens
+        → grammar tokens ≡ Err rest → LongestFront SpellsGrammar tokens rest }
 {}

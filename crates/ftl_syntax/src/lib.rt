@@ -1,8 +1,8 @@
 //! The syntax of grammar texts: the syntax trees, form by form, and which tokens spell which tree.
-//! The relations stand in `specs/Spelling.antt` and `specs/GrammarSpelling.antt`, a line of the syntax
-//! each. What a reader does, token by token, stands in `specs/SumReading.antt`,
-//! `ExpressionReading.antt`, `InterfaceReading.antt` and `GrammarReading.antt`; laws in `src/laws.rt`
-//! lead from the one to the other.
+//! The relations stand in `specs/Spelling.antt` and `specs/GrammarSpelling.antt`, a line of the
+//! syntax each. What a reader does, token by token, stands in `specs/SumReading.antt`,
+//! `ExpressionReading.antt`, `InterfaceReading.antt` and `GrammarReading.antt`; laws in
+//! `src/laws.rt` lead from the one to the other.
 #![tactic(auto)]
 
 mod expression;

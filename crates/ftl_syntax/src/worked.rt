@@ -2,7 +2,9 @@
 
 ghost use Rattle.ftl_reading.specs.Place.{IsPlaceOf};
 ghost use Rattle.ftl_syntax.specs.GrammarSpelling.{SpellsRule, SpellsGrammar};
-ghost use Rattle.ftl_syntax.specs.Worked.{first_then_tokens, first_then_rule, fold_tokens, fold_rule, sum_tokens, sum_rule, choice_tokens, choice_rule, root_without_name, root_alone, no_tokens};
+ghost use Rattle.ftl_syntax.specs.Worked.{first_then_tokens, first_then_rule, fold_tokens};
+ghost use Rattle.ftl_syntax.specs.Worked.{fold_rule, sum_tokens, sum_rule, choice_tokens};
+ghost use Rattle.ftl_syntax.specs.Worked.{choice_rule, root_without_name, root_alone, no_tokens};
 
 /// A law: the tokens of four rules spell the syntax trees that were typed out for them.
 pub fn worked_rules()
@@ -12,8 +14,8 @@ pub fn worked_rules()
     ensures choice { SpellsRule choice_tokens choice_rule }
 {}
 
-/// A law: where three texts that spell no grammar go wrong: at the token after the longest front, at
-/// the end of the last token, and at 0 where there is none.
+/// A law: where three texts that spell no grammar go wrong: at the token after the longest front,
+/// at the end of the last token, and at 0 where there is none.
 pub fn worked_places()
     ensures next { IsPlaceOf SpellsGrammar root_without_name 5 }
     ensures end { IsPlaceOf SpellsGrammar root_alone 5 }

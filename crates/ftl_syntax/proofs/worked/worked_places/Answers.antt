@@ -57,7 +57,11 @@ returns-clause-start c = record {
   wrong = record {
     front = [];
     split = refl;
-    begins = record { more = fixed kind.Root ∷ name [] ∷ fixed kind.Semicolon ∷ []; value = trees.grammar [] [] []; spells = shortest };
+    begins = record {
+      more = fixed kind.Root ∷ name [] ∷ fixed kind.Semicolon ∷ [];
+      value = trees.grammar [] [] [];
+      spells = shortest;
+    };
     longest = λ t more e begins. absurd (let two : [] ≡ t ∷ more = e in cc);
   };
   place = refl;

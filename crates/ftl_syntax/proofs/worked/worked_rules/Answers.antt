@@ -3,7 +3,11 @@ use Rattle.std.proofs.Common.{[], ◌++◌, arith}
 use Rattle.ftl_reading.specs.Reader.{Tokens}
 use Rattle.ftl_syntax.specs.declared.expression.Atom.{Atom}
 use Rattle.ftl_syntax.specs.declared.expression.Expr.TheVariants as exprs
-use Rattle.ftl_syntax.specs.Spelling.{own, this, prev, less_eq, equal, unequal, plain_number, plain_acc, plain_read, plain_group, SpellsAtom, plain_atom, greatest, last_or, unsigned, negative, SpellsTerm, term_of, no_factors, more_factors, times, over, SpellsSum, sum_of, no_terms, more_terms, plus, minus, negated, compared, conj_of, no_tests, more_tests, cond_of, no_conjs, more_conjs, SpellsExpr, plain_sum, if_then_else}
+use Rattle.ftl_syntax.specs.Spelling.{own, this, prev, less_eq, equal, unequal, plain_number, plain_acc, plain_read}
+use Rattle.ftl_syntax.specs.Spelling.{plain_group, SpellsAtom, plain_atom, greatest, last_or, unsigned, negative}
+use Rattle.ftl_syntax.specs.Spelling.{SpellsTerm, term_of, no_factors, more_factors, times, over, SpellsSum, sum_of}
+use Rattle.ftl_syntax.specs.Spelling.{no_terms, more_terms, plus, minus, negated, compared, conj_of, no_tests}
+use Rattle.ftl_syntax.specs.Spelling.{more_tests, cond_of, no_conjs, more_conjs, SpellsExpr, plain_sum, if_then_else}
 use Rattle.ftl_syntax.specs.GrammarSpelling.{fold, own_plain, first_then, own_rule, child_rule}
 use Rattle.ftl_syntax.specs.Worked.{lone, alone}
 use Rattle.ftl_syntax.proofs.worked.worked_rules.Goals as goal
@@ -24,7 +28,8 @@ pub returns-clause-first_then : goal.returns-clause-first_then
 returns-clause-first_then c =
     child_rule
     (first_then (an_expr (plain_atom (plain_read own)))
-    (plain_sum (sum_of (a_term (plain_atom (plain_read prev))) (more_terms (plus (a_term (plain_atom (plain_read prev)))) no_terms))))
+    (plain_sum (sum_of (a_term (plain_atom (plain_read prev)))
+    (more_terms (plus (a_term (plain_atom (plain_read prev)))) no_terms))))
 
 pub returns-clause-fold : goal.returns-clause-fold
 returns-clause-fold c =
