@@ -1,10 +1,10 @@
 -- The chain is lawful work, and what its functions are.
-use Rattle.std.proofs.Common.{◌≡◌, ◌≢◌, ℕ, zero, suc, ◌+◌, ◌-◌, ◌^◌, ◌<◌, ◌⊎◌, inl, inr, subst, refl, sym, ap, ◌∙◌, arith, List, [], ◌∷◌, get_or, map}
-use Rattle.std.specs.Prelude.{min, pos, replicate}
+use Rattle.std.proofs.Common.{◌≡◌, ◌≢◌, ℕ, zero, suc, ◌+◌, ◌-◌, ◌^◌, ◌<◌, ◌⊎◌, inl, inr, subst, refl, sym, ap, ◌∙◌, arith, List, [], ◌∷◌, get_or, map, pos}
+use Rattle.std.specs.Prelude.{min, replicate}
 use Rattle.std.proofs.lemmas.Int.{ints}
 use Rattle.std.proofs.lemmas.Bool.Decides.{nat_tests}
 use Rattle.std.proofs.lemmas.List.{get_or-replicate, length-replicate}
-use Rattle.ftl_model.specs.Values.{Value, number, sum_of, value_of, word_of_value}
+use Rattle.ftl_model.specs.Values.{Value, narrow, number, sum_of, value_of, word_of_value}
 use Rattle.ftl_cells.specs.Count.{Counts, at_zero, counts_it}
 use Rattle.ftl_cells.specs.Work.{cell_total, kind_at, solution_at, item_total, pred_total, next_total, next_at, step_total, target_of, read_total, read_of, solved_reads, solved_word, IsStepOfItem, IsLawfulWork}
 use Rattle.ftl_cells.specs.State.{AreFirst, first_word_of}
@@ -112,13 +112,13 @@ pub chain_room : (n : ℕ) → (listed (chain n)).max_stack ≡ 0
 unfolding listed
 chain_room n = refl
 
-value_in_range : (k : ℕ) → k < 300 → value_of (pos k) ≡ number (pos k)
+value_in_range : (k : ℕ) → k < 300 → value_of narrow (pos k) ≡ number (pos k)
 value_in_range k h = grind (arith, nat_tests)
 
 -- a step over the solution's value gives the next value
 pub chain_result : (n i j : ℕ) (a : Value) (reads : List Value) → n < 2 ^ 8 → IsStepOfItem (listed (chain n)) i j
     → a ≡ get_or reads 0 a → reads ≡ solved_reads (listed (chain n)) i j
-    → sum_of a (number (pos 1)) ≡ solution_at (listed (chain n)) (target_of (listed (chain n)) i j)
+    → sum_of narrow a (number (pos 1)) ≡ solution_at (listed (chain n)) (target_of (listed (chain n)) i j)
 chain_result n i j a reads few st one all =
     let st' = has_step (chain n) i j st in
     let l : i < n = st'.item in
@@ -126,9 +126,9 @@ chain_result n i j a reads few st one all =
     (reads_of_step-listed (chain n) i j st') in
     let is : a ≡ number (pos i) = one ∙ ap (λ xs. get_or xs 0 a) read ∙ solution_at-listed (chain n) i
     (omega arith) in
-    let sum : sum_of (number (pos i)) (number (pos 1)) ≡ number (pos (i + 1)) = value_in_range (i + 1)
+    let sum : sum_of narrow (number (pos i)) (number (pos 1)) ≡ number (pos (i + 1)) = value_in_range (i + 1)
     (omega arith) in
-    ap (λ x. sum_of x (number (pos 1))) is ∙ sum ∙ sym (solution_at-listed (chain n) (i + 1) (omega arith)) ∙ ap
+    ap (λ x. sum_of narrow x (number (pos 1))) is ∙ sum ∙ sym (solution_at-listed (chain n) (i + 1) (omega arith)) ∙ ap
     (solution_at (listed (chain n))) (sym (target_of-listed (chain n) i j st'))
 
 first_is : (n c : ℕ) → c < n + 1

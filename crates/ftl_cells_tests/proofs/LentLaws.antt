@@ -4,7 +4,7 @@ use Rattle.std.specs.Prelude.{min, pos, replicate}
 use Rattle.std.proofs.lemmas.Int.{ints}
 use Rattle.std.proofs.lemmas.Bool.Decides.{nat_tests}
 use Rattle.std.proofs.lemmas.List.{get_or-replicate, length-replicate}
-use Rattle.ftl_model.specs.Values.{Value, number, value_of}
+use Rattle.ftl_model.specs.Values.{Value, number, value_of, wide}
 use Rattle.ftl_cells.specs.Work.{cell_total, kind_at, solution_at, item_total, pred_total, next_total, step_total, target_of, read_total, solved_word, IsStepOfItem, IsLawfulWork}
 use Rattle.ftl_cells.specs.State.{live, AreFirst, first_word_of}
 use Rattle.ftl_cells.specs.Calls.{CanFill}
@@ -94,9 +94,9 @@ lent_first xs words e = subst (AreFirst (listed (lent xs))) (sym e) (record {
 })
 
 -- a number of one byte is a value
-pub byte_value : (n : ℕ) (v : Value) → n < 2 ^ 8 → v ≡ value_of (pos n) → v ≡ number (pos (min 255 n))
+pub byte_value : (n : ℕ) (v : Value) → n < 2 ^ 8 → v ≡ value_of wide (pos n) → v ≡ number (pos (min 255 n))
 byte_value n v small e =
-    let is : value_of (pos n) ≡ number (pos n) = grind (arith, nat_tests) in
+    let is : value_of wide (pos n) ≡ number (pos n) = grind (arith, nat_tests) in
     let same : n ≡ min 255 n = omega arith in
     e ∙ is ∙ ap (λ x. number (pos x)) same
 

@@ -1,5 +1,6 @@
 -- Chains look one token ahead where their items do.
-use Rattle.std.proofs.Common.{◌≡◌, ℕ, zero, suc, ◌+◌, ◌<◌, ◌≤◌, [], ◌∷◌, ◌++◌, length, Option, Some, None, Ok, Err, sym, refl, ap, ◌∙◌, subst, length-append, arith}
+use Rattle.std.proofs.Common.{◌≡◌, ℕ, zero, suc, ◌+◌, ◌<◌, ◌≤◌, [], ◌∷◌, ◌++◌, length, Option, Some, None, Ok, Err}
+use Rattle.std.proofs.Common.{sym, refl, ap, ◌∙◌, subst, length-append, arith}
 use Rattle.ftl_reading.specs.Reader.{Tokens, ReadResult, Reader, and_then, go_on, chain, chain_of}
 use Rattle.ftl_reading.proofs.Told.{Taken, Tells, Told}
 use Rattle.ftl_reading.proofs.ChainTold.{OrNone}

@@ -1,5 +1,6 @@
 -- What chains of items tell.
-use Rattle.std.proofs.Common.{◌≡◌, ℕ, zero, suc, List, [], ◌∷◌, ◌++◌, length, Option, Some, None, sym, ◌∙◌, subst, append_assoc, append-nil}
+use Rattle.std.proofs.Common.{◌≡◌, ℕ, zero, suc, List, [], ◌∷◌, ◌++◌, length, Option, Some, None, sym, ◌∙◌, subst}
+use Rattle.std.proofs.Common.{append_assoc, append-nil}
 use Rattle.ftl_reading.specs.declared.chain_item.ChainItem.{ChainItem}
 use Rattle.ftl_reading.specs.declared.chain_item.ChainItem.TheVariants.{Stop, Next, Last}
 use Rattle.ftl_reading.specs.Reader.{Tokens, Reader, push, go_on, go_until, chain, chain_of, until, until_of}

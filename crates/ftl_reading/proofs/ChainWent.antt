@@ -1,5 +1,6 @@
 -- Chains of items are read whole.
-use Rattle.std.proofs.Common.{◌≡◌, ℕ, zero, suc, ◌<◌, ◌≤◌, ◌++◌, length, Option, Some, None, sym, subst, append_assoc, length-append, arith}
+use Rattle.std.proofs.Common.{◌≡◌, ℕ, zero, suc, ◌<◌, ◌≤◌, ◌++◌, length, Option, Some, None, sym, subst, append_assoc}
+use Rattle.std.proofs.Common.{length-append, arith}
 use Rattle.ftl_reading.specs.Reader.{Tokens, Reader, go_on, chain, chain_of}
 use Rattle.ftl_reading.proofs.ChainTold.{Chain, none, more}
 use Rattle.ftl_reading.proofs.Went.{got, Went, went_bind, went_pure, went_at}

@@ -1,5 +1,6 @@
 -- How many brackets are open, by the most that are open at once.
-use Rattle.std.proofs.Common.{◌≡◌, ℕ, zero, suc, ◌+◌, ◌-◌, ◌≤◌, Bool, true, false, cond, if◌then◌else◌, [], ◌∷◌, ◌++◌, refl, ap, ◌∙◌, zero-le, arith}
+use Rattle.std.proofs.Common.{◌≡◌, ℕ, zero, suc, ◌+◌, ◌-◌, ◌≤◌, Bool, true, false, cond, if◌then◌else◌, [], ◌∷◌, ◌++◌}
+use Rattle.std.proofs.Common.{refl, ap, ◌∙◌, zero-le, arith}
 use Rattle.std.proofs.lemmas.List.Sums.{sum_by-cons}
 use Rattle.ftl_tokens.specs.Tokenized.{Symbol}
 use Rattle.ftl_reading.specs.Reader.{Tokens}

@@ -1,14 +1,18 @@
 -- The list of symbols from a place on, by the token that stands there.
-use Rattle.std.proofs.Common.{◌≡◌, ℕ, zero, suc, ◌+◌, ◌-◌, ◌<◌, ◌≤◌, List, [], ◌∷◌, length, drop, slice_get, IsSomeAnd, IfSome, option_map, Option, Some, None, refl, sym, ap, ◌∙◌, arith, add-one, suc-add, inl, inr, get_or, drop-cons}
+use Rattle.std.proofs.Common.{◌≡◌, ℕ, zero, suc, ◌+◌, ◌-◌, ◌<◌, ◌≤◌, List, [], ◌∷◌, length, drop, slice_get}
+use Rattle.std.proofs.Common.{IsSomeAnd, IfSome, option_map, Option, Some, None, refl, sym, ap, ◌∙◌, arith, add-one}
+use Rattle.std.proofs.Common.{suc-add, inl, inr, get_or, drop-cons}
 use Rattle.ftl_tokens.proofs.TokenLemmas.{symbols_of-get}
 use Rattle.std.proofs.lemmas.Bool.{cases_lt}
 use Rattle.std.proofs.Math.Seq.{drop-nil}
-use Rattle.std.proofs.lemmas.Option.{slice_get_past, slice_get-map, slice_get-get_or, get_or_from_slice_get, slice_get_within}
+use Rattle.std.proofs.lemmas.Option.{slice_get_past, slice_get-map, slice_get-get_or, get_or_from_slice_get}
+use Rattle.std.proofs.lemmas.Option.{slice_get_within}
 use Rattle.ftl_tokens.specs.declared.kind.Kind.{Kind}
 use Rattle.ftl_tokens.specs.declared.kind.Kind.TheVariants.{Name, Number}
 use Rattle.ftl_tokens.specs.declared.kind.Kind.TheVariants as kinds
 use Rattle.ftl_tokens.specs.declared.kind.Token.{Token}
-use Rattle.ftl_tokens.specs.Tokenized.{Tokenized, symbol, symbol_of, symbols_of, token_text, name, number, kind_of_symbol}
+use Rattle.ftl_tokens.specs.Tokenized.{Tokenized, symbol, symbol_of, symbols_of, token_text, name, number}
+use Rattle.ftl_tokens.specs.Tokenized.{kind_of_symbol}
 use Rattle.ftl_reading.specs.Place.{place_of, byte_at}
 use Rattle.ftl_reading.specs.Reader.{Tokens, next_kind, rest_of}
 

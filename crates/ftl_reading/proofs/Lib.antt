@@ -16,7 +16,7 @@ pub mod Fronts
 pub mod DepthOnce
 pub mod WholeLists
 pub mod InputLemmas
-pub mod StepLemmas
+pub mod Steps
 pub mod ShallowLemmas
 pub mod TurnLemmas
 pub mod NarrowLemmas

@@ -1,12 +1,12 @@
 -- The numbers of tokens that are left are at most the greatest one of all.
-use Rattle.std.proofs.Common.{◌≡◌, ℕ, zero, suc, false, ◌≤◌, ◌⊎◌, inl, inr, List, [], ◌∷◌, map, Ok, sym, ap, subst, arith}
+use Rattle.std.proofs.Common.{◌≡◌, ℕ, zero, suc, false, ◌≤◌, inl, inr, List, [], ◌∷◌, map, Ok, sym, ap, subst}
 use Rattle.std.specs.Str.Parse.{digits_value}
 use Rattle.std.proofs.lemmas.Bool.{ltb-false}
 use Rattle.ftl_tokens.specs.declared.kind.Kind.{Kind}
 use Rattle.ftl_tokens.specs.declared.kind.Kind.TheVariants.{Name, Number}
 use Rattle.ftl_tokens.specs.declared.kind.Token.{Token}
 use Rattle.ftl_tokens.specs.Scan.{is_too_large}
-use Rattle.ftl_tokens.specs.Tokenized.{AreTokensOf, token_text, Symbol, name, number, fixed, symbol, symbol_of}
+use Rattle.ftl_tokens.specs.Tokenized.{AreTokensOf, token_text, name, number, fixed, symbol, symbol_of}
 use Rattle.ftl_reading.specs.Reader.{Tokens, ReadResult, rest_of, take_number, take_positive, TakesAtMostOne, AreAtMost}
 
 at_most-symbol : (greatest : ℕ) (kind : Kind) (text : List ℕ) (ts : Tokens) → is_too_large greatest kind text ≡ false

@@ -1,6 +1,7 @@
 -- Where tokens go wrong: the reader's refused token stands behind the longest front that begins tokens which spell a
 -- value.
-use Rattle.std.proofs.Common.{◌≡◌, ℕ, suc, ◌-◌, ◌<◌, [], ◌∷◌, ◌++◌, length, Err, sym, refl, ap, ◌∙◌, subst, append_assoc, length-append, arith}
+use Rattle.std.proofs.Common.{◌≡◌, ℕ, suc, ◌-◌, ◌<◌, [], ◌∷◌, ◌++◌, length, Err, sym, refl, ap, ◌∙◌, subst}
+use Rattle.std.proofs.Common.{append_assoc, length-append, arith}
 use Rattle.std.proofs.lemmas.List.{length-map}
 use Rattle.ftl_tokens.specs.Tokenized.{Tokenized, symbol_of, symbols_of}
 use Rattle.ftl_reading.specs.Reader.{Tokens, Reader}

@@ -1,12 +1,17 @@
 -- The readers of one token look at that token alone.
-use Rattle.std.proofs.Common.{◌≡◌, ℕ, ◌<◌, List, [], ◌∷◌, ◌++◌, length, Option, Some, None, sym, refl, ap, ◌∙◌, subst, length-append, arith}
+use Rattle.std.proofs.Common.{◌≡◌, ℕ, ◌<◌, List, [], ◌∷◌, ◌++◌, length, Option, Some, None, sym, refl, ap, ◌∙◌, subst}
+use Rattle.std.proofs.Common.{length-append, arith}
 use Rattle.std.proofs.lemmas.List.{append_cancel_right}
 use Rattle.ftl_tokens.specs.declared.kind.Kind.{Kind}
 use Rattle.ftl_tokens.specs.Tokenized.{Symbol, name, number, fixed}
-use Rattle.ftl_reading.specs.Reader.{Tokens, Reader, and_then, ◌>>=◌, ◌>>◌, next_kind, IsFixed, rest_of, skip, expect, take_name, take_number, take_positive, at_end}
-use Rattle.ftl_reading.proofs.TokenLemmas.{IsToken, token, token_by, from_fixed, from_name, from_number, from_positive, expect_is_token, name_is_token, number_is_token, positive_is_token, next_fixed}
+use Rattle.ftl_reading.specs.Reader.{Tokens, Reader, and_then, ◌>>=◌, ◌>>◌, next_kind, IsFixed, rest_of, skip, expect}
+use Rattle.ftl_reading.specs.Reader.{take_name, take_number, take_positive, at_end}
+use Rattle.ftl_reading.proofs.TokenLemmas.{IsToken, token, token_by, from_fixed, from_name, from_number}
+use Rattle.ftl_reading.proofs.TokenLemmas.{from_positive, expect_is_token, name_is_token, number_is_token}
+use Rattle.ftl_reading.proofs.TokenLemmas.{positive_is_token, next_fixed}
 use Rattle.ftl_reading.proofs.Went.{got, expect_at}
-use Rattle.ftl_reading.proofs.Alike.{first_of, same_first, kind_by_first, left, with_left, Ends, Alike, AlikeAt, bind_alike}
+use Rattle.ftl_reading.proofs.Alike.{first_of, same_first, kind_by_first, left, with_left, Ends, Alike, AlikeAt}
+use Rattle.ftl_reading.proofs.Alike.{bind_alike}
 
 not_longer : {X : Type 0} (t : X) (front rest : List X) → front ++ rest ≡ rest → front ≡ []
 not_longer t front rest e = append_cancel_right front [] rest e

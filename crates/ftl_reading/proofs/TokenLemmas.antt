@@ -1,11 +1,13 @@
 -- The readers of one token.
-use Rattle.std.proofs.Common.{◌≡◌, ℕ, zero, suc, ◌<◌, Bool, true, false, if◌then◌else◌, List, [], ◌∷◌, Option, Some, None, Ok, Err, refl, ap, subst, arith}
+use Rattle.std.proofs.Common.{◌≡◌, ℕ, zero, suc, ◌<◌, Bool, true, false, if◌then◌else◌, List, [], ◌∷◌, Option, Some}
+use Rattle.std.proofs.Common.{None, Ok, Err, refl, ap, subst, arith}
 use denote.Enum.Bare.{same_true, true_same}
 use Rattle.ftl_tokens.specs.declared.kind.Kind.{Kind}
 use Rattle.ftl_tokens.specs.declared.kind.Kind.TheVariants as k
 use Rattle.ftl_tokens.specs.contracts.kind.Kind.{the_type}
 use Rattle.ftl_tokens.specs.Tokenized.{Symbol, name, number, fixed}
-use Rattle.ftl_reading.specs.Reader.{Tokens, ReadResult, Reader, same_kind, rest_of, next_kind, IsFixed, is_at, expect, take_name, take_number, take_positive}
+use Rattle.ftl_reading.specs.Reader.{Tokens, ReadResult, Reader, same_kind, rest_of, next_kind, IsFixed, is_at}
+use Rattle.ftl_reading.specs.Reader.{expect, take_name, take_number, take_positive}
 
 -- the answer, by what is taken of the next token
 abbrev pub token_by : {A : Type 0} → Option A → Symbol → Tokens → ReadResult A

@@ -2,9 +2,13 @@
 use Rattle.std.proofs.Common.{◌≡◌, ℕ, ◌<◌, List, [], ◌∷◌, Option, Some, None, Err, sym, refl, ap, ◌∙◌, subst}
 use Rattle.ftl_tokens.specs.declared.kind.Kind.{Kind}
 use Rattle.ftl_tokens.specs.Tokenized.{Symbol, name, number, fixed}
-use Rattle.ftl_reading.specs.Reader.{Tokens, Reader, ◌>>=◌, ◌>>◌, rest_of, IsFixed, skip, expect, take_name, take_number, take_positive, at_end, pure}
-use Rattle.ftl_reading.proofs.Told.{Example, example, After, Tells, Told, ToldAt, bind_told, pure_told, wider_told, tells_after}
-use Rattle.ftl_reading.proofs.TokenLemmas.{IsToken, token, token_by, expect_is_token, name_is_token, number_is_token, positive_is_token, from_fixed, takes_fixed-same, from_name, from_number, from_positive, some_positive, next_fixed}
+use Rattle.ftl_reading.specs.Reader.{Tokens, Reader, ◌>>=◌, ◌>>◌, rest_of, IsFixed, skip, expect, take_name}
+use Rattle.ftl_reading.specs.Reader.{take_number, take_positive, at_end, pure}
+use Rattle.ftl_reading.proofs.Told.{Example, example, After, Tells, Told, ToldAt, bind_told, pure_told, wider_told}
+use Rattle.ftl_reading.proofs.Told.{tells_after}
+use Rattle.ftl_reading.proofs.TokenLemmas.{IsToken, token, token_by, expect_is_token, name_is_token, number_is_token}
+use Rattle.ftl_reading.proofs.TokenLemmas.{positive_is_token, from_fixed, takes_fixed-same, from_name, from_number}
+use Rattle.ftl_reading.proofs.TokenLemmas.{from_positive, some_positive, next_fixed}
 
 -- one token, and what is taken of it
 pub record IsOne {A : Type 0} (takes : Symbol → Option A) (a : Tokens) (x : A) : Type 0 where

@@ -1,5 +1,6 @@
 -- Chains that another thing may end look one token ahead where their items do.
-use Rattle.std.proofs.Common.{◌≡◌, ℕ, zero, suc, ◌+◌, ◌<◌, ◌≤◌, [], ◌∷◌, ◌++◌, length, Option, None, Ok, Err, sym, refl, ap, ◌∙◌, subst, length-append, arith}
+use Rattle.std.proofs.Common.{◌≡◌, ℕ, zero, suc, ◌+◌, ◌<◌, ◌≤◌, [], ◌∷◌, ◌++◌, length, Option, None, Ok, Err, sym}
+use Rattle.std.proofs.Common.{refl, ap, ◌∙◌, subst, length-append, arith}
 use Rattle.ftl_reading.specs.declared.chain_item.ChainItem.{ChainItem}
 use Rattle.ftl_reading.specs.declared.chain_item.ChainItem.TheVariants.{Stop, Next, Last}
 use Rattle.ftl_reading.specs.Reader.{Tokens, ReadResult, Reader, and_then, go_until, until, until_of}

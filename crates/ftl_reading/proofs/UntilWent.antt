@@ -1,5 +1,6 @@
 -- Chains that another thing may end are read whole.
-use Rattle.std.proofs.Common.{◌≡◌, ℕ, zero, suc, ◌<◌, ◌≤◌, ◌++◌, length, Option, Some, None, sym, subst, append_assoc, length-append, arith}
+use Rattle.std.proofs.Common.{◌≡◌, ℕ, zero, suc, ◌<◌, ◌≤◌, ◌++◌, length, Option, Some, None, sym, subst, append_assoc}
+use Rattle.std.proofs.Common.{length-append, arith}
 use Rattle.ftl_reading.specs.declared.chain_item.ChainItem.{ChainItem}
 use Rattle.ftl_reading.specs.declared.chain_item.ChainItem.TheVariants.{Stop, Next, Last}
 use Rattle.ftl_reading.specs.Reader.{Tokens, Reader, go_until, until, until_of}

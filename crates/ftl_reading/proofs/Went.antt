@@ -2,7 +2,8 @@
 use Rattle.std.proofs.Common.{◌≡◌, ℕ, zero, suc, ◌<◌, List, ◌∷◌, ◌++◌, Ok, Option, refl, ap, ◌∙◌, subst, arith}
 use Rattle.ftl_tokens.specs.declared.kind.Kind.{Kind}
 use Rattle.ftl_tokens.specs.Tokenized.{Symbol, name, number, fixed}
-use Rattle.ftl_reading.specs.Reader.{Tokens, ReadResult, Reader, and_then, ◌>>=◌, ◌>>◌, pure, next_kind, rest_of, skip, expect, take_name, take_number, take_positive}
+use Rattle.ftl_reading.specs.Reader.{Tokens, ReadResult, Reader, and_then, ◌>>=◌, ◌>>◌, pure, next_kind, rest_of}
+use Rattle.ftl_reading.specs.Reader.{skip, expect, take_name, take_number, take_positive}
 use Rattle.ftl_reading.proofs.TokenLemmas.{token_by, takes_fixed-same, expect_is_token}
 
 -- the answer that this value was read

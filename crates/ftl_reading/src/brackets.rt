@@ -16,7 +16,8 @@ pub fn first_too_deep_in(
     closing: &[Kind],
     limit: usize,
 ) -> Option<u32>
-    ensures first { MatchOption result (IsShallow (brackets_of opening.now closing.now) limit (symbols_of scanned.now))
+    ensures first { MatchOption result
+        (IsShallow (brackets_of opening.now closing.now) limit (symbols_of scanned.now))
         (λ at. IsTooDeepAt (brackets_of opening.now closing.now) limit scanned.now at) }
 {
     let mut opened = 0;
@@ -38,7 +39,8 @@ pub fn first_too_deep(
     closing: &[Kind],
     limit: usize,
 ) -> Option<u32>
-    ensures first { MatchOption result (IsShallow (brackets_of opening.now closing.now) limit (symbols_of scanned.now))
+    ensures first { MatchOption result
+        (IsShallow (brackets_of opening.now closing.now) limit (symbols_of scanned.now))
         (λ at. IsTooDeepAt (brackets_of opening.now closing.now) limit scanned.now at) }
 {
     first_too_deep_in(scanned.tokenized(), opening, closing, limit)

@@ -5,8 +5,8 @@ ghost use Rattle.ftl_reading.specs.Place.{place_of};
 
 use ftl_tokens::{Scanned, TokenizedText};
 
-/// The byte at which the last `left` tokens of the text begin. Where there are none, it is the end of
-/// the last token, or 0 where the text has no token.
+/// The byte at which the last `left` tokens of the text begin. Where there are none, it is the end
+/// of the last token, or 0 where the text has no token.
 pub fn place_in(scanned: &TokenizedText, left: usize) -> u32
     ensures place { result ≡ place_of scanned.now.tokens (length scanned.now.tokens - left) }
 {

@@ -84,7 +84,8 @@ impl<'a> Input<'a> {
 
     /// Takes a name, and lends its text. No memory is taken, so there is no other fault.
     pub fn name_text(&mut self) -> Result<&'a str, ReadFault>
-        ensures reads { MatchResult result (λ text. spec.take_name self.old ≡ Ok (text.now, self.new))
+        ensures reads { MatchResult result
+            (λ text. spec.take_name self.old ≡ Ok (text.now, self.new))
             (λ _. spec.take_name self.old ≡ Err self.new) }
     {
         self.wide.name_text()

@@ -1,7 +1,8 @@
 //! What readers of token lists share. A reader takes tokens from the front of a list and gives a
-//! value, or refuses at a token: `specs/Reader.antt` has the readers that all others are made of, and
-//! `Input` is the cursor that code reads with. `specs/Depth.antt` says how many brackets are open at a
-//! token, and `specs/Place.antt` where tokens go wrong, for any relation that says what they spell.
+//! value, or refuses at a token: `specs/Reader.antt` has the readers that all others are made of.
+//! `Input` is the cursor that code reads with, and `WideInput` the one for documents, whose numbers
+//! are wider. `specs/Depth.antt` says how many brackets are open at a token, and `specs/Place.antt`
+//! where tokens go wrong, for any relation that says what they spell.
 #![tactic(auto)]
 
 mod brackets;

@@ -42,7 +42,10 @@ fn a_refusal_takes_no_token(rt: HostRuntime) -> Result<(), Fail> {
 fn documents_have_wide_numbers(rt: HostRuntime) -> Result<(), Fail> {
     let text = String::from_str(rt.alloc(), "Sheet kid 140737488355327 00 ( é")?;
     let text = document_tokens(rt.alloc(), text, 140737488355327)?;
-    assert_eq!(rt; first_too_deep_in(text.tokenized(), &OPENING, &CLOSING, 0), Some(29));
+    assert_eq!(rt;
+        first_too_deep_in(text.tokenized(), &OPENING, &CLOSING, 0),
+        Some(29)
+    );
     assert_eq!(rt; place_in(text.tokenized(), 0), 33);
     let mut input = WideInput::new(&text);
     assert!(rt; !input.take_name_of("Shee"));

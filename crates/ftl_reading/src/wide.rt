@@ -74,7 +74,7 @@ impl<'a> WideInput<'a> {
     }
 
     /// Whether the next token is the reserved word or the mark of this kind.
-    #[tactic(auto, using(crate::proofs::StepLemmas::steps), unfolding(crate::specs::Reader::same_kind))]
+    #[tactic(auto, using(crate::proofs::Steps::steps), unfolding(crate::specs::Reader::same_kind))]
     pub fn is_at(&self, kind: Kind) -> bool
         requires fixed { IsFixed kind }
         ensures kind { result ≡ spec.is_at kind self.now }
@@ -86,7 +86,7 @@ impl<'a> WideInput<'a> {
     }
 
     /// Takes a reserved word or a mark.
-    #[tactic(auto, using(crate::proofs::StepLemmas::steps))]
+    #[tactic(auto, using(crate::proofs::Steps::steps))]
     pub fn expect(&mut self, kind: Kind) -> Result<(), ReadFault>
         requires fixed { IsFixed kind }
         ensures reads { Reads (spec.expect kind self.old) result self.new }
@@ -100,7 +100,7 @@ impl<'a> WideInput<'a> {
     }
 
     /// Takes a name.
-    #[tactic(auto, using(crate::proofs::StepLemmas::steps))]
+    #[tactic(auto, using(crate::proofs::Steps::steps))]
     pub fn name(&mut self, alloc: Global) -> Result<Name, ReadFault>
         ensures reads { Reads (spec.take_name self.old) result self.new }
         ensures step { TakesAtMostOne self.old self.new }
@@ -116,9 +116,10 @@ impl<'a> WideInput<'a> {
     }
 
     /// Takes a name, and lends its text. No memory is taken, so there is no other fault.
-    #[tactic(auto, using(crate::proofs::StepLemmas::steps))]
+    #[tactic(auto, using(crate::proofs::Steps::steps))]
     pub fn name_text(&mut self) -> Result<&'a str, ReadFault>
-        ensures text { MatchResult result (λ text. spec.take_name self.old ≡ Ok (text.now, self.new))
+        ensures text { MatchResult result
+            (λ text. spec.take_name self.old ≡ Ok (text.now, self.new))
             (λ _. spec.take_name self.old ≡ Err self.new) }
         ensures step { TakesAtMostOne self.old self.new }
     {
@@ -146,7 +147,7 @@ impl<'a> WideInput<'a> {
     }
 
     /// Takes a number.
-    #[tactic(auto, using(crate::proofs::StepLemmas::steps))]
+    #[tactic(auto, using(crate::proofs::Steps::steps))]
     pub fn number(&mut self) -> Result<u64, ReadFault>
         ensures reads { Reads (spec.take_number self.old) result self.new }
         ensures small { IfOk result (λ n. n ≤ 140737488355327) }
@@ -163,7 +164,7 @@ impl<'a> WideInput<'a> {
     }
 
     /// Takes a number that isn't 0.
-    #[tactic(auto, using(crate::proofs::StepLemmas::steps))]
+    #[tactic(auto, using(crate::proofs::Steps::steps))]
     pub fn positive(&mut self) -> Result<u64, ReadFault>
         ensures reads { Reads (spec.take_positive self.old) result self.new }
         ensures small { IfOk result (λ n. n ≤ 140737488355327) }
@@ -183,7 +184,7 @@ impl<'a> WideInput<'a> {
     }
 
     /// All tokens were taken.
-    #[tactic(auto, using(crate::proofs::StepLemmas::steps))]
+    #[tactic(auto, using(crate::proofs::Steps::steps))]
     pub fn end(&self) -> Result<(), ReadFault>
         ensures reads { Reads (spec.at_end self.now) result self.now }
     {
@@ -193,7 +194,7 @@ impl<'a> WideInput<'a> {
         }
     }
 
-    #[tactic(auto, using(crate::proofs::StepLemmas::steps))]
+    #[tactic(auto, using(crate::proofs::Steps::steps))]
     fn is_name(&self, text: &str) -> bool
         ensures { result ≡ spec.is_name text.now self.now }
     {

@@ -1,5 +1,6 @@
 -- What the first byte of a text tells of its front.
-use Rattle.std.proofs.Common.{◌≡◌, ℕ, ◌<◌, ◌≤◌, Bool, eqb, true, false, List, [], ◌∷◌, length, get_or, drop, sym, ap, ◌∙◌, refl, subst, arith}
+use Rattle.std.proofs.Common.{◌≡◌, ℕ, ◌<◌, Bool, eqb, true, false, List, [], ◌∷◌, length, get_or, drop, sym}
+use Rattle.std.proofs.Common.{◌∙◌, refl, subst, arith}
 use Rattle.std.specs.List.{take_while}
 use Rattle.std.specs.Char.{is_ascii_digit}
 use Rattle.std.specs.Str.{chars, IsUtf8}
@@ -9,7 +10,6 @@ use Rattle.unicode_ident.specs.Ident.{is_xid_start}
 use Rattle.ftl_tokens.specs.declared.piece.Piece.{Piece}
 use Rattle.ftl_tokens.specs.declared.piece.Piece.TheVariants.{Gap}
 use Rattle.ftl_tokens.specs.declared.run.Run.TheVariants.{White, Digits}
-use Rattle.ftl_tokens.specs.Kinds.{begins_word}
 use Rattle.ftl_tokens.specs.Piece.{IsFrontPiece, IsTokenPiece, StartsWord, StartsNumber, StartsOther, StartsFar}
 use Rattle.ftl_tokens.specs.Run.{byte_goes_on, byte_begins_word}
 use Rattle.ftl_tokens.specs.Scan.{is_white_space, stays_in_line, byte_length}

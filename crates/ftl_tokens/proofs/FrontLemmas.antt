@@ -1,9 +1,11 @@
 -- The longest token at the front of some characters, by what the first of them begins.
-use Rattle.std.proofs.Common.{◌≡◌, ℕ, zero, suc, ◌+◌, ◌<◌, ◌≤◌, Bool, true, false, List, [], ◌∷◌, length, take, Option, Some, None, sym, refl, ap, ◌∙◌, ⊎_elim, arith, lit<, length-take-le}
+use Rattle.std.proofs.Common.{◌≡◌, ℕ, zero, suc, ◌+◌, ◌<◌, ◌≤◌, Bool, true, false, List, [], ◌∷◌, length, take}
+use Rattle.std.proofs.Common.{Option, Some, None, sym, refl, ap, ◌∙◌, ⊎_elim, arith, lit<, length-take-le}
 use Rattle.std.specs.Option.{is_some}
 use Rattle.std.specs.List.{list_all, prefix_len}
 use Rattle.std.specs.Char.{is_ascii_digit}
-use Rattle.std.proofs.lemmas.Bool.{and_from, and_left, and_right, cases_lt, cases_Bool, cond-false, cond-true, or_cases, eqb-true, false≢true}
+use Rattle.std.proofs.lemmas.Bool.{and_from, and_left, and_right, cases_lt, cases_Bool, cond-false, cond-true}
+use Rattle.std.proofs.lemmas.Bool.{or_cases, eqb-true, false≢true}
 use Rattle.unicode_ident.specs.Ident.{is_xid_continue}
 use Rattle.unicode_ident.proofs.IdentLemmas.{is_xid_start-is_xid_continue, is_xid_continue-ascii}
 use Rattle.ftl_tokens.specs.declared.kind.Kind.{Kind}
@@ -11,7 +13,8 @@ use Rattle.ftl_tokens.specs.declared.kind.Kind.TheVariants.{Number}
 use Rattle.ftl_tokens.specs.Kinds.{begins_word, is_word, is_number, kind_of, kind_of_word, kind_of_mark}
 use Rattle.ftl_tokens.specs.Scan.{last_passing, longest_token, token_front, token_if, token}
 use Rattle.ftl_tokens.specs.Piece.{StartsWord, StartsNumber}
-use Rattle.ftl_tokens.proofs.KindLemmas.{digit_begins_no_word, word_begins_no_number, begins_text-word, begins_text-digit, kind_of_mark-text, kind_of_mark-long}
+use Rattle.ftl_tokens.proofs.KindLemmas.{digit_begins_no_word, word_begins_no_number, begins_text-word}
+use Rattle.ftl_tokens.proofs.KindLemmas.{begins_text-digit, kind_of_mark-text, kind_of_mark-long}
 
 -- where nothing above m passes the test, the last is at most m
 last_passing-from : (test : ℕ → Bool) (n m : ℕ) → m ≤ n → ((k : ℕ) → m < k → k ≤ n → test k ≡ false)

@@ -1,25 +1,30 @@
 -- What the code finds at the front of a text is what stands there.
-use Rattle.std.proofs.Common.{◌≡◌, ℕ, ◌+◌, ◌-◌, ◌<◌, ◌≤◌, Bool, true, false, cond, List, [], ◌∷◌, ◌++◌, length, take, min, Option, Some, None, sym, refl, ap, ◌∙◌, subst, ⊎_elim, arith}
+use Rattle.std.proofs.Common.{◌≡◌, ℕ, ◌+◌, ◌-◌, ◌<◌, ◌≤◌, Bool, true, false, cond, List, [], ◌∷◌, ◌++◌, length, take}
+use Rattle.std.proofs.Common.{min, Option, Some, None, sym, refl, ap, ◌∙◌, subst, ⊎_elim, arith}
 use Rattle.std.specs.Prelude.{encode_utf8_all, unwrap_or}
 use Rattle.std.specs.List.{slice_range, list_all, prefix_len, take_while}
 use Rattle.std.specs.Char.{is_ascii_digit, len_utf8}
 use Rattle.std.specs.Str.{bytes_eq, chars, IsUtf8}
 use Rattle.std.specs.Str.Parse.{digits_value}
-use Rattle.std.proofs.lemmas.Bool.{and_parts, cond-false, cond-true, cases_Bool, false≢true, le-ltb, lt-ltb, eq-eqb, ne_eqb}
+use Rattle.std.proofs.lemmas.Bool.{and_parts, cond-false, cond-true, cases_Bool, false≢true, le-ltb, lt-ltb, eq-eqb}
+use Rattle.std.proofs.lemmas.Bool.{ne_eqb}
 use Rattle.std.proofs.lemmas.Bool.Decides.{nat_tests}
-use Rattle.std.proofs.lemmas.Str.{encode_ascii, len_utf8_ascii}
+use Rattle.std.proofs.lemmas.Str.{encode_ascii}
 use Rattle.unicode_ident.specs.Ident.{is_xid_continue}
 use Rattle.ftl_tokens.specs.declared.kind.Kind.{Kind}
 use Rattle.ftl_tokens.specs.declared.kind.Kind.TheVariants.{Name, Number}
 use Rattle.ftl_tokens.specs.declared.piece.Piece.{Piece}
 use Rattle.ftl_tokens.specs.declared.piece.Piece.TheVariants.{Gap, Token, LargeNumber, Nothing}
 use Rattle.ftl_tokens.specs.Kinds.{reserved_words, marks, look_up, begins_word, kind_of_word, kind_of_mark}
-use Rattle.ftl_tokens.specs.Scan.{is_white_space, stays_in_line, byte_length, token_if, token_front, longest_token, front_of, is_too_large, last_passing}
+use Rattle.ftl_tokens.specs.Scan.{is_white_space, stays_in_line, byte_length, token_if, token_front, longest_token}
+use Rattle.ftl_tokens.specs.Scan.{front_of, is_too_large, last_passing}
 use Rattle.ftl_tokens.specs.Piece.{Spans, IsPieceOf, IsNumberPiece, StartsWord, StartsNumber, StartsOther}
 use Rattle.ftl_tokens.proofs.TextLemmas.{is_cut, byte_length-cons}
 use Rattle.ftl_tokens.proofs.KindLemmas.{kind_of_word-encodes}
 use Rattle.ftl_tokens.proofs.NumberLemmas.{is_number-digits}
-use Rattle.ftl_tokens.proofs.FrontLemmas.{prefix_len-le, word_starts_run, digit_starts_run, kind_of-nil, word_front, number_front, run_is_number, mark_front-last, mark_front-long, mark_front-short}
+use Rattle.ftl_tokens.proofs.FrontLemmas.{prefix_len-le, word_starts_run, digit_starts_run, kind_of-nil, word_front}
+use Rattle.ftl_tokens.proofs.FrontLemmas.{number_front, run_is_number, mark_front-last, mark_front-long}
+use Rattle.ftl_tokens.proofs.FrontLemmas.{mark_front-short}
 
 -- ---- kinds that are no number
 

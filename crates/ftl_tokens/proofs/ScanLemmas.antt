@@ -1,5 +1,6 @@
 -- A scan that has come to a place of its text.
-use Rattle.std.proofs.Common.{◌≡◌, ℕ, zero, suc, ◌+◌, ◌-◌, ◌<◌, ◌≤◌, List, [], ◌∷◌, ◌++◌, length, take, drop, Ok, Err, sym, refl, ap, ◌∙◌, subst, arith, length-drop, append_assoc}
+use Rattle.std.proofs.Common.{◌≡◌, ℕ, zero, suc, ◌+◌, ◌-◌, ◌<◌, ◌≤◌, List, [], ◌∷◌, ◌++◌, length, take, drop, Ok, Err}
+use Rattle.std.proofs.Common.{sym, refl, ap, ◌∙◌, subst, arith, length-drop, append_assoc}
 use Rattle.std.specs.Char.{len_utf8}
 use Rattle.std.specs.Str.{chars, IsUtf8, IsCharBoundary}
 use Rattle.std.proofs.lemmas.Bool.{cond-true, cond-false}
@@ -11,7 +12,8 @@ use Rattle.ftl_tokens.specs.declared.fault.TokenFault.{TokenFault}
 use Rattle.ftl_tokens.specs.declared.fault.TokenFault.TheVariants.{BadChar, NumberTooLarge}
 use Rattle.ftl_tokens.specs.declared.piece.Piece.TheVariants as piece
 use Rattle.ftl_tokens.specs.declared.piece.Piece.TheVariants.{Gap, LargeNumber, Nothing}
-use Rattle.ftl_tokens.specs.Scan.{byte_length, Front, gap, token, nothing, front_of, Scanning, followed_by, scan_front, scan_from, scan}
+use Rattle.ftl_tokens.specs.Scan.{byte_length, Front, gap, token, nothing, front_of, Scanning, followed_by}
+use Rattle.ftl_tokens.specs.Scan.{scan_front, scan_from, scan}
 use Rattle.ftl_tokens.specs.Piece.{Spans, IsPieceOf}
 use Rattle.ftl_tokens.proofs.TextLemmas.{is_cut, byte_length-cons, byte_length-some}
 

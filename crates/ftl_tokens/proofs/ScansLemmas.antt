@@ -1,18 +1,24 @@
 -- The scan follows the relation of what a text may be cut into.
-use Rattle.std.proofs.Common.{◌≡◌, ℕ, zero, suc, ◌+◌, ◌-◌, ◌<◌, ◌≤◌, Bool, true, false, List, [], ◌∷◌, ◌++◌, length, take, drop, Option, Some, None, Err, sym, refl, ap, ◌∙◌, subst, ⊎_elim, arith, length-append, length-drop, length-take-le, take-append-drop, append_assoc, eqb}
+use Rattle.std.proofs.Common.{◌≡◌, ℕ, zero, suc, ◌+◌, ◌-◌, ◌<◌, ◌≤◌, Bool, true, false, List, [], ◌∷◌, ◌++◌, length}
+use Rattle.std.proofs.Common.{take, drop, Option, Some, None, Err, sym, refl, ap, ◌∙◌, subst, ⊎_elim, arith}
+use Rattle.std.proofs.Common.{length-append, length-drop, length-take-le, take-append-drop, append_assoc, eqb}
 use Rattle.std.specs.Option.{is_some}
 use Rattle.std.specs.List.{prefix_len}
 use Rattle.std.specs.Char.{len_utf8}
 use Rattle.std.specs.Str.{chars}
-use Rattle.std.proofs.lemmas.Bool.{cond-true, cond-false, cases_Bool, cases_lt, false≢true, eqb-true, eqb-false, not-false}
+use Rattle.std.proofs.lemmas.Bool.{cond-true, cond-false, cases_Bool, cases_lt, false≢true, eqb-true, eqb-false}
+use Rattle.std.proofs.lemmas.Bool.{not-false}
 use Rattle.std.proofs.lemmas.List.{take_at, nil_from_length}
 use Rattle.ftl_tokens.specs.declared.kind.Kind.{Kind}
 use Rattle.ftl_tokens.specs.declared.kind.Kind.TheVariants.{Number}
 use Rattle.ftl_tokens.specs.declared.kind.Token.{Token}
 use Rattle.ftl_tokens.specs.declared.fault.TokenFault.TheVariants.{BadChar, NumberTooLarge}
 use Rattle.ftl_tokens.specs.Kinds.{kind_of}
-use Rattle.ftl_tokens.specs.Scan.{is_white_space, stays_in_line, byte_length, last_passing, longest_token, Front, gap, token, nothing, token_if, front_of, is_too_large, followed_by, scan_front, scan_from, scan}
-use Rattle.ftl_tokens.specs.Scans.{IsLineEnd, IsGap, white_space, comment, IsLongestToken, BeginsNothing, Scans, at_end, past_gap, past_token, large_number, bad_char}
+use Rattle.ftl_tokens.specs.Scan.{is_white_space, stays_in_line, byte_length, last_passing, longest_token, Front, gap}
+use Rattle.ftl_tokens.specs.Scan.{token, nothing, token_if, front_of, is_too_large, followed_by, scan_front}
+use Rattle.ftl_tokens.specs.Scan.{scan_from, scan}
+use Rattle.ftl_tokens.specs.Scans.{IsLineEnd, IsGap, white_space, comment, IsLongestToken, BeginsNothing, Scans}
+use Rattle.ftl_tokens.specs.Scans.{at_end, past_gap, past_token, large_number, bad_char}
 use Rattle.ftl_tokens.specs.Piece.{Spans}
 use Rattle.ftl_tokens.proofs.FrontLemmas.{kind_of-nil, list_all-run, prefix_len-le, none-from_is_some}
 use Rattle.ftl_tokens.proofs.ScanLemmas.{scan_after}

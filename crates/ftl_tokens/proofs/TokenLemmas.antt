@@ -1,5 +1,7 @@
 -- The tokens of a scan are tokens of its text.
-use Rattle.std.proofs.Common.{◌≡◌, ℕ, zero, suc, ◌+◌, ◌-◌, ◌<◌, ◌≤◌, true, false, List, [], ◌∷◌, ◌++◌, length, take, drop, Option, Some, None, Ok, Err, sym, refl, ap, ◌∙◌, subst, ⊎_elim, arith, length-append, append_assoc}
+use Rattle.std.proofs.Common.{◌≡◌, ℕ, zero, suc, ◌+◌, ◌-◌, ◌<◌, ◌≤◌, true, false, List, [], ◌∷◌, ◌++◌, length, take}
+use Rattle.std.proofs.Common.{drop, Option, Some, None, Ok, Err, sym, refl, ap, ◌∙◌, subst, ⊎_elim, arith}
+use Rattle.std.proofs.Common.{length-append, append_assoc}
 use Rattle.std.specs.Prelude.{encode_utf8_all, slice_get}
 use Rattle.std.specs.Option.{IfSome, IsSomeAnd}
 use Rattle.std.specs.List.{slice_range}
@@ -7,14 +9,16 @@ use Rattle.std.specs.Str.Parse.{digits_value}
 use Rattle.std.specs.Str.{chars, all_scalars, IsUtf8, IsCharBoundary}
 use Rattle.std.proofs.lemmas.Bool.{and_parts, and_from, cases_Bool, false≢true, ltb-false, le-ltb}
 use Rattle.std.proofs.lemmas.List.{take_at, drop_at}
-use Rattle.std.proofs.lemmas.Str.{encodes-append, encodes-chars, scalars-chars, chars-encodes, IsCharBoundary-at_seam, IsUtf8-append, len_utf8_bounds}
+use Rattle.std.proofs.lemmas.Str.{encodes-append, encodes-chars, scalars-chars, chars-encodes, IsCharBoundary-at_seam}
+use Rattle.std.proofs.lemmas.Str.{IsUtf8-append, len_utf8_bounds}
 use Rattle.ftl_tokens.specs.declared.kind.Kind.{Kind}
 use Rattle.ftl_tokens.specs.declared.kind.Kind.TheVariants.{Name, Number}
 use Rattle.ftl_tokens.specs.declared.kind.Token.{Token}
 use Rattle.ftl_tokens.specs.Kinds.{is_word, is_number, kind_of, kind_of_word}
 use Rattle.ftl_tokens.specs.Scan.{byte_length, is_too_large, Scanning, followed_by, scan}
 use Rattle.ftl_tokens.specs.Scans.{Scans, at_end, past_gap, past_token, large_number, bad_char}
-use Rattle.ftl_tokens.specs.Tokenized.{Tokenized, token_text, IsTokenOf, AreTokensOf, symbol, symbol_of, symbols_of, kind_of_symbol}
+use Rattle.ftl_tokens.specs.Tokenized.{Tokenized, token_text, IsTokenOf, AreTokensOf, symbol, symbol_of, symbols_of}
+use Rattle.ftl_tokens.specs.Tokenized.{kind_of_symbol}
 use Rattle.ftl_tokens.proofs.FrontLemmas.{kind_of-word, kind_of-mark, kind_of-nil}
 use Rattle.ftl_tokens.proofs.NumberLemmas.{is_number-digits}
 use Rattle.ftl_tokens.proofs.PieceLemmas.{digits_are_bytes, is_too_large-word, is_too_large-mark}

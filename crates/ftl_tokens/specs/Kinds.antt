@@ -1,11 +1,18 @@
 -- Which texts are tokens, and of which kind. Texts are lists of characters.
-use Rattle.std.specs.Prelude.{ℕ, Bool, false, ◌&&◌, ◌||◌, ◌==◌, List, [], ◌∷◌, codes, Option, Some, None, unwrap_or, if◌then◌else◌}
+use Rattle.std.specs.Prelude.{ℕ, Bool, false, ◌&&◌, ◌||◌, ◌==◌, List, [], ◌∷◌, codes, Option, Some, None, unwrap_or}
+use Rattle.std.specs.Prelude.{if◌then◌else◌}
 use Rattle.std.specs.List.{list_all}
 use Rattle.std.specs.Char.{is_ascii_digit}
 use Rattle.std.specs.Str.{bytes_eq}
 use Rattle.unicode_ident.specs.Ident.{is_xid_start, is_xid_continue}
 use Rattle.ftl_tokens.specs.declared.kind.Kind.{Kind}
-use Rattle.ftl_tokens.specs.declared.kind.Kind.TheVariants.{Name, Number, Root, Interface, Class, Inh, Syn, Input, Local, Show, SelfWord, This, Prev, Last, First, Then, Fold, From, With, Acc, If, Else, Or, Min, Max, LeftBrace, RightBrace, LeftParen, RightParen, LeftBracket, RightBracket, Semicolon, Colon, Comma, Dot, Assign, Equals, Plus, Minus, Star, Slash, Less, LessEq, More, MoreEq, EqualEqual, Unequal, AndAnd, OrOr, Bang}
+use Rattle.ftl_tokens.specs.declared.kind.Kind.TheVariants.{Name, Number, Root, Interface, Class, Inh, Syn, Input}
+use Rattle.ftl_tokens.specs.declared.kind.Kind.TheVariants.{Local, Show, SelfWord, This, Prev, Last, First, Then}
+use Rattle.ftl_tokens.specs.declared.kind.Kind.TheVariants.{Fold, From, With, Acc, If, Else, Or, Min, Max, LeftBrace}
+use Rattle.ftl_tokens.specs.declared.kind.Kind.TheVariants.{RightBrace, LeftParen, RightParen, LeftBracket}
+use Rattle.ftl_tokens.specs.declared.kind.Kind.TheVariants.{RightBracket, Semicolon, Colon, Comma, Dot, Assign}
+use Rattle.ftl_tokens.specs.declared.kind.Kind.TheVariants.{Equals, Plus, Minus, Star, Slash, Less, LessEq, More}
+use Rattle.ftl_tokens.specs.declared.kind.Kind.TheVariants.{MoreEq, EqualEqual, Unequal, AndAnd, OrOr, Bang}
 
 -- the reserved words
 abbrev pub reserved_words : List (List ℕ × Kind)

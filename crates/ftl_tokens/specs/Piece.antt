@@ -5,7 +5,8 @@ use Rattle.ftl_tokens.specs.declared.kind.Kind.TheVariants.{Number}
 use Rattle.ftl_tokens.specs.declared.piece.Piece.{Piece}
 use Rattle.ftl_tokens.specs.declared.piece.Piece.TheVariants.{Gap, Token, LargeNumber, Nothing}
 use Rattle.ftl_tokens.specs.Kinds.{begins_word}
-use Rattle.ftl_tokens.specs.Scan.{byte_length, Front, gap, token, nothing, is_too_large, front_of, token_front, longest_token}
+use Rattle.ftl_tokens.specs.Scan.{byte_length, Front, gap, token, nothing, is_too_large, front_of, token_front}
+use Rattle.ftl_tokens.specs.Scan.{longest_token}
 
 -- the first n of these characters, one or more, take len bytes
 pub record Spans (cs : List ℕ) (n len : ℕ) : Type 0 where

@@ -37,7 +37,9 @@ pub data Scans (greatest : ℕ) : ℕ → List ℕ → Scanning → Type 0 where
       → Scans greatest (at + byte_length text) rest scan → Scans greatest at (text ++ rest) scan
   past_token : {at : ℕ} {kind : Kind} {text rest : List ℕ} {scan : Scanning} → IsLongestToken kind text rest
       → is_too_large greatest kind text ≡ false → Scans greatest (at + byte_length text) rest scan
-      → Scans greatest at (text ++ rest) (followed_by (record { kind = kind; start = at; end = at + byte_length text } ∷ []) scan)
-  large_number : {at : ℕ} {text rest : List ℕ} → IsLongestToken Number text rest → is_too_large greatest Number text ≡ true
+      → Scans greatest at (text ++ rest)
+      (followed_by (record { kind = kind; start = at; end = at + byte_length text } ∷ []) scan)
+  large_number : {at : ℕ} {text rest : List ℕ} → IsLongestToken Number text rest
+      → is_too_large greatest Number text ≡ true
       → Scans greatest at (text ++ rest) (Err (NumberTooLarge at))
   bad_char : {at c : ℕ} {cs : List ℕ} → BeginsNothing c cs → Scans greatest at (c ∷ cs) (Err (BadChar at))

@@ -22,7 +22,3 @@ pub use name::Name;
 pub use scan::{document_tokens, tokens};
 pub use scanned::{Scanned, WideScanned};
 pub use tokenized::TokenizedText;
-
-
-#[cfg(test)]
-mod tests;

@@ -4,7 +4,8 @@ ghost use Rattle.std.specs.Prelude.{◌≡◌, ℕ, ◌≤◌, [], ◌∷◌};
 ghost use Rattle.std.specs.Str.{chars};
 ghost use Rattle.ftl_tokens.specs.Kinds.{kind_of_mark};
 ghost use Rattle.ftl_tokens.specs.Scan.{token_if};
-ghost use Rattle.ftl_tokens.specs.Piece.{IsPieceOf, IsFrontPiece, IsTokenPiece, IsNumberPiece, StartsWord, StartsNumber, StartsOther, StartsFar};
+ghost use Rattle.ftl_tokens.specs.Piece.{IsPieceOf, IsFrontPiece, IsTokenPiece, IsNumberPiece};
+ghost use Rattle.ftl_tokens.specs.Piece.{StartsWord, StartsNumber, StartsOther, StartsFar};
 
 use crate::kind::Kind;
 use crate::run::{Run, byte_begins_word, byte_goes_on, run_length};
@@ -63,7 +64,8 @@ fn number_piece(text: &str, greatest: u64) -> Piece
 
 #[inline(always)]
 fn short_piece(c: char) -> Piece
-    ensures { (greatest : ℕ) → IsPieceOf greatest (token_if (kind_of_mark (c ∷ [])) 1) (c ∷ []) result }
+    ensures { (greatest : ℕ)
+        → IsPieceOf greatest (token_if (kind_of_mark (c ∷ [])) 1) (c ∷ []) result }
 {
     match short_mark(c) {
         Some(kind) => Piece::Token(kind, c.len_utf8()),

@@ -37,8 +37,8 @@ fn char_goes_on(run: Run, c: char) -> bool
     }
 }
 
-// For each ASCII byte the sum of 1 if it is white space, 2 if it continues a word, 4 if it is a digit,
-// 8 if it stays in a line, and 16 if it begins a word. For all others 0.
+// For each ASCII byte the sum of 1 if it is white space, 2 if it continues a word, 4 if it is a
+// digit, 8 if it stays in a line, and 16 if it begins a word. For all others 0.
 #[rattlefmt::skip]
 static CLASS: [u8; 256] = [
     8, 8, 8, 8, 8, 8, 8, 8, 8, 9, 1, 8, 8, 9, 8, 8,
@@ -93,8 +93,8 @@ fn char_run_length(run: Run, text: &str) -> usize
     text.len()
 }
 
-/// How many bytes the characters have that go on from the front of `text`. They are decoded only from
-/// the first one on that is not ASCII.
+/// How many bytes the characters have that go on from the front of `text`. They are decoded only
+/// from the first one on that is not ASCII.
 #[inline(always)]
 pub fn run_length(run: Run, text: &str) -> usize
     ensures { result ≡ byte_length (take_while (goes_on run) (chars text.now)) }

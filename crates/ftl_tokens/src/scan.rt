@@ -13,21 +13,27 @@ use crate::scanned::{Scanned, WideScanned};
 use crate::tokenized::TokenizedText;
 use std::alloc::Global;
 
-/// The tokens of a text, which is kept beside them. A text has 64 MiB at most, so that places fit 32
-/// bits. One pass, which allocates nothing but the list.
+/// The tokens of a text, which is kept beside them. A text has 64 MiB at most, so that places fit
+/// 32 bits. One pass, which allocates nothing but the list.
 pub fn tokens(alloc: Global, text: String) -> Result<Scanned, TokenFault>
     requires short { string_len text ≤ 67108864 }
-    ensures exact { Gives OutOfMemory (λ scanned. scanned.tokens) result (scan 2147483647 (string_bytes text)) }
+    ensures exact { Gives OutOfMemory (λ scanned. scanned.tokens) result
+        (scan 2147483647 (string_bytes text)) }
     ensures text { IfOk result (λ scanned. scanned.text ≡ string_bytes text) }
 {
     Ok(Scanned::new(tokenized_text(alloc, text, 2147483647)?))
 }
 
 /// The tokens of a document, whose numbers are at most `greatest`. Else as `tokens`.
-pub fn document_tokens(alloc: Global, text: String, greatest: u64) -> Result<WideScanned, TokenFault>
+pub fn document_tokens(
+    alloc: Global,
+    text: String,
+    greatest: u64,
+) -> Result<WideScanned, TokenFault>
     requires short { string_len text ≤ 67108864 }
     requires limit { IsGreatestNumber greatest }
-    ensures exact { Gives OutOfMemory (λ scanned. scanned.tokenized.tokens) result (scan greatest (string_bytes text)) }
+    ensures exact { Gives OutOfMemory (λ scanned. scanned.tokenized.tokens) result
+        (scan greatest (string_bytes text)) }
     ensures text { IfOk result (λ scanned. scanned.tokenized.text ≡ string_bytes text) }
     ensures greatest { IfOk result (λ scanned. scanned.greatest ≡ greatest) }
 {
@@ -38,9 +44,11 @@ pub fn document_tokens(alloc: Global, text: String, greatest: u64) -> Result<Wid
 fn tokenized_text(alloc: Global, text: String, greatest: u64) -> Result<TokenizedText, TokenFault>
     requires short { string_len text ≤ 67108864 }
     requires limit { greatest ≤ 140737488355327 }
-    ensures exact { Gives OutOfMemory (λ tokenized. tokenized.tokens) result (scan greatest (string_bytes text)) }
+    ensures exact { Gives OutOfMemory (λ tokenized. tokenized.tokens) result
+        (scan greatest (string_bytes text)) }
     ensures text { IfOk result (λ tokenized. tokenized.text ≡ string_bytes text) }
-    ensures tokens { IfOk result (λ tokenized. AreTokensOf greatest tokenized.text 0 tokenized.tokens) }
+    ensures tokens { IfOk result
+        (λ tokenized. AreTokensOf greatest tokenized.text 0 tokenized.tokens) }
 {
     let list = token_list(alloc, text.as_str(), greatest)?;
     Ok(TokenizedText::new(text, list))

@@ -2,7 +2,8 @@
 
 ghost use Rattle.std.specs.Prelude.{◌≡◌, ◌<◌, ◌≤◌, length, slice_get, IfSome, IsSomeAnd};
 ghost use Rattle.std.specs.Str.Parse.{digits_value};
-ghost use Rattle.ftl_tokens.specs.Tokenized.{IsGreatestNumber, token_text, IsTokenOf, AreTokensOf, symbol, symbols_of, number};
+ghost use Rattle.ftl_tokens.specs.Tokenized.{IsGreatestNumber, token_text, IsTokenOf, AreTokensOf};
+ghost use Rattle.ftl_tokens.specs.Tokenized.{symbol, symbols_of, number};
 
 use crate::kind::{Kind, Token};
 use crate::tokenized::TokenizedText;
@@ -52,7 +53,8 @@ impl Scanned {
     /// The text of token `k`.
     pub fn slice(&self, k: usize) -> &str
         requires within { k < length self.now.tokens }
-        ensures text { IfSome (slice_get self.now.tokens k) (λ t. result.now ≡ token_text self.now.text t) }
+        ensures text { IfSome (slice_get self.now.tokens k)
+            (λ t. result.now ≡ token_text self.now.text t) }
         ensures token { IfSome (slice_get self.now.tokens k) (IsTokenOf 2147483647 self.now.text) }
         ensures symbol { IfSome (slice_get self.now.tokens k)
             (λ t. slice_get (symbols_of self.now) k ≡ Some (symbol t.kind result.now)) }
@@ -97,7 +99,10 @@ impl WideScanned {
         ensures tokenized { result.tokenized ≡ tokenized }
         ensures greatest { result.greatest ≡ greatest }
     {
-        WideScanned { tokenized, greatest }
+        WideScanned {
+            tokenized,
+            greatest,
+        }
     }
 
     /// The greatest number that the call allowed.
@@ -111,7 +116,8 @@ impl WideScanned {
     /// The text with its tokens.
     pub fn tokenized(&self) -> &TokenizedText
         ensures tokenized { result.now ≡ self.now.tokenized }
-        ensures tokens { AreTokensOf self.now.greatest self.now.tokenized.text 0 self.now.tokenized.tokens }
+        ensures tokens { AreTokensOf self.now.greatest self.now.tokenized.text 0
+            self.now.tokenized.tokens }
     {
         &self.tokenized
     }
@@ -119,7 +125,8 @@ impl WideScanned {
     /// The tokens, in order.
     pub fn list(&self) -> &[Token]
         ensures list { result.now ≡ self.now.tokenized.tokens }
-        ensures tokens { AreTokensOf self.now.greatest self.now.tokenized.text 0 self.now.tokenized.tokens }
+        ensures tokens { AreTokensOf self.now.greatest self.now.tokenized.text 0
+            self.now.tokenized.tokens }
     {
         self.tokenized().list()
     }
@@ -139,7 +146,8 @@ impl WideScanned {
 
     /// The number that token `k` writes.
     pub fn number(&self, k: usize) -> u64
-        requires number { IsSomeAnd (slice_get self.now.tokenized.tokens k) (λ t. t.kind ≡ Kind.Number) }
+        requires number { IsSomeAnd (slice_get self.now.tokenized.tokens k)
+            (λ t. t.kind ≡ Kind.Number) }
         ensures value { IfSome (slice_get self.now.tokenized.tokens k)
             (λ t. result ≡ digits_value 10 (token_text self.now.tokenized.text t)) }
         ensures symbol { slice_get (symbols_of self.now.tokenized) k ≡ Some (number result) }

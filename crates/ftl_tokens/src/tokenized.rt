@@ -1,9 +1,11 @@
 //! A text with its tokens, whatever their greatest number.
 
-ghost use Rattle.std.specs.Prelude.{◌≡◌, ◌<◌, ◌≤◌, length, string_bytes, slice_get, IfSome, IsSomeAnd, IsTrue};
+ghost use Rattle.std.specs.Prelude.{◌≡◌, ◌<◌, ◌≤◌, length, string_bytes, slice_get, IfSome};
+ghost use Rattle.std.specs.Prelude.{IsSomeAnd, IsTrue};
 ghost use Rattle.std.specs.Str.Parse.{digits_value};
 ghost use Rattle.ftl_tokens.specs.Kinds.{is_number};
-ghost use Rattle.ftl_tokens.specs.Tokenized.{token_text, IsTokenOf, AreTokensOf, symbol, symbols_of, number};
+ghost use Rattle.ftl_tokens.specs.Tokenized.{token_text, IsTokenOf, AreTokensOf, symbol};
+ghost use Rattle.ftl_tokens.specs.Tokenized.{symbols_of, number};
 
 use crate::kind::{Kind, Token};
 use std::marker::Model;
@@ -46,8 +48,10 @@ impl TokenizedText {
     /// The text of token `k`.
     pub fn slice(&self, k: usize) -> &str
         requires within { k < length self.now.tokens }
-        ensures text { IfSome (slice_get self.now.tokens k) (λ t. result.now ≡ token_text self.now.text t) }
-        ensures token { IfSome (slice_get self.now.tokens k) (IsTokenOf 140737488355327 self.now.text) }
+        ensures text { IfSome (slice_get self.now.tokens k)
+            (λ t. result.now ≡ token_text self.now.text t) }
+        ensures token { IfSome (slice_get self.now.tokens k)
+            (IsTokenOf 140737488355327 self.now.text) }
         ensures symbol { IfSome (slice_get self.now.tokens k)
             (λ t. slice_get (symbols_of self.now) k ≡ Some (symbol t.kind result.now)) }
     {

@@ -8,9 +8,9 @@ loop-token-init c = counted-start _ _ _
 pub returns-then-saturating_sub-limit : goal.returns-then-saturating_sub-limit
 returns-then-saturating_sub-limit c = record {
   first =
-        let many : c.args.limit < c.counted-opened.result - c.counted-closed.result = omega arith in
-        too_deep-here _ _ c.args.limit c.args.scanned.now c.list-token-items.result.now c.list-token-items.ensures.list
-        c.loop-token.token-index _ _ _ c.loop-token.invariant c.loop-token-test.true _ _ c.counted-opened.ensures c.counted-closed.ensures many;
+      let many : c.args.limit < c.counted-opened.result - c.counted-closed.result = omega arith in
+      too_deep-here _ _ c.args.limit c.args.scanned.now c.list-token-items.result.now c.list-token-items.ensures.list
+      c.loop-token.token-index _ _ _ c.loop-token.invariant c.loop-token-test.true _ _ c.counted-opened.ensures c.counted-closed.ensures many;
 }
 
 pub loop-token-preserved : goal.loop-token-preserved

@@ -1,9 +1,10 @@
-use Rattle.std.proofs.Common.{length, sym, ap, ◌∙◌, arith}
+use Rattle.std.proofs.Common.{length, sym, ap, ◌∙◌}
 use Rattle.std.specs.Str.{chars}
 use Rattle.std.proofs.lemmas.Str.{chars-nil}
 use Rattle.std.proofs.lemmas.Bool.{eqb-true}
 use Rattle.std.proofs.lemmas.List.{nil_from_length}
-use Rattle.ftl_tokens.proofs.FirstLemmas.{some_bytes, first_word, first_number, first_white, first_other, first_comment, first_token, far_token}
+use Rattle.ftl_tokens.proofs.FirstLemmas.{some_bytes, first_word, first_number, first_white, first_other}
+use Rattle.ftl_tokens.proofs.FirstLemmas.{first_comment, first_token, far_token}
 use Rattle.ftl_tokens.proofs.PieceLemmas.{nothing_at}
 use Rattle.ftl_tokens.proofs.RunLemmas.{first_far}
 use Rattle.ftl_tokens.proofs.piece.piece_of.Goals as goal

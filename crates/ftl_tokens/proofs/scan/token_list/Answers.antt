@@ -2,7 +2,9 @@ use Rattle.std.proofs.Common.{◌+◌, [], ◌∷◌, ◌++◌, sym, refl, ap, �
 use Rattle.std.specs.Str.{chars}
 use Rattle.ftl_tokens.specs.Scan.{front_of}
 use Rattle.ftl_tokens.specs.declared.fault.TokenFault.TheVariants.{BadChar, NumberTooLarge}
-use Rattle.ftl_tokens.proofs.ScanLemmas.{HasRead, Advances, has_read_nothing, has_read_all, has_fault, has_char, large_step, nothing_step, gap_advances, token_advances, advanced_boundary, advanced_some, advanced_within, has_read_next}
+use Rattle.ftl_tokens.proofs.ScanLemmas.{HasRead, Advances, has_read_nothing, has_read_all, has_fault, has_char}
+use Rattle.ftl_tokens.proofs.ScanLemmas.{large_step, nothing_step, gap_advances, token_advances, advanced_boundary}
+use Rattle.ftl_tokens.proofs.ScanLemmas.{advanced_some, advanced_within, has_read_next}
 use Rattle.ftl_tokens.proofs.scan.token_list.Goals as goal
 use Rattle.ftl_tokens.proofs.scan.token_list.Goals.{in-Gap, in-Token+in_ok-push-in-Token}
 

@@ -1,4 +1,4 @@
-use Rattle.std.proofs.Common.{◌≡◌, Ok, ap, ◌∙◌, sym, subst₂, string_bytes}
+use Rattle.std.proofs.Common.{ap, ◌∙◌, sym, subst₂, string_bytes}
 use Rattle.std.proofs.lemmas.Str.{IsUtf8-string_bytes}
 use Rattle.ftl_tokens.specs.Scan.{scan}
 use Rattle.ftl_tokens.specs.Tokenized.{AreTokensOf}

@@ -1,4 +1,4 @@
-use Rattle.std.proofs.Common.{◌≡◌, ◌<◌, Ok, refl, sym, subst, arith}
+use Rattle.std.proofs.Common.{◌≡◌, Ok, refl, sym, subst, arith}
 use Rattle.std.specs.Prelude.{IsOk}
 use Rattle.std.specs.Str.Parse.{digits_value}
 use Rattle.std.proofs.lemmas.Str.Parse.{parse_gives}

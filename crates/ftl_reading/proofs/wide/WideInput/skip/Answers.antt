@@ -9,7 +9,7 @@ returns-then-self-list c = record { rest = sym (rest_of-drop _ c.self.inside.at)
 pub returns-else-self-list : goal.returns-else-self-list
 returns-else-self-list c = record {
   rest =
-        let s = c.self.inside.scanned.now in
-        let past : length s.tokens ≤ c.self.inside.at = omega (arith, c.if-self-list.false, ap length c.list.ensures.list) in
-        sym c.self.view_is ∙ sym (rest_of-past s c.self.inside.at past) ∙ ap rest_of c.self.view_is;
+      let s = c.self.inside.scanned.now in
+      let past : length s.tokens ≤ c.self.inside.at = omega (arith, c.if-self-list.false, ap length c.list.ensures.list) in
+      sym c.self.view_is ∙ sym (rest_of-past s c.self.inside.at past) ∙ ap rest_of c.self.view_is;
 }

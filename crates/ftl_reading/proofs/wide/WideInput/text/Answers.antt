@@ -7,7 +7,7 @@ use Rattle.ftl_reading.proofs.wide.WideInput.text.Goals as goal
 pub slice-requires : goal.slice-requires
 slice-requires c = record {
   within =
-        within-some c.self.inside.scanned.now c.self.inside.at _ (ap next_kind c.self.view_is ∙ c.requires);
+      within-some c.self.inside.scanned.now c.self.inside.at _ (ap next_kind c.self.view_is ∙ c.requires);
 }
 
 pub returns : goal.returns

@@ -1,10 +1,12 @@
 -- What the readers of one token give, by the kind of the next token.
-use Rattle.std.proofs.Common.{◌≡◌, ◌≢◌, ℕ, zero, suc, true, false, List, [], ◌∷◌, Some, None, Ok, Err, refl, sym, ap, ◌∙◌}
+use Rattle.std.proofs.Common.{◌≡◌, ◌≢◌, ℕ, zero, suc, true, false, List, [], ◌∷◌, Some, None, Ok, Err, refl, sym, ap}
+use Rattle.std.proofs.Common.{◌∙◌}
 use Rattle.std.specs.Str.{bytes_eq}
 use Rattle.ftl_tokens.specs.declared.kind.Kind.{Kind}
 use Rattle.ftl_tokens.specs.declared.kind.Kind.TheVariants as kinds
 use Rattle.ftl_tokens.specs.Tokenized.{name, number, fixed}
-use Rattle.ftl_reading.specs.Reader.{Tokens, next_kind, rest_of, same_kind, is_at, IsFixed, expect, take_name, is_name, take_number, take_positive, at_end}
+use Rattle.ftl_reading.specs.Reader.{Tokens, next_kind, rest_of, same_kind, is_at, IsFixed, expect, take_name}
+use Rattle.ftl_reading.specs.Reader.{is_name, take_number, take_positive, at_end}
 
 -- at a name
 pub take_name-name : (ts : Tokens) (text : List ℕ) → ts ≡ name text ∷ rest_of ts → take_name ts ≡ Ok (text, rest_of ts)
