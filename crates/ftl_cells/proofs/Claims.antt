@@ -35,7 +35,8 @@ module _ (m : Meaning) (law : IsLawfulWork m) (s t : Stage) (h i : ℕ)
         rest = λ n a b. let st : IsStepOfItem m i n = record { item = known; step = b } in target_same i n st
             ∙ k.free i n st free;
       } in
-      let alone_with : (g x : ℕ) → g ≢ h → HasItem (t.place g) x → HasItem (s.place g) x = λ g x ne. subst (λ p. HasItem p x)
+      let alone_with : (g x : ℕ) → g ≢ h → HasItem (t.place g) x → HasItem (s.place g) x =
+      λ g x ne. subst (λ p. HasItem p x)
       (turn.others g ne) in
       let delivered_old : (x p : ℕ) → p < item_total m → HasDelivered m t p x → HasDelivered m s p x = λ x p l d. dite
       (ℕ_discrete p i)

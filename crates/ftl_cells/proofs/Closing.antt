@@ -13,8 +13,8 @@ use Rattle.ftl_cells.proofs.KeptSteps.{kept, hand_is}
 use Rattle.ftl_cells.proofs.Found.{last_holds}
 use Rattle.ftl_cells.proofs.Plays.{Holds}
 
-module _ (m : Meaning) (law : IsLawfulWork m) (id : ℕ) (v : HandState) (ws homes : List ℕ) (ended : v.place ≡ live Ended)
-    (final : Final (Seen (Holds m) id v) ws homes) where
+module _ (m : Meaning) (law : IsLawfulWork m) (id : ℕ) (v : HandState) (ws homes : List ℕ)
+    (ended : v.place ≡ live Ended) (final : Final (Seen (Holds m) id v) ws homes) where
   pub final_holds : (c : ℕ) → c < cell_total m → get_or ws (1 + c) 0 ≡ last_word_of (kind_at m c) (solved_word m c)
   final_holds c l =
       let s = final.0 in

@@ -79,7 +79,8 @@ none_released m s = record {
   once = λ k l a b e. absurd (omega arith);
 }
 
-module _ (m : Meaning) (law : IsLawfulWork m) (words : List ℕ) (hands : List HandState) (k : IsKeptBy m words hands) where
+module _ (m : Meaning) (law : IsLawfulWork m) (words : List ℕ) (hands : List HandState)
+    (k : IsKeptBy m words hands) where
   -- one hand changes, and no word
   pub load_one : (h : ℕ) (v w : HandState) → get_elem? hands h ≡ some v → Alike v.place w.place → IsInRange m w.place
       → ((i : ℕ) → Looks w.place i → get_or words (count_word m i) 0 ≡ 0)
@@ -370,7 +371,8 @@ kept_opening m law words o =
         working = λ h i j w. absurd (none (λ p. Works p i j) (λ x. x) (λ x. x) h w);
         sending = λ h i n w. absurd (none (λ p. Sends p i n) (λ x. x) (λ x. x) h w);
         alone = λ h g i a b. absurd (none (λ p. HasItem p i) (λ x. x) (λ x. x) h a);
-        counters = λ i l. subst (Counts (Owes m (stage_now m words (newcomer m first_name ∷ [])) i) i) (sym (o.counters i l))
+        counters = λ i l. subst (Counts (Owes m (stage_now m words (newcomer m first_name ∷ [])) i) i)
+            (sym (o.counters i l))
             (same_count (λ p. IsNext m p i) (Owes m (stage_now m words (newcomer m first_name ∷ [])) i)
             (λ p b next. record {
               next = next;
@@ -388,7 +390,8 @@ kept_opening m law words o =
         ended = λ h w. absurd (none HasEnded (λ x. x) (λ x. x) h w);
         released =
             λ h. elim
-            h as (λ y. AreReleased m (stage_now m words (newcomer m first_name ∷ [])) (hand_at (newcomer m first_name ∷ []) y).released) [
+            h as (λ y. AreReleased m (stage_now m words (newcomer m first_name ∷ []))
+            (hand_at (newcomer m first_name ∷ []) y).released) [
               | zero ↦ none_released m (stage_now m words (newcomer m first_name ∷ []))
               | suc g ↦ none_released m (stage_now m words (newcomer m first_name ∷ []))
             ];

@@ -119,7 +119,8 @@ module _ (s t : Stage) (h : ℕ) (p q : Place) (turn : Turns s t h p q) where
       (λ e. subst (λ x. IsInRange m (t.place x)) (sym e) (subst (IsInRange m) (sym turn.is) r))
       (λ ne. subst (IsInRange m) (sym (turn.others g ne)) (k g))
 
-  pub alone_after : ((x : ℕ) → HasItem q x → HasItem p x) → ((a b x : ℕ) → HasItem (s.place a) x → HasItem (s.place b) x → a ≡ b)
+  pub alone_after : ((x : ℕ) → HasItem q x → HasItem p x)
+      → ((a b x : ℕ) → HasItem (s.place a) x → HasItem (s.place b) x → a ≡ b)
       → (a b x : ℕ) → HasItem (t.place a) x → HasItem (t.place b) x → a ≡ b
   alone_after back k a b x u v =
       let from : (g : ℕ) → HasItem (t.place g) x → HasItem (s.place g) x = λ g w. ⊎_elim

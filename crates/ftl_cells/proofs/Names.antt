@@ -93,7 +93,8 @@ one_changes hands h v w at one g there =
     record {
       was = λ z. there (ap (λ y. y.place) same ∙ z);
       name = ap (λ y. y.name) same;
-      count = let e : (hand_at (set hands h w) g).count ≡ (hand_at hands g).count = ap (λ y. y.count) same in omega arith;
+      count = let e : (hand_at (set hands h w) g).count ≡ (hand_at hands g).count = ap (λ y. y.count) same in
+          omega arith;
     })
 
 stepped_stays : (v w : HandState) → Stepped v w → Stays v w
@@ -118,7 +119,7 @@ module _ (m : Meaning) (hands : List HandState) (k : Named hands) (h n : ℕ) (n
     (here : (hand_at hands h).place ≢ spent) (is : (hand_at hands h).name ≡ name)
     (count : (hand_at hands h).count ≡ n + 1)
     (fresh : (g : ℕ) (rest : List ℕ) → (hand_at hands g).place ≢ spent
-        → (hand_at hands g).name ≡ name ++ n ∷ rest → ⊥) where
+    → (hand_at hands g).name ≡ name ++ n ∷ rest → ⊥) where
   all : List HandState
   all = hands ++ newcomer m (name ++ n ∷ []) ∷ []
 
@@ -169,7 +170,8 @@ module _ (m : Meaning) (hands : List HandState) (k : Named hands) (h n : ℕ) (n
         (λ ne. absurd (fresh b (c ∷ rest) (still_there b ne over) (old_name b ne ∙ long))))
         (λ apart. let is_old : (hand_at (hands ++ newcomer m (name ++ n ∷ []) ∷ []) a).count ≡ (hand_at hands a).count =
         ap (λ y. y.count) (before a apart) in
-        let short : (hand_at (hands ++ newcomer m (name ++ n ∷ []) ∷ []) b).name ≡ (hand_at hands a).name ++ c ∷ rest = e
+        let short : (hand_at (hands ++ newcomer m (name ++ n ∷ []) ∷ []) b).name
+        ≡ (hand_at hands a).name ++ c ∷ rest = e
         ∙ ap (λ y. y ++ c ∷ rest) (sym (old_name a apart)) in
         let old : c < (hand_at hands a).count = dite (ℕ_discrete b (length hands))
         (λ q. made_before a c rest (still_there a apart there) (sym (end_name b q) ∙ short))
@@ -240,7 +242,8 @@ begun_one : (m : Meaning) (hands : List HandState) (h : ℕ) (v w : HandState) �
     → Begun m (set hands h w)
 unfolding Begun
 begun_one m hands h v w at old fresh g is = dite (ℕ_discrete g h)
-    (λ e. fresh (sym (ap (hand_at (set hands h w)) e ∙ get_or-set_same hands h w given_up (elem_below hands h v at)) ∙ is))
+    (λ e. fresh
+    (sym (ap (hand_at (set hands h w)) e ∙ get_or-set_same hands h w given_up (elem_below hands h v at)) ∙ is))
     (λ ne. let was : hand_at hands g ≡ newcomer m first_name = sym (get_or-set_other hands h g w given_up ne) ∙ is in
     ⊎_elim
     (λ one. let l : h < length hands = elem_below hands h v at in

@@ -32,7 +32,8 @@ plays : (n id : ℕ) (me : Known) (a : ℕ) (f : ℕ → ℕ) (told : ℕ → Kn
     → Allows (Holds me.0.of) n id me a f (λ y new. IsStepOf me.0 new.0 × told y new)
 plays n id me a f told law each s r homes at bound =
     let e = each s.words s.views (kept me.0.of law s.words s.views r) at bound in
-    let made : Makes me.0.of s.words s.views (set s.words a (f (get_or s.words a 0))) (set s.views id e.0) = steps id me.0
+    let made : Makes me.0.of s.words s.views (set s.words a (f (get_or s.words a 0))) (set s.views id e.0) =
+    steps id me.0
     e.0 (set s.words a (f (get_or s.words a 0))) at e.1 in
     let step : IsStepOf me.0 e.0 = record {
       words = s.words;

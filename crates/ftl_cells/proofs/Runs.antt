@@ -30,8 +30,8 @@ pub claimed_later : (m : Meaning) → IsLawfulWork m → (words : List ℕ) (han
     → get_or words (state_word m i) 0 ≢ 0
     → get_or next (state_word m i) 0 ≢ 0
 claimed_later m law words hands next more k stays i l ne = ne
-claimed_later m law words hands next more k (goes_further {next = last} {more = few} run step) i l ne = claim_stays m law
-    last few (kept_later m law words hands last few k run) i l
+claimed_later m law words hands next more k (goes_further {next = last} {more = few} run step) i l ne = claim_stays m
+    law last few (kept_later m law words hands last few k run) i l
     (claimed_later m law words hands last few k run i l ne) next more step
 
 -- a hand that looked at an item is not at another place
@@ -108,7 +108,8 @@ module _ (m : Meaning) (law : IsLawfulWork m) (words : List ℕ) (hands : List H
         let few : List HandState = set hands g (after v v.place split end_word None) in
         absurd (dite (ℕ_discrete h (length few))
         (λ q. subst (λ y. Works y.place i 0)
-        (ap (hand_at (few ++ newcomer m (next_name v) ∷ [])) q ∙ snoc_here few (newcomer m (next_name v)) given_up) works)
+        (ap (hand_at (few ++ newcomer m (next_name v) ∷ [])) q ∙ snoc_here few (newcomer m (next_name v)) given_up)
+        works)
         (λ ne. one_other g v one at (λ w. free_works v.place (subst IsFree (sym e) tt) w)
         (subst (λ y. Works y.place i 0) (snoc_other few (newcomer m (next_name v)) given_up h ne) works)))
     won next more (joins g other v w apart at there f b) works =
@@ -151,7 +152,8 @@ released_new v w item k law step e b z =
     let n : length w.released ≡ length v.released + 1 = ap length e ∙ length-append v.released (item ∷ []) in
     let here : get_or w.released (length v.released) 0 ≡ item = ap (λ xs. get_or xs (length v.released) 0) e ∙ snoc_here
     v.released item 0 in
-    let there : get_or w.released k 0 ≡ get_or v.released k 0 = ap (λ xs. get_or xs k 0) e ∙ get_or_append_left v.released
+    let there : get_or w.released k 0 ≡ get_or v.released k 0 = ap (λ xs. get_or xs k 0) e
+    ∙ get_or_append_left v.released
     (item ∷ []) 0 k b in
     let same : k ≡ length v.released = r.once k (length v.released) (omega arith) (omega arith)
     (there ∙ z ∙ sym here) in

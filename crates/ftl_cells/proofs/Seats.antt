@@ -124,11 +124,13 @@ module _ (said told laid : Meaning) (table : TableId) (states counters id : ℕ)
   )
 
   pub split_asks : me.0.place ≡ live Idle
-      → (0 < table.words) × Splits (Holds told) id me.0 (after me.0 me.0.place split end_word None) (newcomer me.0.of (next_name me.0))
+      → (0 < table.words) × Splits (Holds told) id me.0 (after me.0 me.0.place split end_word None)
+      (newcomer me.0.of (next_name me.0))
   split_asks idle = let h = here in (
     omega (arith, h.words),
     subst
-        (λ x. Splits (Holds x) id me.0 (after me.0 me.0.place split end_word None) (newcomer me.0.of (next_name me.0))) same
+        (λ x. Splits (Holds x) id me.0 (after me.0 me.0.place split end_word None)
+        (newcomer me.0.of (next_name me.0))) same
         (split_plays id me.0 idle),
   )
 

@@ -59,7 +59,8 @@ module _ (s : WorkShape) where
   unfolding target_of
   target_of-listed i j st = ap (λ x. x.target) (step_at-listed i j st)
 
-  pub reads_of_step-listed : (i j : ℕ) → HasStep s i j → reads_of_step (listed s) i j ≡ listing (s.read i j) (s.read_count i j)
+  pub reads_of_step-listed : (i j : ℕ) → HasStep s i j
+      → reads_of_step (listed s) i j ≡ listing (s.read i j) (s.read_count i j)
   unfolding reads_of_step
   reads_of_step-listed i j st = ap (λ x. x.reads) (step_at-listed i j st)
 

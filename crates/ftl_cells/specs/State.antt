@@ -47,8 +47,8 @@ pub record OneStep : Type 0 where
   pub word : ℕ
   pub held : Option ℕ
 
--- what a hand knows: its work, its name, its place, its last step, the count of its steps, how many steps the hands made
--- that it took in, and the items that it released
+-- what a hand knows: its work, its name, its place, its last step, the count of its steps, how many steps the hands
+-- made that it took in, and the items that it released
 pub record HandState : Type 0 where
   pub of : Meaning
   pub name : List ℕ
@@ -168,7 +168,8 @@ pub data Makes (m : Meaning) (words : List ℕ) (hands : List HandState) : List 
   steps : (h : ℕ) (v w : HandState) (next : List ℕ) → get_elem? hands h ≡ some v → Steps m words v next w
       → Makes m words hands next (slice_set hands h w)
   splits : (h : ℕ) (v : HandState) → get_elem? hands h ≡ some v → v.place ≡ live Idle
-      → Makes m words hands words (slice_set hands h (after v v.place split end_word None) ++ newcomer m (next_name v) ∷ [])
+      → Makes m words hands words
+      (slice_set hands h (after v v.place split end_word None) ++ newcomer m (next_name v) ∷ [])
   joins : (h other : ℕ) (v w : HandState) → other ≢ h → get_elem? hands h ≡ some v → get_elem? hands other ≡ some w
       → IsFree v.place → IsFree w.place
       → Makes m words hands words (slice_set (slice_set hands h (after_join v w)) other given_up)

@@ -13,7 +13,8 @@ ghost use Rattle.ftl_cells.specs.declared.place.HandPlace.TheVariants.{Looked};
 ghost use Rattle.ftl_cells.specs.declared.answer.Claim.TheVariants.{Mine};
 ghost use Rattle.ftl_cells.specs.Interleavings.{LeadsTo, WinsClaim, ReadsFindValues, IsStepOf};
 ghost use Rattle.ftl_cells.specs.Interleavings.{AreReleasedOnce, IsThere};
-ghost use Rattle.ftl_cells.specs.Interleavings.{FillsFindEmpty, ClaimsStay, AllFilled, HoldSolution};
+ghost use Rattle.ftl_cells.specs.Interleavings.{FillsFindEmpty, ClaimsStay, AllFilled};
+ghost use Rattle.ftl_cells.specs.Interleavings.{HoldSolution};
 
 /// A work that is given by functions is lawful where they are.
 pub fn shapes_are_lawful()
@@ -38,8 +39,8 @@ pub fn rule_is_kept()
 pub fn steps_keep_the_rule()
     ensures one { (m : Meaning) (words next : List ℕ) (hands more : List HandState) → IsLawfulWork m
         → IsKeptBy m words hands → Makes m words hands next more → IsKeptBy m next more }
-    ensures many { (m : Meaning) (words next : List ℕ) (hands more : List HandState) → IsLawfulWork m
-        → IsKeptBy m words hands → LeadsTo m words hands next more → IsKeptBy m next more }
+    ensures many { (m : Meaning) (words next : List ℕ) (hands more : List HandState)
+        → IsLawfulWork m → IsKeptBy m words hands → LeadsTo m words hands next more → IsKeptBy m next more }
 {}
 
 /// A read never finds its cell empty, but always the solution's word.

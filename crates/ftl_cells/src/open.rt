@@ -4,7 +4,8 @@ ghost use Rattle.std.specs.Prelude.{vec_len};
 ghost use Rattle.std.specs.List.{range_with_len};
 ghost use Rattle.std.specs.Slots.{slots_items, slots_len, IsFull};
 ghost use Rattle.ftl_cells.specs.Work.{item_total, pred_total};
-ghost use Rattle.ftl_cells.specs.State.{live, newcomer, first_name, AreFirst, AreLast, opening_words};
+ghost use Rattle.ftl_cells.specs.State.{live, newcomer, first_name, AreFirst, AreLast};
+ghost use Rattle.ftl_cells.specs.State.{opening_words};
 ghost use Rattle.ftl_cells.specs.Calls.{IsMadeBy};
 ghost use Rattle.ftl_cells.specs.declared.place.HandPlace.TheVariants.{Ended};
 
@@ -17,11 +18,7 @@ use std::alloc::{AllocError, Global};
 
 impl<W: Work + Drop> Cells<W> {
     /// Opens the cells of a work, from the words of its Given cells and 0 for all others.
-    pub fn open(
-        alloc: Global,
-        work: W,
-        mut words: Vec<u64>,
-    ) -> Result<(Cells<W>, Hand), AllocError>
+    pub fn open(alloc: Global, work: W, mut words: Vec<u64>) -> Result<(Cells<W>, Hand), AllocError>
         requires { AreFirst (W.meaning work) words.items }
         ensures work { IfOk result (λ r. r.0.1 ≡ work) }
         ensures made { IfOk result (λ r. IsMadeBy (W.meaning work) r.0.0 r.1) }
@@ -83,7 +80,8 @@ fn push_counters<W: Work>(work: &W, row: &mut Vec<u64>) -> Result<(), AllocError
     ensures { OnOk result
         (row.new.items
         ≡ row.old.items
-        ++ map (pred_total (W.meaning work.now)) (range_with_len 0 (item_total (W.meaning work.now)))) }
+        ++ map (pred_total (W.meaning work.now))
+        (range_with_len 0 (item_total (W.meaning work.now)))) }
 {
     for item in 0..work.items() {
         row.push(work.pred_count(item) as u64)?;

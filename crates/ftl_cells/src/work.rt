@@ -1,5 +1,6 @@
 ghost use Rattle.std.specs.Prelude.{◌≡◌, ◌<◌, ◌≤◌, length, vec_capacity};
-ghost use Rattle.ftl_cells.specs.Work.{Meaning, IsLawfulWork, IsStepOfItem, cell_total, kind_at, item_total};
+ghost use Rattle.ftl_cells.specs.Work.{Meaning, IsLawfulWork, IsStepOfItem, cell_total, kind_at};
+ghost use Rattle.ftl_cells.specs.Work.{item_total};
 ghost use Rattle.ftl_cells.specs.Work.{pred_total, next_total, next_at, step_total, target_of};
 ghost use Rattle.ftl_cells.specs.Work.{read_total, read_of, solved_reads, solution_at};
 ghost use Rattle.ftl_cells.specs.State.{live};
@@ -81,7 +82,8 @@ pub trait Work: Meant + Sync {
 
         // From the solution's values comes the solution's value.
         ensures value { reads.now ≡ solved_reads (Self.meaning self.now) item step
-            → result ≡ solution_at (Self.meaning self.now) (target_of (Self.meaning self.now) item step) }
+            → result
+            ≡ solution_at (Self.meaning self.now) (target_of (Self.meaning self.now) item step) }
         ensures room { stack.new.room ≡ stack.old.room };
 
     /// Drives a filler through an item: it goes through the steps in order, has the cells of each
@@ -112,9 +114,7 @@ pub trait Work: Meant + Sync {
         for step in 0..self.step_count(item) {
             reads.clear();
             for k in 0..self.read_count(item, step) {
-                reads
-                    .push(filler.read(self.read(item, step, k)))
-                    .unwrap();
+                reads.push(filler.read(self.read(item, step, k))).unwrap();
             }
             let val = self.result(item, step, reads.as_slice(), stack);
             filler.fill(self.target(item, step), val);

@@ -130,7 +130,8 @@ chains_copy n s i j a reads st one some all =
     let b : 0 < read_total (listed (chains n s)) i j = omega (arith, chains_read_count n s i j st) in
     let read : read_of (listed (chains n s)) i j 0 ≡ i - 1 = chains_read n s i j 0 st b in
     let is : get_or reads 0 a ≡ solution_at (listed (chains n s)) (read_of (listed (chains n s)) i j 0) = ap
-    (λ xs. get_or xs 0 a) all ∙ get_or-map (solution_at (listed (chains n s))) (reads_of_step (listed (chains n s)) i j) 0 0
+    (λ xs. get_or xs 0 a) all
+    ∙ get_or-map (solution_at (listed (chains n s))) (reads_of_step (listed (chains n s)) i j) 0 0
     a b in
     one ∙ is ∙ ap (solution_at (listed (chains n s))) read ∙ solution_at-listed (chains n s) (i - 1) (omega arith)
     ∙ chains_value n s i j st

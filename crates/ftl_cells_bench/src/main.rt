@@ -1,5 +1,5 @@
-//! Fills two chains of items on shared cells, or opens cells and closes them, and tells how long that
-//! took. The words are what is done (`one` hand, `two` threads, one hand that the work drives:
+//! Fills two chains of items on shared cells, or opens cells and closes them, and tells how long
+//! that took. The words are what is done (`one` hand, `two` threads, one hand that the work drives:
 //! `driven`, or `ends`), how many thousands of items or cells, and `time` for the nanoseconds.
 #![tactic(auto)]
 

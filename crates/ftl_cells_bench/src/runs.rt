@@ -74,7 +74,8 @@ fn walk_by_two<R: Threads + Sync, W: Work>(
             requires made { IsMadeBy (W.meaning cells.now.1) cells.now.0 hand }
             requires idle { hand.state.place ≡ live Idle }
             requires end { second ≤ item_total (W.meaning cells.now.1) }
-            ensures made { IfSome result (IsMadeBy (W.meaning cells.entry.now.1) cells.entry.now.0) }
+            ensures made { IfSome result
+                (IsMadeBy (W.meaning cells.entry.now.1) cells.entry.now.0) }
             ensures idle { IfSome result (λ h. h.state.place ≡ live Idle) }
         { walk_all(alloc, cells, hand, Way::Asked, 0, second) },
         || -> Option<Hand>
@@ -82,7 +83,8 @@ fn walk_by_two<R: Threads + Sync, W: Work>(
             requires idle { other.state.place ≡ live Idle }
             requires order { second ≤ end }
             requires end { end ≤ item_total (W.meaning cells.now.1) }
-            ensures made { IfSome result (IsMadeBy (W.meaning cells.entry.now.1) cells.entry.now.0) }
+            ensures made { IfSome result
+                (IsMadeBy (W.meaning cells.entry.now.1) cells.entry.now.0) }
             ensures idle { IfSome result (λ h. h.state.place ≡ live Idle) }
         { walk_all(alloc, cells, other, Way::Asked, second, end) },
     );
@@ -100,7 +102,8 @@ pub(crate) enum Hands {
     Driven,
 }
 
-/// How long it took to fill both chains, or none where a hand found an item taken or memory ran out.
+/// How long it took to fill both chains, or none where a hand found an item taken or memory ran
+/// out.
 pub(crate) fn measure<R: Threads + Clock + Sync>(
     rt: &R,
     alloc: Global,

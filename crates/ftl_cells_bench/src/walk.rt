@@ -1,6 +1,7 @@
 // A hand takes the items of a range in turn, from the look to the last delivery.
 ghost use Rattle.std.specs.Prelude.{◌≡◌, ◌<◌, ◌≤◌, vec_capacity, OnOk};
-ghost use Rattle.ftl_cells.specs.Work.{IsStepOfItem, item_total, next_total, step_total, read_total};
+ghost use Rattle.ftl_cells.specs.Work.{IsStepOfItem, item_total, next_total, step_total};
+ghost use Rattle.ftl_cells.specs.Work.{read_total};
 ghost use Rattle.ftl_cells.specs.Work.{solved_reads};
 ghost use Rattle.ftl_cells.specs.State.{live, Sends};
 ghost use Rattle.ftl_cells.specs.Calls.{IsMadeBy};

@@ -58,7 +58,8 @@ lent_steps xs i l = step_total-listed (lent xs) i (item_below (lent xs) i l)
 pub lent_targets : (xs : List ℕ) (i j : ℕ) → IsStepOfItem (listed (lent xs)) i j → target_of (listed (lent xs)) i j ≡ i
 lent_targets xs i j st = target_of-listed (lent xs) i j (has_step (lent xs) i j st)
 
-pub lent_read_count : (xs : List ℕ) (i j : ℕ) → IsStepOfItem (listed (lent xs)) i j → read_total (listed (lent xs)) i j ≡ 0
+pub lent_read_count : (xs : List ℕ) (i j : ℕ) → IsStepOfItem (listed (lent xs)) i j
+    → read_total (listed (lent xs)) i j ≡ 0
 lent_read_count xs i j st = read_total-listed (lent xs) i j (has_step (lent xs) i j st)
 
 pub lent_most : (xs : List ℕ) → (listed (lent xs)).max_reads ≡ 0

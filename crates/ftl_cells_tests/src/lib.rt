@@ -1,6 +1,6 @@
-//! Tests of the cells that threads share: a work of four items by two hands, call by call; a chain of
-//! items and a work that borrows, by hands in turns and by threads; and what the definitions give
-//! on small numbers.
+//! Tests of the cells that threads share: a work of four items by two hands, call by call; a chain
+//! of items and a work that borrows, by hands in turns and by threads; and what the definitions
+//! give on small numbers.
 #![tactic(auto)]
 
 #[cfg(test)]

@@ -7,7 +7,8 @@ pub of_words-requires : goal.of_words-requires
 of_words-requires g c =
     let m = g.W.Meant.meaning c.args.work in
     let rows = c.as_slice.ensures.value ∙ c.in_ok-build_row.ensures in
-    subst (λ ws. Reached (g.W.Meant.meaning c.args.work) ws (newcomer (g.W.Meant.meaning c.args.work) first_name ∷ [])) (sym rows)
+    subst (λ ws. Reached (g.W.Meant.meaning c.args.work) ws
+    (newcomer (g.W.Meant.meaning c.args.work) first_name ∷ [])) (sym rows)
     (begins (opening_words (g.W.Meant.meaning c.args.work) c.args.words.items)
     (opening_is (g.W.Meant.meaning c.args.work) c.args.words.items c.requires))
 
@@ -19,6 +20,9 @@ invariant_of-cells g c =
           c.items.result c.requires c.items.ensures.lawful
           (c.in_ok-table.ensures.0 ∙ ap length rows) c.in_ok-table.ensures.1 c.cells.ensures c.items.ensures.count
           c.cells.type_inv c.items.type_inv,
-      omega (arith, length-opening_words (g.W.Meant.meaning c.args.work) c.args.words.items c.requires,
-          ap length c.in_ok-build_row.ensures),
+      omega (
+        arith,
+        length-opening_words (g.W.Meant.meaning c.args.work) c.args.words.items c.requires,
+        ap length c.in_ok-build_row.ensures,
+      ),
     )
