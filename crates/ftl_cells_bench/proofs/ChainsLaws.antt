@@ -5,7 +5,7 @@ use Rattle.std.proofs.lemmas.Int.{ints}
 use Rattle.std.proofs.lemmas.List.{get_or-map, get_or-replicate, length-map, length-replicate}
 use mathlib.Core.Logic.{dite}
 use native.Mathlib.Decide.{ℕ_discrete}
-use Rattle.ftl_model.specs.Values.{Value, number, value_of, wide}
+use Rattle.ftl_model.specs.Values.{Value, number}
 use Rattle.ftl_cells.specs.Count.{Counts, at_zero, counts_it, skips_it}
 use Rattle.ftl_cells.specs.Work.{cell_total, kind_at, solution_at, item_total, pred_total, next_total, next_at, step_total, target_of, read_total, reads_of_step, read_of, solved_reads, solved_word, IsStepOfItem, IsLawfulWork}
 use Rattle.ftl_cells.specs.State.{live, AreFirst, first_word_of}
@@ -109,10 +109,6 @@ unfolding listed
 chains_room n s = refl
 
 -- a step over the solution's values gives 7
--- 7 is a number of the wide range
-pub seven_is : value_of wide (pos 7) ≡ number (pos 7)
-seven_is = refl
-
 pub chains_value : (n s i j : ℕ) → IsStepOfItem (listed (chains n s)) i j
     → number (pos 7) ≡ solution_at (listed (chains n s)) (target_of (listed (chains n s)) i j)
 chains_value n s i j st = let st' = has_step (chains n s) i j st in
