@@ -1,14 +1,14 @@
 -- The cells that are all Given are lawful work, and what their functions are.
-use Rattle.std.proofs.Common.{◌≡◌, ℕ, ◌^◌, ◌<◌, subst, refl, sym, ap, ◌∙◌, arith, List, length}
+use Rattle.std.proofs.Common.{◌≡◌, ℕ, ◌<◌, subst, refl, sym, ap, ◌∙◌, arith, List}
 use Rattle.std.specs.Prelude.{pos, replicate}
 use Rattle.std.proofs.lemmas.Int.{ints}
 use Rattle.std.proofs.lemmas.List.{get_or-replicate, length-replicate}
 use Rattle.ftl_model.specs.Values.{number, word_of_value}
-use Rattle.ftl_cells.specs.Work.{cell_total, kind_at, solution_at, item_total, solved_word, IsStepOfItem, IsLawfulWork}
+use Rattle.ftl_cells.specs.Work.{cell_total, kind_at, item_total, solved_word, IsStepOfItem, IsLawfulWork}
 use Rattle.ftl_cells.specs.State.{AreFirst, first_word_of}
 use Rattle.ftl_cells.specs.Shape.{listed, IsLawfulWorkShape}
 use Rattle.ftl_cells.specs.declared.kind.CellKind.TheVariants.{Given}
-use Rattle.ftl_cells.proofs.Shapes.{cell_total-listed, kind_at-listed, solution_at-listed, item_total-listed, item_below, has_step, is_lawful}
+use Rattle.ftl_cells.proofs.Shapes.{cell_total-listed, kind_at-listed, solution_at-listed, item_total-listed, has_step, is_lawful}
 use Rattle.ftl_cells_bench.specs.GivenCells.{given_cells}
 
 given_shape : (n : ℕ) → IsLawfulWorkShape (given_cells n)
