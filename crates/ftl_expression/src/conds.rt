@@ -34,10 +34,10 @@ impl<
         Ok(Test::Group(negated, Boxed::new(alloc, inner)?))
     }
 
-    #[tactic(auto, unfolding(ftl_syntax::specs::ExpressionReading::test))]
-    fn test(&self, alloc: Global, input: &mut Input<'_>) -> Result<Test, ReadFault>
+    #[tactic(auto, unfolding(ftl_syntax::specs::ExpressionReading::one_test))]
+    fn one_test(&self, alloc: Global, input: &mut Input<'_>) -> Result<Test, ReadFault>
         requires { IsNested E.Fn C.Fn self.now }
-        ensures { Reads (spec.test (spec.expr self.now.depth) (spec.cond self.now.depth)
+        ensures { Reads (spec.one_test (spec.expr self.now.depth) (spec.cond self.now.depth)
             input.old) result input.new }
     {
         match input.peek() {
@@ -60,7 +60,7 @@ impl<
         match input.peek() {
             Some(Kind::AndAnd) => {
                 input.skip();
-                Ok(Some(self.test(alloc, input)?))
+                Ok(Some(self.one_test(alloc, input)?))
             }
             _ => Ok(None),
         }
@@ -95,7 +95,7 @@ impl<
         ensures { Reads (spec.conj (spec.expr self.now.depth) (spec.cond self.now.depth)
             input.old) result input.new }
     {
-        let first = self.test(alloc, input)?;
+        let first = self.one_test(alloc, input)?;
         let every = self.tests(alloc, input, first)?;
         Ok(Conj { every })
     }

@@ -14,7 +14,7 @@ use Rattle.ftl_syntax.specs.declared.expression.Expr.TheVariants as exprs
 use Rattle.ftl_syntax.specs.Trees as trees
 use Rattle.ftl_syntax.specs.Spelling.{SpellsCond, SpellsExpr}
 use Rattle.ftl_syntax.specs.ExpressionReading as reading
-use Rattle.ftl_syntax.specs.ExpressionReading.{bracketed, test_by, test, and_test_by, and_test, conj, or_conj_by}
+use Rattle.ftl_syntax.specs.ExpressionReading.{bracketed, test_by, one_test, and_test_by, and_test, conj, or_conj_by}
 use Rattle.ftl_syntax.specs.ExpressionReading.{or_conj, cond_level, choice, expr_by, expr_level}
 use Rattle.ftl_syntax.proofs.Heads.{height, past_plain, past_bracket, past_end_bracket}
 use Rattle.ftl_syntax.proofs.Lengths.{some_and_test, some_or_conj}
@@ -41,8 +41,8 @@ module _ {expr expr' : Reader Expr} {cond cond' : Reader Cond} {n : ℕ}
       past_alike kind.LeftBracket past_bracket
       (bind_alike cond_alike (λ x. past_alike kind.RightBracket past_end_bracket pure_alike))
 
-  test_alike : Alike height (suc n) (suc n) (test expr cond) (test expr' cond')
-  unfolding test
+  test_alike : Alike height (suc n) (suc n) (one_test expr cond) (one_test expr' cond')
+  unfolding one_test
   test_alike = look_alike (test_by expr cond) (test_by expr' cond') each
     where
       each : (k : Option Kind) → AlikeAt height (suc n) (suc n) k (test_by expr cond k) (test_by expr' cond' k)

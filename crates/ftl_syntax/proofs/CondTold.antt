@@ -19,7 +19,7 @@ use Rattle.ftl_syntax.specs.Spelling.{SpellsTest, SpellsAndTests, SpellsConj, Sp
 use Rattle.ftl_syntax.specs.Spelling.{grouped, negated, no_tests, more_tests, conj_of, no_conjs, more_conjs, cond_of}
 use Rattle.ftl_syntax.specs.Spelling.{plain_sum, if_then_else}
 use Rattle.ftl_syntax.specs.ExpressionReading as reading
-use Rattle.ftl_syntax.specs.ExpressionReading.{bracketed, test_by, test, and_test_by, and_test, conj, or_conj_by}
+use Rattle.ftl_syntax.specs.ExpressionReading.{bracketed, test_by, one_test, and_test_by, and_test, conj, or_conj_by}
 use Rattle.ftl_syntax.specs.ExpressionReading.{or_conj, cond_level, choice, expr_by, expr_level}
 use Rattle.ftl_syntax.proofs.Parts.{Bracketed, bracketed_of, AndTest, and_test_of, OrConj, or_conj_of, Choice}
 use Rattle.ftl_syntax.proofs.Parts.{choice_of}
@@ -65,8 +65,8 @@ module _ {expr : Reader Expr} {cond : Reader Cond} (expr_told : Told SpellsExpr 
       (λ a x s. example (fixed kind.RightBracket ∷ []) (tests.Group is_negated x) (bracketed_of s))
       (λ a x s. end_told kind.RightBracket (tests.Group is_negated x) (bracketed_of s)))
 
-  test_told : Told SpellsTest (test expr cond)
-  unfolding test
+  test_told : Told SpellsTest (one_test expr cond)
+  unfolding one_test
   test_told = look_told (test_by expr cond) each
     where
       each : (k : Option Kind) → ToldAt k SpellsTest (test_by expr cond k)

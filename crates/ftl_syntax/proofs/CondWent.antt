@@ -20,7 +20,7 @@ use Rattle.ftl_syntax.specs.Spelling.{SpellsTest, SpellsAndTests, SpellsConj, Sp
 use Rattle.ftl_syntax.specs.Spelling.{grouped, negated, compared, no_tests, more_tests, conj_of, no_conjs, more_conjs}
 use Rattle.ftl_syntax.specs.Spelling.{cond_of, plain_sum, if_then_else}
 use Rattle.ftl_syntax.specs.ExpressionReading as reading
-use Rattle.ftl_syntax.specs.ExpressionReading.{bracketed, test_by, test, and_test_by, and_test, conj, or_conj_by}
+use Rattle.ftl_syntax.specs.ExpressionReading.{bracketed, test_by, one_test, and_test_by, and_test, conj, or_conj_by}
 use Rattle.ftl_syntax.specs.ExpressionReading.{or_conj, cond_level, choice, expr_by, expr_level}
 use Rattle.ftl_syntax.specs.SumReading.{sum, comparison}
 use Rattle.ftl_syntax.proofs.Parts.{Bracketed, bracketed_of, AndTest, and_test_of, OrConj, or_conj_of, Choice}
@@ -68,8 +68,8 @@ module _ {expr : Reader Expr} {cond : Reader Cond} {n : ℕ} (expr_went : Comple
       (λ small. went_past kind.RightBracket (went_pure (past_end_bracket rest small)))))
 
   test_went : {a : Tokens} {x : Test} → SpellsTest a x → (rest : Tokens) → Looser 4 rest → height (a ++ rest) < suc n
-      → Went height (test expr cond) (a ++ rest) x rest (suc n)
-  unfolding test next_kind
+      → Went height (one_test expr cond) (a ++ rest) x rest (suc n)
+  unfolding one_test next_kind
   test_went (grouped s) rest looser small =
       went_by (test_by expr cond) refl (bracketed_went (bracketed_of s) rest small)
   test_went (negated {a = a} s) rest looser small =

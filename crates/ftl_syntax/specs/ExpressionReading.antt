@@ -32,12 +32,12 @@ module _ (expr : Reader Expr) (cond : Reader Cond) where
   test_by _ = comparison expr
 
   -- a condition in square brackets, or two sums that are compared
-  unfoldable pub test : Reader Test
-  test = λ ts. test_by (next_kind ts) ts
+  unfoldable pub one_test : Reader Test
+  one_test = λ ts. test_by (next_kind ts) ts
 
   -- `&&` and one more test, by the kind of the next token
   abbrev pub and_test_by : Option Kind → Reader (Option Test)
-  and_test_by (Some kind.AndAnd) = skip >> Some <$> test
+  and_test_by (Some kind.AndAnd) = skip >> Some <$> one_test
   and_test_by _ = pure None
 
   -- `&&` and one more test, if they are there
@@ -47,7 +47,7 @@ module _ (expr : Reader Expr) (cond : Reader Cond) where
   -- tests with `&&` between them
   unfoldable pub conj : Reader Conj
   conj = do
-    x ← test
+    x ← one_test
     xs ← chain_of push and_test (x ∷ [])
     pure (trees.conj xs)
 
