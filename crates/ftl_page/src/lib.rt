@@ -22,6 +22,3 @@ pub use laws::law_of_lines;
 pub use page::{Need, Page};
 pub use split::split_page;
 pub use text::Text;
-
-#[cfg(test)]
-mod tests;
