@@ -5,8 +5,6 @@
 mod answers;
 mod decide;
 mod status;
-#[cfg(test)]
-mod tests;
 mod top;
 
 pub use answers::one_answer;

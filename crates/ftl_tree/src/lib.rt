@@ -9,8 +9,6 @@ mod reader;
 mod rows;
 mod symbol;
 mod symbols;
-#[cfg(test)]
-mod tests;
 mod tree;
 
 pub use fault::StackFault;

@@ -1,5 +1,5 @@
-use crate::{Status, layout_top};
 use ftl_edge::{MemSink, MemSource};
+use ftl_run::{Status, layout_top};
 use std::alloc::{AllocError, Global};
 use std::process::Abort;
 use std::test::Fail;

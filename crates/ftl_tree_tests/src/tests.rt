@@ -1,4 +1,4 @@
-use crate::{Place, StackFault, Tree, read_stack_page};
+use ftl_tree::{Place, StackFault, Tree, read_stack_page};
 use std::alloc::{AllocError, Global};
 use std::test::Fail;
 

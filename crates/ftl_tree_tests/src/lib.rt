@@ -1,0 +1,5 @@
+//! Worked documents, from their text to their tree.
+#![tactic(auto)]
+
+#[cfg(test)]
+mod tests;
