@@ -26,7 +26,8 @@ get_or-bits_of (suc count) word zero h = ap (λ n. n == 1) (sym (bit_at_lowest w
 get_or-bits_of (suc count) word (suc i) h =
     get_or-bits_of count (word / 2) i (omega arith) ∙ ap (λ n. n == 1) (sym (bit_at-suc word i))
 
-get_or-all_bits : (words : List ℕ) (l i : ℕ) → i < 64 → get_or (all_bits words) (64 * l + i) false ≡ is_set (get_or words l 0) i
+get_or-all_bits : (words : List ℕ) (l i : ℕ) → i < 64
+    → get_or (all_bits words) (64 * l + i) false ≡ is_set (get_or words l 0) i
 unfolding all_bits
 get_or-all_bits [] l i h = ap (λ n. n == 1) (sym (bit_at-zero i))
 get_or-all_bits (word ∷ words) zero i h =
@@ -40,11 +41,15 @@ get_or-all_bits (word ∷ words) (suc l) i h =
     ∙ get_or-append-add (bits_of 64 word) (all_bits words) (64 * l + i) false
     ∙ get_or-all_bits words l i h
 
-contains-insert_nat : (s : set.FinSet nat_cmp) (k q : ℕ) → set.contains (set.insert s k) q ≡ ((q == k) || set.contains s q)
-contains-insert_nat s k q = set.contains-insert nat_cmp_total s k q ∙ ap (λ b. b || set.contains s q) (unsigned_tied q k)
+-- where a number was added
+pub contains-insert_nat : (s : set.FinSet nat_cmp) (k q : ℕ)
+    → set.contains (set.insert s k) q ≡ ((q == k) || set.contains s q)
+contains-insert_nat s k q =
+    set.contains-insert nat_cmp_total s k q ∙ ap (λ b. b || set.contains s q) (unsigned_tied q k)
 
 -- no number is in the set that is below the first bit's
-pub below-set_from : (number : ℕ) (bits : List Bool) (q : ℕ) → q < number → set.contains (set_from number bits) q ≡ false
+pub below-set_from : (number : ℕ) (bits : List Bool) (q : ℕ) → q < number
+    → set.contains (set_from number bits) q ≡ false
 unfolding set_from
 below-set_from number [] q h = set.contains-empty nat_cmp q
 below-set_from number (true ∷ bits) q h =
@@ -53,7 +58,8 @@ below-set_from number (true ∷ bits) q h =
     ∙ below-set_from (number + 1) bits q (omega arith)
 below-set_from number (false ∷ bits) q h = below-set_from (number + 1) bits q (omega arith)
 
-contains-set_from : (number : ℕ) (bits : List Bool) (j : ℕ) → set.contains (set_from number bits) (number + j) ≡ get_or bits j false
+contains-set_from : (number : ℕ) (bits : List Bool) (j : ℕ)
+    → set.contains (set_from number bits) (number + j) ≡ get_or bits j false
 unfolding set_from
 contains-set_from number [] j = set.contains-empty nat_cmp (number + j)
 contains-set_from number (true ∷ bits) zero =
@@ -63,7 +69,8 @@ contains-set_from number (false ∷ bits) zero = below-set_from (number + 1) bit
 contains-set_from number (true ∷ bits) (suc j) =
     let place : number + suc j ≡ number + 1 + j = omega arith in
     contains-insert_nat (set_from (number + 1) bits) number (number + suc j)
-    ∙ ap (λ b. b || set.contains (set_from (number + 1) bits) (number + suc j)) (ne_eqb (number + suc j) number (λ e. omega arith))
+    ∙ ap (λ b. b || set.contains (set_from (number + 1) bits) (number + suc j))
+    (ne_eqb (number + suc j) number (λ e. omega arith))
     ∙ ap (set.contains (set_from (number + 1) bits)) place
     ∙ contains-set_from (number + 1) bits j
 contains-set_from number (false ∷ bits) (suc j) =
@@ -71,7 +78,8 @@ contains-set_from number (false ∷ bits) (suc j) =
     ap (set.contains (set_from (number + 1) bits)) place ∙ contains-set_from (number + 1) bits j
 
 -- a number is in the set where its bit is set
-pub contains-row_of : (words : List ℕ) (q : ℕ) → set.contains (row_of words) q ≡ is_set (get_or words (q / 64) 0) (q % 64)
+pub contains-row_of : (words : List ℕ) (q : ℕ)
+    → set.contains (row_of words) q ≡ is_set (get_or words (q / 64) 0) (q % 64)
 unfolding row_of
 contains-row_of words q =
     let place : q ≡ 0 + (64 * (q / 64) + q % 64) = omega arith in
@@ -102,22 +110,27 @@ row_of-zeroes n =
 is_set-put : (word k i : ℕ) → k < 64 → is_set (bit_or word (1 * 2 ^ k % 2 ^ 64)) i ≡ ((i == k) || is_set word i)
 is_set-put word k i within =
     elim (cases_eq i k) [
-      | inl same ↦ rw same (ap (λ n. n == 1) (bit_at_set_same w64 word k within) ∙ ap (λ b. b || is_set word k) (sym (eq-eqb k k refl)))
-      | inr other ↦ ap (λ n. n == 1) (bit_at_set_other w64 word k within i other) ∙ ap (λ b. b || is_set word i) (sym (ne_eqb i k other))
+      | inl same ↦ rw same (ap (λ n. n == 1) (bit_at_set_same w64 word k within)
+          ∙ ap (λ b. b || is_set word k) (sym (eq-eqb k k refl)))
+      | inr other ↦ ap (λ n. n == 1) (bit_at_set_other w64 word k within i other)
+          ∙ ap (λ b. b || is_set word i) (sym (ne_eqb i k other))
     ]
 
 -- the words of a set with one more number
 pub row_of-put : (words : List ℕ) (bit : ℕ) → bit / 64 < length words
-    → row_of (set_at words (bit / 64) (bit_or (get_or words (bit / 64) 0) (1 * 2 ^ (bit % 64) % 2 ^ 64))) ≡ set.insert (row_of words) bit
+    → row_of (set_at words (bit / 64) (bit_or (get_or words (bit / 64) 0) (1 * 2 ^ (bit % 64) % 2 ^ 64)))
+    ≡ set.insert (row_of words) bit
 row_of-put words bit within =
     let word = get_or words (bit / 64) 0 in
     let put = bit_or word (1 * 2 ^ (bit % 64) % 2 ^ 64) in
     row_of-is (set_at words (bit / 64) put) (set.insert (row_of words) bit) (λ q.
     elim (cases_eq (q / 64) (bit / 64)) [
       | inl same ↦
-          ap (λ w. is_set w (q % 64)) (ap (λ l. get_or (set_at words (bit / 64) put) l 0) same ∙ get_or-set_same words (bit / 64) put 0 within)
+          ap (λ w. is_set w (q % 64)) (ap (λ l. get_or (set_at words (bit / 64) put) l 0) same
+          ∙ get_or-set_same words (bit / 64) put 0 within)
           ∙ is_set-put word (bit % 64) (q % 64) (omega arith)
-          ∙ ap₂ (λ a b. a || b) (same_place q bit same) (ap (λ l. is_set (get_or words l 0) (q % 64)) (sym same) ∙ sym (contains-row_of words q))
+          ∙ ap₂ (λ a b. a || b) (same_place q bit same) (ap (λ l. is_set (get_or words l 0) (q % 64)) (sym same)
+          ∙ sym (contains-row_of words q))
           ∙ sym (contains-insert_nat (row_of words) bit q)
       | inr other ↦
           ap (λ w. is_set w (q % 64)) (get_or-set_other words (bit / 64) (q / 64) put 0 other)

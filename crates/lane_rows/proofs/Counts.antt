@@ -27,7 +27,9 @@ trues-bits_of : (count word : ℕ) → word < 2 ^ count → trues (bits_of count
 unfolding bits_of
 trues-bits_of zero word h = omega (arith, ones-le 0 word h)
 trues-bits_of (suc count) word h =
-    omega (arith, bit_as_number (word % 2) (omega arith), trues-bits_of count (word / 2) (omega (arith, two-pow-succ count)), ones_step word)
+    let low = bit_as_number (word % 2) (omega arith) in
+    let rest = trues-bits_of count (word / 2) (omega (arith, two-pow-succ count)) in
+    omega (arith, low, rest, ones_step word)
 
 len-set_from : (number : ℕ) (bits : List Bool) → set.len (set_from number bits) ≡ trues bits
 unfolding set_from
@@ -44,13 +46,15 @@ abbrev pub added : ℕ → ℕ → ℕ
 added sum ones = (sum + ones) % 2 ^ 64
 
 trues-all_bits : (words : List ℕ) → Each1 (Fits w64) words → (sum : ℕ) → sum + 64 * length words < 2 ^ 64
-    → (fold_l added sum (map (λ x. x) (map count_ones words)) ≡ sum + trues (all_bits words)) × (trues (all_bits words) ≤ 64 * length words)
+    → (fold_l added sum (map (λ x. x) (map count_ones words)) ≡ sum + trues (all_bits words))
+    × (trues (all_bits words) ≤ 64 * length words)
 unfolding all_bits
 trues-all_bits [] fits sum room = (omega arith, omega arith)
 trues-all_bits (word ∷ words) fits sum room =
     let few : count_ones word ≤ 64 = ones-le 64 word fits.0.fits in
     let first : trues (bits_of 64 word) ≡ count_ones word = trues-bits_of 64 word fits.0.fits in
-    let both : trues (bits_of 64 word ++ all_bits words) ≡ trues (bits_of 64 word) + trues (all_bits words) = trues-append (bits_of 64 word) (all_bits words) in
+    let both : trues (bits_of 64 word ++ all_bits words) ≡ trues (bits_of 64 word) + trues (all_bits words) =
+    trues-append (bits_of 64 word) (all_bits words) in
     let rest = trues-all_bits words fits.1 (sum + count_ones word) (omega arith) in (
       ap (λ s. fold_l added s (map (λ x. x) (map count_ones words))) (omega arith) ∙ rest.0 ∙ omega arith,
       omega (arith, rest.1),
@@ -58,14 +62,16 @@ trues-all_bits (word ∷ words) fits sum room =
 
 -- the sum, which is at most 64 for each word
 pub len-row_of : (words : List ℕ) → Each1 (Fits w64) words → 64 * length words < 2 ^ 64
-    → (fold_l added 0 (map (λ x. x) (map count_ones words)) ≡ set.len (row_of words)) × (set.len (row_of words) ≤ 64 * length words)
+    → (fold_l added 0 (map (λ x. x) (map count_ones words)) ≡ set.len (row_of words))
+    × (set.len (row_of words) ≤ 64 * length words)
 unfolding row_of
 len-row_of words fits room =
     let all = trues-all_bits words fits 0 (omega arith) in
     let is : set.len (set_from 0 (all_bits words)) ≡ trues (all_bits words) = len-set_from 0 (all_bits words) in
     (omega (arith, all.0, is), omega (arith, all.1, is))
 
-pub sum_fits : (words : List ℕ) → length words ≡ 32 → Each1 (Fits w64) words → Fits w32 (fold_l added 0 (map (λ x. x) (map count_ones words)))
+pub sum_fits : (words : List ℕ) → length words ≡ 32 → Each1 (Fits w64) words
+    → Fits w32 (fold_l added 0 (map (λ x. x) (map count_ones words)))
 sum_fits words long fits =
     let all = len-row_of words fits (omega arith) in
     record { fits = omega (arith, all.0, all.1) }

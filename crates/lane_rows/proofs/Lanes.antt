@@ -27,9 +27,11 @@ is_one-min_not zero (suc (suc y)) a b = absurd (omega arith)
 is_one-min_not (suc zero) (suc (suc y)) a b = absurd (omega arith)
 
 is_set-or : (a b i : ℕ) → is_set (bit_or a b) i ≡ (is_set a i || is_set b i)
-is_set-or a b i = ap (λ n. n == 1) (bit_at_or a b i) ∙ is_one-max (bit_at a i) (bit_at b i) (bit_at-lt a i) (bit_at-lt b i)
+is_set-or a b i =
+    ap (λ n. n == 1) (bit_at_or a b i) ∙ is_one-max (bit_at a i) (bit_at b i) (bit_at-lt a i) (bit_at-lt b i)
 
-is_set-and_not : (a b i : ℕ) → b < 2 ^ 64 → i < 64 → is_set (bit_and a (bit_not w64 b)) i ≡ (is_set a i && not (is_set b i))
+is_set-and_not : (a b i : ℕ) → b < 2 ^ 64 → i < 64
+    → is_set (bit_and a (bit_not w64 b)) i ≡ (is_set a i && not (is_set b i))
 is_set-and_not a b i fits below =
     ap (λ n. n == 1) (bit_at_and a (bit_not w64 b) i ∙ ap (min (bit_at a i)) (bit_at_not w64 b i fits below))
     ∙ is_one-min_not (bit_at a i) (bit_at b i) (bit_at-lt a i) (bit_at-lt b i)
@@ -46,7 +48,8 @@ is_set-zip_or (x ∷ xs) (y ∷ ys) long zero i = is_set-or x y i
 is_set-zip_or (x ∷ xs) (y ∷ ys) long (suc l) i = is_set-zip_or xs ys (omega arith) l i
 
 is_set-zip_and_not : (xs ys : List ℕ) → length xs ≡ length ys → Each1 (Fits w64) ys → (l i : ℕ) → i < 64
-    → is_set (get_or (zip2 bit_and xs (map (bit_not w64) ys)) l 0) i ≡ (is_set (get_or xs l 0) i && not (is_set (get_or ys l 0) i))
+    → is_set (get_or (zip2 bit_and xs (map (bit_not w64) ys)) l 0) i
+    ≡ (is_set (get_or xs l 0) i && not (is_set (get_or ys l 0) i))
 is_set-zip_and_not [] [] long fits l i below =
     not_set-zero i ∙ ap (λ b. b && not (is_set 0 i)) (sym (not_set-zero i))
 is_set-zip_and_not [] (y ∷ ys) long fits l i below = absurd (omega arith)
@@ -55,7 +58,8 @@ is_set-zip_and_not (x ∷ xs) (y ∷ ys) long fits zero i below = is_set-and_not
 is_set-zip_and_not (x ∷ xs) (y ∷ ys) long fits (suc l) i below = is_set-zip_and_not xs ys (omega arith) fits.1 l i below
 
 -- the words of a union
-pub row_of-or : (xs ys : List ℕ) → length xs ≡ length ys → row_of (zip2 bit_or xs ys) ≡ set.union (row_of xs) (row_of ys)
+pub row_of-or : (xs ys : List ℕ) → length xs ≡ length ys
+    → row_of (zip2 bit_or xs ys) ≡ set.union (row_of xs) (row_of ys)
 row_of-or xs ys long =
     row_of-is (zip2 bit_or xs ys) (set.union (row_of xs) (row_of ys)) (λ q.
     is_set-zip_or xs ys long (q / 64) (q % 64)

@@ -55,7 +55,8 @@ first_lane_cons words lane h = record {
   below zero lt = refl
   below (suc l) lt = h.zero_below l (omega arith)
 
-first_lane_prefix : (words : List ℕ) → 0 < lane_mask words → IsFirstLane words (prefix_len (λ x. not (is_some_lane x)) words)
+first_lane_prefix : (words : List ℕ) → 0 < lane_mask words
+    → IsFirstLane words (prefix_len (λ x. not (is_some_lane x)) words)
 first_lane_prefix [] some = absurd (omega arith)
 first_lane_prefix (zero ∷ words) some =
     subst (IsFirstLane (zero ∷ words)) (omega arith) (first_lane_cons words _ (first_lane_prefix words (omega arith)))
@@ -74,7 +75,8 @@ least_of_first_lane : (words : List ℕ) (lane : ℕ) → length words ≡ 32 �
 least_of_first_lane words lane long fits first =
     let word = get_or words lane 0 in
     let bit = trailing_zeros w64 word in
-    let lowest = bit_at-trailing_zeros w64 word first.has_bit (Each1-get_or (Fits w64) words lane 0 first.within fits).fits in
+    let lowest =
+    bit_at-trailing_zeros w64 word first.has_bit (Each1-get_or (Fits w64) words lane 0 first.within fits).fits in
     let lane_is : (64 * lane + bit) / 64 ≡ lane = omega (arith, lowest.0) in
     let bit_is : (64 * lane + bit) % 64 ≡ bit = omega (arith, lowest.0) in
     record {
@@ -86,7 +88,8 @@ least_of_first_lane words lane long fits first =
       none_below = λ q lt.
           contains-row_of words q
           ∙ elim (cases_lt (q / 64) lane) [
-            | inl below ↦ ap (λ w. is_set w (q % 64)) (first.zero_below (q / 64) below) ∙ ap (λ b. b == 1) (bit_at-zero (q % 64))
+            | inl below ↦ ap (λ w. is_set w (q % 64)) (first.zero_below (q / 64) below)
+                ∙ ap (λ b. b == 1) (bit_at-zero (q % 64))
             | inr at ↦
                 let same : q / 64 ≡ lane = omega (arith, lowest.0) in
                 ap (λ l. is_set (get_or words l 0) (q % 64)) same
@@ -99,8 +102,11 @@ positive zero h = absurd (h refl)
 positive (suc n) h = omega arith
 
 -- the lowest bit of the mask is the first lane, whose lowest bit is the least number
-pub least_by_mask : (words : List ℕ) (mask : ℕ) → length words ≡ 32 → Each1 (Fits w64) words → mask ≡ lane_mask words → (mask ≡ 0 → ⊥)
-    → (trailing_zeros w64 mask < 32) × IsLeastOf (row_of words) (64 * trailing_zeros w64 mask + trailing_zeros w64 (get_or words (trailing_zeros w64 mask) 0))
+pub least_by_mask : (words : List ℕ) (mask : ℕ) → length words ≡ 32 → Each1 (Fits w64) words → mask ≡ lane_mask words
+    → (mask ≡ 0 → ⊥)
+    → (trailing_zeros w64 mask < 32)
+    × IsLeastOf (row_of words)
+    (64 * trailing_zeros w64 mask + trailing_zeros w64 (get_or words (trailing_zeros w64 mask) 0))
 least_by_mask words mask long fits is some =
     let some_lane : 0 < lane_mask words = positive (lane_mask words) (λ none. some (is ∙ none)) in
     let lane : trailing_zeros w64 mask ≡ prefix_len (λ x. not (is_some_lane x)) words =

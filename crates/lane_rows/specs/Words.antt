@@ -16,7 +16,8 @@ all_bits (word ∷ words) = bits_of 64 word ++ all_bits words
 -- the numbers whose bits are set, where the first bit stands for the number told
 unfoldable pub set_from : ℕ → List Bool → set.FinSet nat_cmp
 set_from number [] = set.empty
-set_from number (bit ∷ bits) = if bit then set.insert (set_from (number + 1) bits) number else set_from (number + 1) bits
+set_from number (bit ∷ bits) =
+    if bit then set.insert (set_from (number + 1) bits) number else set_from (number + 1) bits
 
 -- the set that words stand for: number n is bit n of them
 unfoldable pub row_of : List ℕ → set.FinSet nat_cmp
