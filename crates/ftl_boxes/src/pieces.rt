@@ -70,8 +70,8 @@ impl Sample {
         self.push_sized(out, piece, width, height)
     }
 
-    #[tactic(auto, using(crate::proofs::SampleLemmas::parts_more))]
     /// Writes the pieces from `start` to below `end`.
+    #[tactic(auto, using(crate::proofs::SampleLemmas::parts_more))]
     pub(crate) fn push_pieces(
         self,
         out: &mut String,

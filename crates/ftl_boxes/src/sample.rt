@@ -1,6 +1,6 @@
 //! Pages of any size, from a number.
 
-ghost use Rattle.std.specs.Prelude.{◌≡◌, ◌≢◌, ◌≤◌, IfOk, IfErr, Ok, Err, string_bytes};
+ghost use Rattle.std.specs.Prelude.{◌≡◌, ◌≢◌, ◌≤◌, IfOk, IfErr, IsOk, Ok, Err, string_bytes};
 ghost use Rattle.ftl_boxes.specs.declared.fault.SampleFault.TheVariants.{OutOfMemory};
 ghost use Rattle.ftl_boxes.specs.Sample.{head, tail, sample_text};
 ghost use Rattle.ftl_boxes.specs.SamplePage.{sample_page_of};
@@ -13,15 +13,17 @@ use std::alloc::{AllocError, Global};
 
 const GREATEST_SIZE: u32 = 200_000;
 
-/// At least how many bytes a piece takes with its share of its group, and the lines around them.
-const PIECE_BYTES: usize = 40;
+/// No less than a piece takes with its share of the brackets of a group of eight.
+const PIECE_BYTES: usize = 34;
 
+/// No less than the other lines and the brackets of a smaller group take.
 const FRAME_BYTES: usize = 200;
 
 /// The page of a sample of `n` pieces in the grammar of this name.
 pub fn sample_page(alloc: Global, n: u32, grammar: &str) -> Result<String, SampleFault>
     ensures text { IfOk result (λ t. sample_page_of grammar.now n ≡ Ok (string_bytes t)) }
     ensures fault { IfErr result (λ e. e ≢ OutOfMemory → sample_page_of grammar.now n ≡ Err e) }
+    ensures memory { IfErr result (λ e. e ≡ OutOfMemory → IsOk (sample_page_of grammar.now n)) }
 {
     let Some(grammar) = Grammar::named(grammar.as_bytes()) else {
         return Err(SampleFault::NameUnknown);
