@@ -1,0 +1,11 @@
+pub mod Block
+pub mod Float
+pub mod Flow
+pub mod Inline
+pub mod Lines
+pub mod Numbers
+pub mod Sample
+pub mod SamplePage
+pub mod Shipped
+pub mod Stack
+pub mod Table
