@@ -1,0 +1,2 @@
+pub use Rattle.ftl_syntax.specs.Trees
+pub mod WorkedFormulas
