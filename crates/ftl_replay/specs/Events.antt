@@ -23,6 +23,12 @@ hand_of (Left hand) = hand
 hand_of (Another hand) = hand
 hand_of (GiveUp hand other) = hand
 
+-- the event is a step of its hand alone
+abbrev pub IsOwn : Event → Type 0
+IsOwn (Another hand) = ⊥
+IsOwn (GiveUp hand other) = ⊥
+IsOwn event = Unit {0}
+
 -- the step is one that the event asks for, by its kind, and by its word where the kind leaves that open
 abbrev pub Asks : Meaning → Event → OneStep → Type 0
 Asks m (Look hand item) s = (s.kind ≡ load_counter) × (s.word ≡ count_word m item)

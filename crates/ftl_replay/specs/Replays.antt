@@ -45,6 +45,28 @@ pub record IsFirstNoStep (m : Meaning) (cells : List ℕ) (events : List Event) 
   pub before : LeadTo m cells (take at events) words places
   pub no_step : IsStepAt m event places → ⊥
 
+-- the hands have these places, and keep the rule together with the words of a lawful work
+pub record IsStateOf (m : Meaning) (words : List ℕ) (hands : List HandState) (places : List ReplayPlace) : Type 0 where
+  pub lawful : IsLawfulWork m
+  pub kept : IsKeptBy m words hands
+  pub at : ArePlacesOf hands places
+
+-- there are such hands
+abbrev pub IsState : Meaning → List ℕ → List ReplayPlace → Type 0
+IsState m words places = (hands : List HandState) × IsStateOf m words hands places
+
+-- the event is a step from this state to one of these words and places
+pub record DoesAt (m : Meaning) (event : Event) (words : List ℕ) (hands : List HandState) (next : List ℕ)
+    (places : List ReplayPlace) : Type 0 where
+  pub more : List HandState
+  pub does : Does m event words hands next more
+  pub then : ArePlacesOf more places
+
+-- whatever the hands at these places, the event is a step
+pub record IsMade (m : Meaning) (event : Event) (words : List ℕ) (places : List ReplayPlace) (next : List ℕ)
+    (then : List ReplayPlace) : Type 0 where
+  pub each : (hands : List HandState) → IsStateOf m words hands places → DoesAt m event words hands next then
+
 -- the words keep the rule together with some hands, of which one is at the place
 pub record IsStageWith (m : Meaning) (words : List ℕ) (place : HandPlace) : Type 0 where
   pub lawful : IsLawfulWork m

@@ -6,6 +6,7 @@
 
 mod event;
 mod fault;
+mod make;
 mod place;
 mod scratch;
 mod steps;

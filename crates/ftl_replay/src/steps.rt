@@ -61,7 +61,6 @@ pub(crate) fn claim<W: Work>(
     ensures step { IfSome result (λ q. (hand : ℕ)
         → StepsTo (W.meaning work.now) (Claim hand) row.old.items place row.new.items q) }
     ensures none { IfNone result (CanClaim (live place) → ⊥) }
-    ensures same { IfNone result (row.new.items ≡ row.old.items) }
 {
     let HandPlace::Looked { item } = place else {
         return None;
@@ -114,7 +113,6 @@ pub(crate) fn fill<W: Work>(
     ensures step { IfSome result (λ q. (hand : ℕ)
         → StepsTo (W.meaning work.now) (Fill hand) row.old.items place row.new.items q) }
     ensures none { IfNone result (HasRead (W.meaning work.now) (live place) → ⊥) }
-    ensures same { IfNone result (row.new.items ≡ row.old.items) }
     ensures reads { vec_capacity scratch.old.reads ≤ vec_capacity scratch.new.reads }
     ensures room { scratch.new.stack.room ≡ scratch.old.stack.room }
 {
@@ -142,7 +140,6 @@ pub(crate) fn mark<W: Work>(
     ensures step { IfSome result (λ q. (hand : ℕ)
         → StepsTo (W.meaning work.now) (Mark hand) row.old.items place row.new.items q) }
     ensures none { IfNone result (CanMark (W.meaning work.now) (live place) → ⊥) }
-    ensures same { IfNone result (row.new.items ≡ row.old.items) }
 {
     let HandPlace::Working { item, step, .. } = place else {
         return None;
@@ -163,7 +160,6 @@ pub(crate) fn deliver<W: Work>(
     ensures step { IfSome result (λ q. (hand : ℕ)
         → StepsTo (W.meaning work.now) (Deliver hand) row.old.items place row.new.items q) }
     ensures none { IfNone result (CanDeliver (live place) → ⊥) }
-    ensures same { IfNone result (row.new.items ≡ row.old.items) }
 {
     let Some((item, sent)) = sent_from(place) else {
         return None;
