@@ -7,6 +7,8 @@ use Rattle.ftl_cells.specs.State.{live, HandState, newcomer, first_name, opening
 use Rattle.ftl_cells.specs.Kept.{hand_at, IsKeptBy}
 use Rattle.ftl_cells.specs.declared.place.HandPlace.{HandPlace}
 use Rattle.ftl_replay.specs.declared.place.ReplayPlace.{ReplayPlace}
+use Rattle.ftl_replay.specs.declared.fault.ReplayFault.{ReplayFault}
+use Rattle.ftl_replay.specs.declared.fault.ReplayFault.TheVariants.{NoStep, OutOfMemory}
 use Rattle.ftl_replay.specs.declared.event.Event.{Event}
 use Rattle.ftl_replay.specs.Events.{Does, place_at, IsStepAt, StepsAsAsked}
 
@@ -29,12 +31,21 @@ pub record LeadTo (m : Meaning) (cells : List ℕ) (events : List Event) (words 
   pub lead : Lead m (opening_words m cells) (newcomer m first_name ∷ []) events words hands
   pub at : ArePlacesOf hands places
 
--- the words of a table by what they are for
-pub record AreWordsOf (m : Meaning) (words : List ℕ) (end : ℕ) (cells states counters : List ℕ) : Type 0 where
-  pub is : words ≡ end ∷ [] ++ cells ++ states ++ counters
+-- the words of a table, of the common end's counter, the cells, the states of the items and their counters
+abbrev pub row_of : ℕ → List ℕ → List ℕ → List ℕ → List ℕ
+row_of end cells states counters = end ∷ [] ++ cells ++ states ++ counters
+
+-- so many words are of each kind
+pub record HasParts (m : Meaning) (cells states counters : List ℕ) : Type 0 where
   pub each_cell : length cells ≡ cell_total m
   pub each_state : length states ≡ item_total m
   pub each_counter : length counters ≡ item_total m
+
+-- these words keep the rule together with hands at these places
+pub record KeepsRule (m : Meaning) (words : List ℕ) (places : List ReplayPlace) : Type 0 where
+  pub hands : List HandState
+  pub rule : IsKeptBy m words hands
+  pub at : ArePlacesOf hands places
 
 -- the events before this place lead to a state in which the event there is no step
 pub record IsFirstNoStep (m : Meaning) (cells : List ℕ) (events : List Event) (at : ℕ) : Type 0 where
@@ -44,6 +55,11 @@ pub record IsFirstNoStep (m : Meaning) (cells : List ℕ) (events : List Event) 
   pub places : List ReplayPlace
   pub before : LeadTo m cells (take at events) words places
   pub no_step : IsStepAt m event places → ⊥
+
+-- the fault is want of memory, or names that place
+abbrev pub NamesFirstNoStep : Meaning → List ℕ → List Event → ReplayFault → Type 0
+NamesFirstNoStep m cells events (NoStep at) = IsFirstNoStep m cells events at
+NamesFirstNoStep m cells events OutOfMemory = Unit {0}
 
 -- the hands have these places, and keep the rule together with the words of a lawful work
 pub record IsStateOf (m : Meaning) (words : List ℕ) (hands : List HandState) (places : List ReplayPlace) : Type 0 where

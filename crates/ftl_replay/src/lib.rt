@@ -6,7 +6,9 @@
 
 mod event;
 mod fault;
+mod interleaving;
 mod make;
+mod opening;
 mod place;
 mod scratch;
 mod steps;
@@ -14,3 +16,4 @@ mod steps;
 pub use event::Event;
 pub use fault::ReplayFault;
 pub use place::ReplayPlace;
+pub use interleaving::{Replayed, replay};
