@@ -1,18 +1,17 @@
 -- What an event that is a step says of the place of its hand.
-use Rattle.std.proofs.Common.{◌≡◌, ◌≢◌, ℕ, suc, ◌+◌, ◌<◌, ◌⊎◌, inl, inr, ⊎_elim, subst, refl, sym, ap, ◌∙◌, arith, List, get_or}
+use Rattle.std.proofs.Common.{◌≡◌, ℕ, suc, ◌<◌, ◌⊎◌, inl, inr, ⊎_elim, subst, refl, sym, ap, ◌∙◌, arith, List, get_or}
 use Rattle.std.specs.Prelude.{Some}
 use mathlib.Core.Option.{some}
 use lib.ListN.{get_elem?}
-use Rattle.ftl_cells.specs.Work.{Meaning, cell_total, item_total, step_total, target_of, read_total, read_of, next_at}
+use Rattle.ftl_cells.specs.Work.{Meaning, item_total, target_of, read_of, next_at}
 use Rattle.ftl_cells.specs.State.{Place, live, spent, OneStep, HandState, given_up, StepKind, load_counter, claim, load_cell, store_cell, mark, delivery, split, join, Sends, IsFree, Steps, finds_ready, finds_waiting, claims, misses, reads, fills, marks, sends, finishes, ends, finds_left, end_word, cell_word, state_word, count_word}
-use Rattle.ftl_cells.specs.Kept.{hand_at}
 use Rattle.ftl_cells.specs.Calls.{CanClaim, CanRead, CanMark, CanDeliver}
 use Rattle.ftl_cells.specs.declared.place.HandPlace.TheVariants.{Idle, Looked, Working, Filled, Sending, Ended}
 use Rattle.ftl_cells.proofs.KeptSteps.{elem_is}
 use Rattle.ftl_replay.specs.declared.place.ReplayPlace.{ReplayPlace}
 use Rattle.ftl_replay.specs.declared.event.Event.{Event}
 use Rattle.ftl_replay.specs.declared.event.Event.TheVariants.{Look, Claim, Read, Fill, Mark, Deliver, Left, Another, GiveUp}
-use Rattle.ftl_replay.specs.Events.{hand_of, place_at, HasRead, IsPlaceFor, IsOtherFor, IsStepAt, IsOwn, Asks, OneSteps, Does}
+use Rattle.ftl_replay.specs.Events.{hand_of, place_at, HasRead, IsPlaceFor, IsStepAt, IsOwn, Asks, OneSteps, Does}
 use Rattle.ftl_replay.specs.Replays.{ArePlacesOf}
 
 -- where a hand is that makes a step of this kind on this word
@@ -79,9 +78,12 @@ module _ (m : Meaning) (words : List ℕ) (v : HandState) where
 
 looked_at : (m : Meaning) (p : Place) (item word : ℕ) → word ≡ count_word m item → Fits m p load_counter word
     → (p ≡ live Idle) × (item < item_total m)
-looked_at m p item word e f = (f.0, ⊎_elim (λ z. absurd (omega arith))
-    (λ (q : (i : ℕ) × (i < item_total m) × (word ≡ count_word m i)).
-    let b : q.0 < item_total m = q.1 in let is : word ≡ count_word m q.0 = q.2 in omega arith) f.1)
+looked_at m p item word e f = (
+  f.0,
+  ⊎_elim (λ z. absurd (omega arith))
+      (λ (q : (i : ℕ) × (i < item_total m) × (word ≡ count_word m i)).
+      let b : q.0 < item_total m = q.1 in let is : word ≡ count_word m q.0 = q.2 in omega arith) f.1,
+)
 
 -- the place is one for the event, where a step of its hand alone is as it asks
 asked_at : (m : Meaning) (event : Event) (p : Place) (s : OneStep) → IsOwn event → Asks m event s

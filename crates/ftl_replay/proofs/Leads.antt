@@ -1,18 +1,18 @@
 -- Where events lead to a state, that state keeps the rule, and one more step leads on from it.
-use Rattle.std.proofs.Common.{◌≡◌, ℕ, zero, suc, ◌+◌, ◌<◌, ◌≤◌, subst, refl, sym, ap, ◌∙◌, arith, List, [], ◌∷◌, ◌++◌, length, take, set, get_or, add-one, None}
+use Rattle.std.proofs.Common.{◌≡◌, ℕ, zero, suc, ◌+◌, ◌<◌, subst, refl, sym, ap, ◌∙◌, List, [], ◌∷◌, ◌++◌, length, take, set, get_or, add-one, None}
 use Rattle.std.proofs.Math.Seq.{take-suc}
 use Rattle.ftl_cells.specs.Work.{Meaning, IsLawfulWork}
-use Rattle.ftl_cells.specs.State.{live, HandState, newcomer, first_name, next_name, given_up, after, after_join, split, end_word, opening_words, AreFirst, Makes, steps, splits, joins, Reached, begins, goes_on as reaches}
+use Rattle.ftl_cells.specs.State.{HandState, newcomer, first_name, next_name, given_up, after, after_join, split, end_word, opening_words, AreFirst, Makes, steps, splits, joins, Reached, begins, goes_on as reaches}
 use Rattle.ftl_cells.specs.Kept.{hand_at, IsKeptBy}
 use Rattle.ftl_cells.specs.declared.place.HandPlace.TheVariants.{Idle}
 use Rattle.ftl_cells.proofs.Opening.{opening_is}
 use Rattle.ftl_cells.proofs.KeptSteps.{kept}
 use Rattle.ftl_replay.specs.declared.place.ReplayPlace.{ReplayPlace}
-use Rattle.ftl_replay.specs.declared.place.ReplayPlace.TheVariants.{Live, Spent}
+use Rattle.ftl_replay.specs.declared.place.ReplayPlace.TheVariants.{Live}
 use Rattle.ftl_replay.specs.declared.event.Event.{Event}
 use Rattle.ftl_replay.specs.declared.event.Event.TheVariants.{Look, Claim, Read, Fill, Mark, Deliver, Left, Another, GiveUp}
-use Rattle.ftl_replay.specs.Events.{hand_of, place_of, place_at, OneSteps, OneSplits, OneJoins, Does}
-use Rattle.ftl_replay.specs.Replays.{Lead, stays, goes_on, ArePlacesOf, LeadTo, IsStateOf, IsState, IsMade, DoesAt, KeepsRule}
+use Rattle.ftl_replay.specs.Events.{hand_of, place_at, OneSteps, OneSplits, OneJoins, Does}
+use Rattle.ftl_replay.specs.Replays.{Lead, stays, goes_on, LeadTo, IsState, IsMade, KeepsRule}
 
 one_makes : (m : Meaning) (event : Event) (words : List ℕ) (hands : List HandState) (next : List ℕ)
     (more : List HandState) → OneSteps m event words hands next more → Makes m words hands next more
@@ -63,11 +63,14 @@ module _ (m : Meaning) (law : IsLawfulWork m) (cells : List ℕ) (first : AreFir
 
   pub state_of : (events : List Event) (words : List ℕ) (places : List ReplayPlace)
       → LeadTo m cells events words places → IsState m words places
-  state_of events words places l = (l.hands, record {
-    lawful = law;
-    kept = lead_keeps events words l.hands l.lead;
-    at = l.at;
-  })
+  state_of events words places l = (
+    l.hands,
+    record {
+      lawful = law;
+      kept = lead_keeps events words l.hands l.lead;
+      at = l.at;
+    },
+  )
 
   pub keeps_rule : (events : List Event) (words : List ℕ) (places : List ReplayPlace)
       → LeadTo m cells events words places → KeepsRule m words places

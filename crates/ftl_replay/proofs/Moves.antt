@@ -1,9 +1,9 @@
 -- A hand that stands where a kind of step is made makes it, and where it stands then.
-use Rattle.std.proofs.Common.{◌≡◌, ◌≢◌, ℕ, suc, ◌+◌, ◌-◌, ◌<◌, ◌≤◌, subst, refl, sym, ap, ◌∙◌, arith, List, get_or, set, length}
+use Rattle.std.proofs.Common.{◌≡◌, ◌≢◌, ℕ, suc, ◌+◌, ◌-◌, ◌<◌, ◌≤◌, subst, refl, sym, ap, ◌∙◌, arith, List, get_or, set}
 use Rattle.std.specs.Prelude.{Some}
 use Rattle.std.proofs.lemmas.Grind.{get_or_default_zero}
 use Rattle.ftl_cells.specs.Work.{Meaning, item_total, next_total, next_at, step_total, target_of, read_total, read_of, solved_word}
-use Rattle.ftl_cells.specs.State.{Place, live, HandState, after, after_delivery, OneStep, load_counter, claim, load_cell, store_cell, mark, delivery, Sends, finds_ready, finds_waiting, claims, misses, reads, fills, marks, sends, finishes, ends, finds_left, Steps, end_word, cell_word, state_word, count_word, word_total}
+use Rattle.ftl_cells.specs.State.{live, after, after_delivery, load_counter, claim, load_cell, store_cell, mark, delivery, Sends, finds_ready, finds_waiting, claims, misses, reads, fills, marks, sends, finishes, ends, finds_left, end_word, cell_word, state_word, count_word, word_total}
 use Rattle.ftl_cells.specs.Kept.{stage_now, Works, IsInRange}
 use Rattle.ftl_cells.specs.declared.place.HandPlace.{HandPlace}
 use Rattle.ftl_cells.specs.declared.place.HandPlace.TheVariants.{Idle, Looked, Working, Filled, Sending, Ended}
@@ -15,7 +15,8 @@ use Rattle.ftl_replay.specs.Replays.{IsStageWith, StepsTo}
 module _ (m : Meaning) (words : List ℕ) (hand : ℕ) where
   pub looks_ready : (p : HandPlace) (item : ℕ) → p ≡ Idle → item < item_total m
       → get_or words (count_word m item) 0 ≡ 0 → StepsTo m (Look hand item) words p words (Looked item)
-  looks_ready p item e b z = record { each = λ v at. (
+  looks_ready p item e b z = record {
+    each = λ v at. (
       after v (live (Looked item)) load_counter (count_word m item) (Some 0),
       record {
         step = finds_ready item (at ∙ ap live e) b z;
@@ -24,11 +25,13 @@ module _ (m : Meaning) (words : List ℕ) (hand : ℕ) where
         asked = (refl, refl);
       },
       refl,
-    ) }
+    );
+  }
 
   pub looks_waiting : (p : HandPlace) (item : ℕ) → p ≡ Idle → item < item_total m
       → get_or words (count_word m item) 0 ≢ 0 → StepsTo m (Look hand item) words p words Idle
-  looks_waiting p item e b z = record { each = λ v at. (
+  looks_waiting p item e b z = record {
+    each = λ v at. (
       after v (live Idle) load_counter (count_word m item) (Some (get_or words (count_word m item) 0)),
       record {
         step = finds_waiting item (at ∙ ap live e) b z;
@@ -38,11 +41,13 @@ module _ (m : Meaning) (words : List ℕ) (hand : ℕ) where
         asked = (refl, refl);
       },
       refl,
-    ) }
+    );
+  }
 
   pub claims_free : (item : ℕ) → get_or words (state_word m item) 0 ≡ 0
       → StepsTo m (Claim hand) words (Looked item) (set words (state_word m item) 1) (Working item 0 0)
-  claims_free item z = record { each = λ v at. (
+  claims_free item z = record {
+    each = λ v at. (
       after v (live (Working item 0 0)) claim (state_word m item) (Some 0),
       record {
         step = claims item at z;
@@ -51,11 +56,13 @@ module _ (m : Meaning) (words : List ℕ) (hand : ℕ) where
         asked = refl;
       },
       refl,
-    ) }
+    );
+  }
 
   pub claims_taken : (item : ℕ) → get_or words (state_word m item) 0 ≢ 0
       → StepsTo m (Claim hand) words (Looked item) words Idle
-  claims_taken item z = record { each = λ v at. (
+  claims_taken item z = record {
+    each = λ v at. (
       after v (live Idle) claim (state_word m item) (Some (get_or words (state_word m item) 0)),
       record {
         step = misses item at z;
@@ -64,11 +71,13 @@ module _ (m : Meaning) (words : List ℕ) (hand : ℕ) where
         asked = refl;
       },
       refl,
-    ) }
+    );
+  }
 
   pub reads_next : (i j r : ℕ) → j < step_total m i → r < read_total m i j
       → StepsTo m (Read hand) words (Working i j r) words (Working i j (r + 1))
-  reads_next i j r b c = record { each = λ v at. (
+  reads_next i j r b c = record {
+    each = λ v at. (
       after v (live (Working i j (r + 1))) load_cell (cell_word (read_of m i j r))
           (Some (get_or words (cell_word (read_of m i j r)) 0)),
       record {
@@ -82,12 +91,14 @@ module _ (m : Meaning) (words : List ℕ) (hand : ℕ) where
         asked = refl;
       },
       refl,
-    ) }
+    );
+  }
 
   pub fills_target : (i j r : ℕ) → j < step_total m i → r ≡ read_total m i j
       → StepsTo m (Fill hand) words (Working i j r)
       (set words (cell_word (target_of m i j)) (solved_word m (target_of m i j))) (Working i (j + 1) 0)
-  fills_target i j r b c = record { each = λ v at. (
+  fills_target i j r b c = record {
+    each = λ v at. (
       after v (live (Working i (j + 1) 0)) store_cell (cell_word (target_of m i j))
           (Some (get_or words (cell_word (target_of m i j)) 0)),
       record {
@@ -101,11 +112,13 @@ module _ (m : Meaning) (words : List ℕ) (hand : ℕ) where
         asked = refl;
       },
       refl,
-    ) }
+    );
+  }
 
   pub marks_item : (i j r : ℕ) → j ≡ step_total m i
       → StepsTo m (Mark hand) words (Working i j r) (set words (state_word m i) 2) (Filled i)
-  marks_item i j r b = record { each = λ v at. (
+  marks_item i j r b = record {
+    each = λ v at. (
       after v (live (Filled i)) mark (state_word m i) (Some (get_or words (state_word m i) 0)),
       record {
         step = marks i j r at b;
@@ -114,12 +127,14 @@ module _ (m : Meaning) (words : List ℕ) (hand : ℕ) where
         asked = refl;
       },
       refl,
-    ) }
+    );
+  }
 
   pub sends_one : (p : HandPlace) (i k left : ℕ) → Sends (live p) i k → k < next_total m i
       → get_or words (count_word m (next_at m i k)) 0 ≡ suc left
       → StepsTo m (Deliver hand) words p (set words (count_word m (next_at m i k)) left) (Sending i (k + 1))
-  sends_one p i k left s b z = record { each = λ v at. (
+  sends_one p i k left s b z = record {
+    each = λ v at. (
       after_delivery v i k (next_at m i k) (count_word m (next_at m i k)) left,
       record {
         step = sends i k left (subst (λ q. Sends q i k) (sym at) s) b z;
@@ -128,12 +143,14 @@ module _ (m : Meaning) (words : List ℕ) (hand : ℕ) where
         asked = refl;
       },
       refl,
-    ) }
+    );
+  }
 
   pub finishes_item : (p : HandPlace) (i k left : ℕ) → Sends (live p) i k → k ≡ next_total m i
       → get_or words end_word 0 ≡ suc left
       → StepsTo m (Deliver hand) words p (set words end_word left) Idle
-  finishes_item p i k left s b z = record { each = λ v at. (
+  finishes_item p i k left s b z = record {
+    each = λ v at. (
       after v (live Idle) delivery end_word (Some (suc left)),
       record {
         step = finishes i k left (subst (λ q. Sends q i k) (sym at) s) b z;
@@ -142,11 +159,13 @@ module _ (m : Meaning) (words : List ℕ) (hand : ℕ) where
         asked = refl;
       },
       refl,
-    ) }
+    );
+  }
 
   pub ends_here : (p : HandPlace) → p ≡ Idle → get_or words end_word 0 ≡ 0
       → StepsTo m (Left hand) words p words Ended
-  ends_here p e z = record { each = λ v at. (
+  ends_here p e z = record {
+    each = λ v at. (
       after v (live Ended) load_counter end_word (Some 0),
       record {
         step = ends (at ∙ ap live e) z;
@@ -155,11 +174,13 @@ module _ (m : Meaning) (words : List ℕ) (hand : ℕ) where
         asked = (refl, refl);
       },
       refl,
-    ) }
+    );
+  }
 
   pub finds_more : (p : HandPlace) → p ≡ Idle → get_or words end_word 0 ≢ 0
       → StepsTo m (Left hand) words p words Idle
-  finds_more p e z = record { each = λ v at. (
+  finds_more p e z = record {
+    each = λ v at. (
       after v (live Idle) load_counter end_word (Some (get_or words end_word 0)),
       record {
         step = finds_left (at ∙ ap live e) z;
@@ -168,7 +189,8 @@ module _ (m : Meaning) (words : List ℕ) (hand : ℕ) where
         asked = (refl, refl);
       },
       refl,
-    ) }
+    );
+  }
 
 bounded : (m : Meaning) (p : HandPlace) (i k : ℕ) → IsInRange m (live p) → Sends (live p) i k → k ≢ next_total m i
     → k < next_total m i

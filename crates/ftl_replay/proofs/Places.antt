@@ -1,13 +1,12 @@
 -- Places on a vector beside the hands that have them.
-use Rattle.std.proofs.Common.{◌≡◌, ◌≢◌, ℕ, zero, suc, ◌+◌, ◌<◌, ◌≤◌, subst, refl, sym, ap, ◌∙◌, arith, List, [], ◌∷◌, ◌++◌, length, get_or, set, length-append}
+use Rattle.std.proofs.Common.{◌≡◌, ◌≢◌, ℕ, zero, suc, ◌<◌, subst, refl, sym, ap, ◌∙◌, arith, List, [], ◌∷◌, ◌++◌, length, get_or, set, length-append}
 use Rattle.std.proofs.lemmas.List.{get_or-set_same, get_or-set_other, length-set}
 use mathlib.Core.Logic.{dite}
 use mathlib.Core.Option.{some}
 use native.Mathlib.Decide.{ℕ_discrete}
 use lib.ListN.{get_elem?}
-use Rattle.ftl_cells.specs.State.{Place, live, spent, HandState, given_up}
+use Rattle.ftl_cells.specs.State.{spent, HandState, given_up}
 use Rattle.ftl_cells.specs.Kept.{hand_at}
-use Rattle.ftl_cells.specs.declared.place.HandPlace.{HandPlace}
 use Rattle.ftl_cells.proofs.KeptSteps.{snoc_here, snoc_other}
 use Rattle.ftl_replay.specs.declared.place.ReplayPlace.{ReplayPlace}
 use Rattle.ftl_replay.specs.declared.place.ReplayPlace.TheVariants.{Spent}

@@ -1,5 +1,5 @@
 -- The step on shared cells that each event asks for, and where it is one.
-use Rattle.std.specs.Prelude.{◌≡◌, ◌≢◌, ℕ, ◌<◌, List, ◌∷◌, [], ◌++◌, length, slice_index_or, slice_set, Some, None}
+use Rattle.std.specs.Prelude.{◌≡◌, ◌≢◌, ℕ, ◌<◌, List, ◌∷◌, [], ◌++◌, slice_index_or, slice_set, Some, None}
 use mathlib.Core.Option.{some}
 use lib.ListN.{get_elem?}
 use Rattle.ftl_cells.specs.Work.{Meaning, item_total, step_total, read_total}

@@ -1,5 +1,5 @@
 -- The states that lists of events lead to, from the opening of shared cells.
-use Rattle.std.specs.Prelude.{◌≡◌, ℕ, ◌<◌, List, [], ◌∷◌, ◌++◌, length, take}
+use Rattle.std.specs.Prelude.{◌≡◌, ℕ, List, [], ◌∷◌, ◌++◌, length, take}
 use mathlib.Core.Option.{some}
 use lib.ListN.{get_elem?}
 use Rattle.ftl_cells.specs.Work.{Meaning, IsLawfulWork, cell_total, item_total}
@@ -13,7 +13,8 @@ use Rattle.ftl_replay.specs.declared.event.Event.{Event}
 use Rattle.ftl_replay.specs.Events.{Does, place_at, IsStepAt, StepsAsAsked}
 
 -- the events lead, one step each, from one state of words and hands to another
-pub data Lead (m : Meaning) (words : List ℕ) (hands : List HandState) : List Event → List ℕ → List HandState → Type 0 where
+pub data Lead (m : Meaning) (words : List ℕ) (hands : List HandState) : List Event → List ℕ → List HandState → Type
+    0 where
   stays : Lead m words hands [] words hands
   goes_on : {events : List Event} {next last : List ℕ} {more most : List HandState} (event : Event)
       → Lead m words hands events next more → Does m event next more last most
@@ -62,7 +63,8 @@ NamesFirstNoStep m cells events (NoStep at) = IsFirstNoStep m cells events at
 NamesFirstNoStep m cells events OutOfMemory = Unit {0}
 
 -- the hands have these places, and keep the rule together with the words of a lawful work
-pub record IsStateOf (m : Meaning) (words : List ℕ) (hands : List HandState) (places : List ReplayPlace) : Type 0 where
+pub record IsStateOf (m : Meaning) (words : List ℕ) (hands : List HandState)
+    (places : List ReplayPlace) : Type 0 where
   pub lawful : IsLawfulWork m
   pub kept : IsKeptBy m words hands
   pub at : ArePlacesOf hands places

@@ -7,6 +7,7 @@
 mod event;
 mod fault;
 mod interleaving;
+pub mod laws;
 mod make;
 mod opening;
 mod place;
@@ -15,5 +16,5 @@ mod steps;
 
 pub use event::Event;
 pub use fault::ReplayFault;
-pub use place::ReplayPlace;
 pub use interleaving::{Replayed, replay};
+pub use place::ReplayPlace;

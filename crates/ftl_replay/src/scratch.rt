@@ -28,13 +28,7 @@ impl Scratch {
 
     /// What a step gives over the values that its reads gave. The cells hold them still, since no
     /// cell changes once it is filled.
-    pub(crate) fn result_of<W: Work>(
-        &mut self,
-        work: &W,
-        row: &[u64],
-        item: u32,
-        step: u32,
-    ) -> Val
+    pub(crate) fn result_of<W: Work>(&mut self, work: &W, row: &[u64], item: u32, step: u32) -> Val
         requires step { IsStepOfItem (W.meaning work.now) item step }
         requires cells { cell_total (W.meaning work.now) < length row.now }
         requires read { (k : ℕ) → k < read_total (W.meaning work.now) item step

@@ -27,12 +27,7 @@ fn count_at<W: Work>(work: &W, item: u32) -> usize
     1 + work.cells() as usize + work.items() as usize + item as usize
 }
 
-pub(crate) fn look<W: Work>(
-    work: &W,
-    row: &[u64],
-    place: HandPlace,
-    item: u32,
-) -> Option<HandPlace>
+pub(crate) fn look<W: Work>(work: &W, row: &[u64], place: HandPlace, item: u32) -> Option<HandPlace>
     requires stage { IsStageWith (W.meaning work.now) row.now place }
     ensures step { IfSome result (λ q. (hand : ℕ)
         → StepsTo (W.meaning work.now) (Look hand item) row.now place row.now q) }
@@ -52,11 +47,7 @@ pub(crate) fn look<W: Work>(
     Some(HandPlace::Idle)
 }
 
-pub(crate) fn claim<W: Work>(
-    work: &W,
-    row: &mut Vec<u64>,
-    place: HandPlace,
-) -> Option<HandPlace>
+pub(crate) fn claim<W: Work>(work: &W, row: &mut Vec<u64>, place: HandPlace) -> Option<HandPlace>
     requires stage { IsStageWith (W.meaning work.now) row.old.items place }
     ensures step { IfSome result (λ q. (hand : ℕ)
         → StepsTo (W.meaning work.now) (Claim hand) row.old.items place row.new.items q) }
@@ -78,11 +69,7 @@ pub(crate) fn claim<W: Work>(
 }
 
 /// A load of the cell of the next read. Its value is taken again at the fill.
-pub(crate) fn read<W: Work>(
-    work: &W,
-    row: &[u64],
-    place: HandPlace,
-) -> Option<HandPlace>
+pub(crate) fn read<W: Work>(work: &W, row: &[u64], place: HandPlace) -> Option<HandPlace>
     requires stage { IsStageWith (W.meaning work.now) row.now place }
     ensures step { IfSome result (λ q. (hand : ℕ)
         → StepsTo (W.meaning work.now) (Read hand) row.now place row.now q) }
@@ -131,11 +118,7 @@ pub(crate) fn fill<W: Work>(
     })
 }
 
-pub(crate) fn mark<W: Work>(
-    work: &W,
-    row: &mut Vec<u64>,
-    place: HandPlace,
-) -> Option<HandPlace>
+pub(crate) fn mark<W: Work>(work: &W, row: &mut Vec<u64>, place: HandPlace) -> Option<HandPlace>
     requires stage { IsStageWith (W.meaning work.now) row.old.items place }
     ensures step { IfSome result (λ q. (hand : ℕ)
         → StepsTo (W.meaning work.now) (Mark hand) row.old.items place row.new.items q) }
@@ -151,11 +134,7 @@ pub(crate) fn mark<W: Work>(
     Some(HandPlace::Filled { item })
 }
 
-pub(crate) fn deliver<W: Work>(
-    work: &W,
-    row: &mut Vec<u64>,
-    place: HandPlace,
-) -> Option<HandPlace>
+pub(crate) fn deliver<W: Work>(work: &W, row: &mut Vec<u64>, place: HandPlace) -> Option<HandPlace>
     requires stage { IsStageWith (W.meaning work.now) row.old.items place }
     ensures step { IfSome result (λ q. (hand : ℕ)
         → StepsTo (W.meaning work.now) (Deliver hand) row.old.items place row.new.items q) }
@@ -196,11 +175,7 @@ fn take_one(row: &mut Vec<u64>, at: usize)
     row[at] -= 1;
 }
 
-pub(crate) fn left<W: Work>(
-    work: &W,
-    row: &[u64],
-    place: HandPlace,
-) -> Option<HandPlace>
+pub(crate) fn left<W: Work>(work: &W, row: &[u64], place: HandPlace) -> Option<HandPlace>
     requires stage { IsStageWith (W.meaning work.now) row.now place }
     ensures step { IfSome result (λ q. (hand : ℕ)
         → StepsTo (W.meaning work.now) (Left hand) row.now place row.now q) }

@@ -1,18 +1,19 @@
-use Rattle.std.proofs.Common.{◌≡◌, ◌+◌, ◌++◌, subst, sym, ap, ◌∙◌, arith, rules, [], ◌∷◌, take, get_or}
-use Rattle.ftl_cells.specs.Kept.{IsKeptBy}
+use Rattle.std.proofs.Common.{◌++◌, subst, sym, ap, ◌∙◌, arith, rules, [], ◌∷◌, take, get_or}
 use Rattle.ftl_cells.specs.State.{opening_words}
 use Rattle.ftl_cells.specs.declared.place.HandPlace.TheVariants.{Idle}
 use Rattle.ftl_replay.specs.declared.event.Event.TheVariants.{Look}
 use Rattle.ftl_replay.specs.declared.place.ReplayPlace.TheVariants.{Live}
 use Rattle.ftl_replay.specs.Replays.{LeadTo, KeepsRule}
 use Rattle.ftl_replay.proofs.Places.{there}
-use Rattle.ftl_replay.proofs.Leads.{lead_keeps, state_of, keeps_rule, leads_on, leads_nowhere, take_more}
+use Rattle.ftl_replay.proofs.Leads.{state_of, keeps_rule, leads_on, leads_nowhere, take_more}
 use Rattle.ftl_replay.proofs.interleaving.replay.Goals as goal
 
 pub loop-at-init : goal.loop-at-init
 loop-at-init g c = record {
-  lead = subst (λ ws. LeadTo (g.W.Meant.meaning c.args.work.now) c.args.words.items [] ws c.push.new.self.items) (sym c.in_ok-open_row.ensures.row)
-      (subst (λ ps. LeadTo (g.W.Meant.meaning c.args.work.now) c.args.words.items [] (opening_words (g.W.Meant.meaning c.args.work.now) c.args.words.items) ps)
+  lead = subst (λ ws. LeadTo (g.W.Meant.meaning c.args.work.now) c.args.words.items [] ws c.push.new.self.items)
+      (sym c.in_ok-open_row.ensures.row)
+      (subst (λ ps. LeadTo (g.W.Meant.meaning c.args.work.now) c.args.words.items [] (opening_words
+      (g.W.Meant.meaning c.args.work.now) c.args.words.items) ps)
       (sym (c.in_ok-push.ensures.items ∙ ap (λ xs. xs ++ Live Idle ∷ []) c.new-hands.ensures.items))
       (leads_nowhere (g.W.Meant.meaning c.args.work.now) c.args.words.items));
   reads = c.in_ok-scratch.ensures.reads;
@@ -20,7 +21,8 @@ loop-at-init g c = record {
 }
 
 pub make_step-requires-clause-state : goal.make_step-requires-clause-state
-make_step-requires-clause-state g c = λ l o. state_of (g.W.Meant.meaning c.args.work.now) c.open_row.ensures.lawful c.args.words.items c.requires.words (take c.loop-at.at c.args.events.now) c.loop-at.row.items
+make_step-requires-clause-state g c = λ l o. state_of (g.W.Meant.meaning c.args.work.now) c.open_row.ensures.lawful
+    c.args.words.items c.requires.words (take c.loop-at.at c.args.events.now) c.loop-at.row.items
     c.loop-at.hands.items c.loop-at.invariant.lead
 
 pub returns-then-not-branch-clause-no_step : goal.returns-then-not-branch-clause-no_step
@@ -35,9 +37,11 @@ returns-then-not-branch-clause-no_step g c = record {
 
 pub loop-at-preserved : goal.loop-at-preserved
 loop-at-preserved g c = record {
-  lead = subst (λ es. LeadTo (g.W.Meant.meaning c.args.work.now) c.args.words.items es c.make_step.new.row.items c.make_step.new.hands.items)
+  lead = subst (λ es. LeadTo (g.W.Meant.meaning c.args.work.now) c.args.words.items es c.make_step.new.row.items
+      c.make_step.new.hands.items)
       (sym (take_more c.args.events.now c.loop-at.at (Look 0 0) (omega arith)))
-      (leads_on (g.W.Meant.meaning c.args.work.now) c.open_row.ensures.lawful c.args.words.items c.requires.words (take c.loop-at.at c.args.events.now) (get_or c.args.events.now c.loop-at.at (Look 0 0))
+      (leads_on (g.W.Meant.meaning c.args.work.now) c.open_row.ensures.lawful c.args.words.items c.requires.words
+      (take c.loop-at.at c.args.events.now) (get_or c.args.events.now c.loop-at.at (Look 0 0))
       c.loop-at.row.items c.make_step.new.row.items c.loop-at.hands.items c.make_step.new.hands.items
       c.loop-at.invariant.lead (c.in_ok-make_step.ensures.step (search rules)));
   reads = omega (arith, c.make_step.ensures.reads, c.loop-at.invariant.reads);
@@ -47,12 +51,16 @@ loop-at-preserved g c = record {
 pub cut-requires-after_bounds : goal.cut-requires-after_bounds
 cut-requires-after_bounds g c =
     let k : KeepsRule (g.W.Meant.meaning c.args.work.now) c.loop-at.row.items c.loop-at.hands.items =
-    keeps_rule (g.W.Meant.meaning c.args.work.now) c.open_row.ensures.lawful c.args.words.items c.requires.words (take c.loop-at.at c.args.events.now) c.loop-at.row.items
+    keeps_rule (g.W.Meant.meaning c.args.work.now) c.open_row.ensures.lawful c.args.words.items c.requires.words
+    (take c.loop-at.at c.args.events.now) c.loop-at.row.items
     c.loop-at.hands.items c.loop-at.invariant.lead in
     λ l o. k.rule.count
 
 pub returns-clause-kept : goal.returns-clause-kept
-returns-clause-kept g c = subst (λ ws. KeepsRule (g.W.Meant.meaning c.args.work.now) ws c.in_ok-cut.field-0.hands.items) c.in_ok-cut.ensures.row
-    (subst (λ ps. KeepsRule (g.W.Meant.meaning c.args.work.now) c.loop-at.row.items ps) (sym c.in_ok-cut.ensures.hands)
-    (keeps_rule (g.W.Meant.meaning c.args.work.now) c.open_row.ensures.lawful c.args.words.items c.requires.words (take c.loop-at.at c.args.events.now) c.loop-at.row.items c.loop-at.hands.items
+returns-clause-kept g c = subst (λ ws. KeepsRule (g.W.Meant.meaning c.args.work.now) ws
+    c.in_ok-cut.field-0.hands.items) c.in_ok-cut.ensures.row
+    (subst (λ ps. KeepsRule (g.W.Meant.meaning c.args.work.now) c.loop-at.row.items ps)
+    (sym c.in_ok-cut.ensures.hands)
+    (keeps_rule (g.W.Meant.meaning c.args.work.now) c.open_row.ensures.lawful c.args.words.items c.requires.words
+    (take c.loop-at.at c.args.events.now) c.loop-at.row.items c.loop-at.hands.items
     c.loop-at.invariant.lead))

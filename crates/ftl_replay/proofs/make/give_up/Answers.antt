@@ -1,4 +1,4 @@
-use Rattle.std.proofs.Common.{◌≡◌, rules, subst, arith}
+use Rattle.std.proofs.Common.{rules, subst, arith}
 use Rattle.ftl_cells.specs.State.{IsFree}
 use Rattle.ftl_replay.specs.Events.{place_at}
 use Rattle.ftl_replay.proofs.Made.{makes_join}
