@@ -12,7 +12,7 @@ use Rattle.ftl_replay.specs.declared.place.ReplayPlace.TheVariants.{Live}
 use Rattle.ftl_replay.specs.declared.event.Event.{Event}
 use Rattle.ftl_replay.specs.declared.event.Event.TheVariants.{Look, Claim, Read, Fill, Mark, Deliver, Left, Another, GiveUp}
 use Rattle.ftl_replay.specs.Events.{hand_of, place_at, OneSteps, OneSplits, OneJoins, Does}
-use Rattle.ftl_replay.specs.Replays.{Lead, stays, goes_on, LeadTo, IsState, IsMade, KeepsRule}
+use Rattle.ftl_replay.specs.Replays.{Lead, stays, goes_on, LeadTo, IsState, IsMade}
 
 one_makes : (m : Meaning) (event : Event) (words : List ℕ) (hands : List HandState) (next : List ℕ)
     (more : List HandState) → OneSteps m event words hands next more → Makes m words hands next more
@@ -71,14 +71,6 @@ module _ (m : Meaning) (law : IsLawfulWork m) (cells : List ℕ) (first : AreFir
       at = l.at;
     },
   )
-
-  pub keeps_rule : (events : List Event) (words : List ℕ) (places : List ReplayPlace)
-      → LeadTo m cells events words places → KeepsRule m words places
-  keeps_rule events words places l = record {
-    hands = l.hands;
-    rule = lead_keeps events words l.hands l.lead;
-    at = l.at;
-  }
 
   pub leads_on : (events : List Event) (event : Event) (words next : List ℕ) (places then : List ReplayPlace)
       → LeadTo m cells events words places → IsMade m event words places next then

@@ -42,11 +42,10 @@ pub record HasParts (m : Meaning) (cells states counters : List ℕ) : Type 0 wh
   pub each_state : length states ≡ item_total m
   pub each_counter : length counters ≡ item_total m
 
--- these words keep the rule together with hands at these places
-pub record KeepsRule (m : Meaning) (words : List ℕ) (places : List ReplayPlace) : Type 0 where
-  pub hands : List HandState
-  pub rule : IsKeptBy m words hands
-  pub at : ArePlacesOf hands places
+-- the state of these words that the events lead to keeps the rule
+abbrev pub LeadIsKept : Meaning → List ℕ → List Event → List ℕ → Type 0
+LeadIsKept m cells events words = (hands : List HandState)
+    → Lead m (opening_words m cells) (newcomer m first_name ∷ []) events words hands → IsKeptBy m words hands
 
 -- the events before this place lead to a state in which the event there is no step
 pub record IsFirstNoStep (m : Meaning) (cells : List ℕ) (events : List Event) (at : ℕ) : Type 0 where

@@ -1,6 +1,6 @@
 ghost use Rattle.std.specs.Prelude.{◌≡◌, ◌<◌, length, IfOk, IfErr};
 ghost use Rattle.ftl_cells.specs.State.{AreFirst, word_total};
-ghost use Rattle.ftl_replay.specs.Replays.{LeadTo, HasParts, NamesFirstNoStep, KeepsRule};
+ghost use Rattle.ftl_replay.specs.Replays.{LeadTo, HasParts, NamesFirstNoStep, LeadIsKept};
 ghost use Rattle.ftl_replay.specs.Replays.{row_of};
 
 use crate::event::Event;
@@ -38,8 +38,8 @@ pub fn replay<W: Work>(
         (row_of r.end r.cells.items r.states.items r.counters.items) r.hands.items) }
     ensures parts { IfOk result (λ r. HasParts (W.meaning work.now) r.cells.items r.states.items
         r.counters.items) }
-    ensures kept { IfOk result (λ r. KeepsRule (W.meaning work.now)
-        (row_of r.end r.cells.items r.states.items r.counters.items) r.hands.items) }
+    ensures kept { IfOk result (λ r. LeadIsKept (W.meaning work.now) words.items events.now
+        (row_of r.end r.cells.items r.states.items r.counters.items)) }
     // Otherwise the first that is none.
     ensures no_step { IfErr result
         (λ e. NamesFirstNoStep (W.meaning work.now) words.items events.now e) }

@@ -1,11 +1,12 @@
+use Rattle.ftl_cells.specs.Kept.{IsKeptBy}
 use Rattle.std.proofs.Common.{◌++◌, subst, sym, ap, ◌∙◌, arith, rules, [], ◌∷◌, take, get_or}
 use Rattle.ftl_cells.specs.State.{opening_words}
 use Rattle.ftl_cells.specs.declared.place.HandPlace.TheVariants.{Idle}
 use Rattle.ftl_replay.specs.declared.event.Event.TheVariants.{Look}
 use Rattle.ftl_replay.specs.declared.place.ReplayPlace.TheVariants.{Live}
-use Rattle.ftl_replay.specs.Replays.{LeadTo, KeepsRule}
+use Rattle.ftl_replay.specs.Replays.{LeadTo}
 use Rattle.ftl_replay.proofs.Places.{there}
-use Rattle.ftl_replay.proofs.Leads.{state_of, keeps_rule, leads_on, leads_nowhere, take_more}
+use Rattle.ftl_replay.proofs.Leads.{lead_keeps, state_of, leads_on, leads_nowhere, take_more}
 use Rattle.ftl_replay.proofs.interleaving.replay.Goals as goal
 
 pub loop-at-init : goal.loop-at-init
@@ -50,17 +51,14 @@ loop-at-preserved g c = record {
 
 pub cut-requires-after_bounds : goal.cut-requires-after_bounds
 cut-requires-after_bounds g c =
-    let k : KeepsRule (g.W.Meant.meaning c.args.work.now) c.loop-at.row.items c.loop-at.hands.items =
-    keeps_rule (g.W.Meant.meaning c.args.work.now) c.open_row.ensures.lawful c.args.words.items c.requires.words
-    (take c.loop-at.at c.args.events.now) c.loop-at.row.items
-    c.loop-at.hands.items c.loop-at.invariant.lead in
-    λ l o. k.rule.count
+    let l = c.loop-at.invariant.lead in
+    let k : IsKeptBy (g.W.Meant.meaning c.args.work.now) c.loop-at.row.items l.hands =
+    lead_keeps (g.W.Meant.meaning c.args.work.now) c.open_row.ensures.lawful c.args.words.items
+    c.requires.words
+    (take c.loop-at.at c.args.events.now) c.loop-at.row.items l.hands l.lead in
+    λ κ o. k.count
 
 pub returns-clause-kept : goal.returns-clause-kept
-returns-clause-kept g c = subst (λ ws. KeepsRule (g.W.Meant.meaning c.args.work.now) ws
-    c.in_ok-cut.field-0.hands.items) c.in_ok-cut.ensures.row
-    (subst (λ ps. KeepsRule (g.W.Meant.meaning c.args.work.now) c.loop-at.row.items ps)
-    (sym c.in_ok-cut.ensures.hands)
-    (keeps_rule (g.W.Meant.meaning c.args.work.now) c.open_row.ensures.lawful c.args.words.items c.requires.words
-    (take c.loop-at.at c.args.events.now) c.loop-at.row.items c.loop-at.hands.items
-    c.loop-at.invariant.lead))
+returns-clause-kept g c = λ hands l. lead_keeps (g.W.Meant.meaning c.args.work.now) c.open_row.ensures.lawful c.args.words.items
+    c.requires.words
+    c.args.events.now _ hands l
