@@ -21,6 +21,13 @@ pub fn events_are_steps()
         → IsStepAt m event places }
 {}
 
+/// From one state an event leads to one state at most.
+pub fn one_state_follows()
+    ensures { (m : Meaning) (words : List ℕ) (hands : List HandState) (next last : List ℕ)
+        (more most : List HandState) (event : Event) → Does m event words hands next more
+        → Does m event words hands last most → (next ≡ last) × (more ≡ most) }
+{}
+
 /// The states that events lead to are states that steps reach from the opening, and keep the rule.
 pub fn events_keep_the_rule()
     ensures reached { (m : Meaning) (words last : List ℕ) (hands more : List HandState)
