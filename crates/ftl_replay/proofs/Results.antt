@@ -170,7 +170,8 @@ module _ (m : Meaning) (words : List ℕ) (v : HandState) where
 
   asked_same : (event : Event) (s t : OneStep) → IsOwn event → Asks m event s → Asks m event t
       → result s.kind s.word ≡ result t.kind t.word
-  asked_same (Look hand item) s t o a b = ap (λ k. result k s.word) a.0 ∙ ap (λ y. result load_counter y) (a.1 ∙ sym b.1)
+  asked_same (Look hand item) s t o a b = ap (λ k. result k s.word) a.0
+      ∙ ap (λ y. result load_counter y) (a.1 ∙ sym b.1)
       ∙ sym (ap (λ k. result k t.word) b.0)
   asked_same (Claim hand) s t o a b = ap (λ k. result k s.word) a ∙ sym (ap (λ k. result k t.word) b)
   asked_same (Read hand) s t o a b = ap (λ k. result k s.word) a ∙ sym (ap (λ k. result k t.word) b)

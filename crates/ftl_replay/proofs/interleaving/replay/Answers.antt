@@ -59,6 +59,6 @@ cut-requires-after_bounds g c =
     λ κ o. k.count
 
 pub returns-clause-kept : goal.returns-clause-kept
-returns-clause-kept g c = λ hands l. lead_keeps (g.W.Meant.meaning c.args.work.now) c.open_row.ensures.lawful c.args.words.items
-    c.requires.words
+returns-clause-kept g c = λ hands l. lead_keeps (g.W.Meant.meaning c.args.work.now)
+    c.open_row.ensures.lawful c.args.words.items c.requires.words
     c.args.events.now _ hands l
