@@ -23,11 +23,9 @@ pub fn faults_of_names()
         (codes "i")) }
     ensures one_space { first_fault worked.class_named_as_interface ≡ Some (fault.TwiceNamed
         (codes "R")) }
-    ensures no_interface { first_fault worked.no_interface ≡ Some (fault.RootMissing (codes "R"))
-        }
+    ensures no_interface { first_fault worked.no_interface ≡ Some (fault.RootMissing (codes "R")) }
     ensures shown { first_fault worked.shows_unknown ≡ Some (fault.UnknownName (codes "b")) }
-    ensures children { first_fault worked.unknown_children ≡ Some (fault.UnknownName (codes "D"))
-        }
+    ensures children { first_fault worked.unknown_children ≡ Some (fault.UnknownName (codes "D")) }
     ensures child { first_fault worked.child_named_as_attribute ≡ Some (fault.TwiceNamed (codes
         "a")) }
     ensures inherits { first_fault worked.root_with_inherited ≡ Some (fault.RootInherits (codes
@@ -90,8 +88,7 @@ pub fn faults_of_one_child()
         (worked.num 0) ∷ [])) ≡ None }
     ensures last_for_kids { first_fault (worked.one_child true (worked.kid_is (codes "c") (codes
         "x") (worked.last_or (codes "c") (codes "w") 0) ∷ [])) ≡ Some (fault.BadRead
-        (worked.of_kids (codes "C") (codes "c") (codes "x")) (names.Last (codes "c") (codes "w")))
-        }
+        (worked.of_kids (codes "C") (codes "c") (codes "x")) (names.Last (codes "c") (codes "w"))) }
     ensures last_of_single { first_fault (worked.one_child false (worked.self_is (codes "a")
         (worked.last_or (codes "c") (codes "w") 0) ∷ [])) ≡ Some (fault.BadRead (worked.of_self
         (codes "C") (codes "a")) (names.Last (codes "c") (codes "w"))) }
@@ -157,8 +154,7 @@ pub fn bad_reads()
         (codes "C") (codes "c") (codes "x")) (names.Prev (codes "x"))) }
     ensures last_for_later { first_fault (worked.two (worked.kids_are (codes "c") (codes "x")
         (worked.num 0) (worked.last_or (codes "d") (codes "v") 0) ∷ [])) ≡ Some (fault.BadRead
-        (worked.of_kids (codes "C") (codes "c") (codes "x")) (names.Last (codes "d") (codes "v")))
-        }
+        (worked.of_kids (codes "C") (codes "c") (codes "x")) (names.Last (codes "d") (codes "v"))) }
     ensures of_another_child { first_fault (worked.two (worked.kid_is (codes "c") (codes "x")
         (worked.reading (reads.This (codes "y"))) ∷ [])) ≡ Some (fault.BadRead (worked.of_kids
         (codes "C") (codes "c") (codes "x")) (names.This (codes "y"))) }
