@@ -33,7 +33,8 @@ impl Sample {
     ) -> Result<(), AllocError>
         requires in_order { start ≤ end }
         requires state { numbers.old.state ≡ state self.size (2 * start) }
-        ensures text { OnOk result (string_bytes out.new ≡ string_bytes out.old ++ row_text self.grammar self.size start end) }
+        ensures text { OnOk result (string_bytes out.new ≡ string_bytes out.old ++ row_text
+            self.grammar self.size start end) }
         ensures state { OnOk result (numbers.new.state ≡ state self.size (2 * end)) }
     {
         out.push_str("Row { cells = [ ")?;
@@ -52,7 +53,8 @@ impl Sample {
         requires in_order { start ≤ end }
         requires small { end ≤ 200000 }
         requires state { numbers.old.state ≡ state self.size (2 * start) }
-        ensures text { OnOk result (string_bytes out.new ≡ string_bytes out.old ++ rows_text self.grammar self.size start end) }
+        ensures text { OnOk result (string_bytes out.new ≡ string_bytes out.old ++ rows_text
+            self.grammar self.size start end) }
         ensures state { OnOk result (numbers.new.state ≡ state self.size (2 * end)) }
     {
         let middle = start + 4;
@@ -74,7 +76,8 @@ impl Sample {
         requires in_order { 8 * group ≤ end }
         requires small { end ≤ 200000 }
         requires state { numbers.old.state ≡ state self.size (2 * (8 * group)) }
-        ensures text { OnOk result (string_bytes out.new ≡ string_bytes out.old ++ group_pieces self.grammar self.size group (8 * group) end) }
+        ensures text { OnOk result (string_bytes out.new ≡ string_bytes out.old ++ group_pieces
+            self.grammar self.size group (8 * group) end) }
         ensures state { OnOk result (numbers.new.state ≡ state self.size (2 * end)) }
     {
         match self.grammar {
@@ -93,8 +96,10 @@ impl Sample {
         requires small { self.size ≤ 200000 }
         requires some { 8 * group < self.size }
         requires state { numbers.old.state ≡ state self.size (2 * (8 * group)) }
-        ensures text { OnOk result (string_bytes out.new ≡ string_bytes out.old ++ group_text self.grammar self.size group) }
-        ensures state { OnOk result (numbers.new.state ≡ state self.size (2 * min self.size (8 * (group + 1)))) }
+        ensures text { OnOk result (string_bytes out.new ≡ string_bytes out.old ++ group_text
+            self.grammar self.size group) }
+        ensures state { OnOk result (numbers.new.state ≡ state self.size (2 * min self.size (8 *
+            (group + 1)))) }
     {
         let end = self.size.min(8 * (group + 1));
         out.push_str(opening(self.grammar, group))?;

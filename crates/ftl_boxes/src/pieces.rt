@@ -2,7 +2,8 @@
 
 ghost use Rattle.std.specs.Prelude.{◌≡◌, ◌≤◌, ◌<◌, ◌+◌, ◌*◌, ◌++◌, OnOk, string_bytes};
 ghost use Rattle.ftl_boxes.specs.Numbers.{state};
-ghost use Rattle.ftl_boxes.specs.Sample.{box_text, strip_text, is_grid, piece_of, piece_text, pieces_text};
+ghost use Rattle.ftl_boxes.specs.Sample.{box_text, strip_text, is_grid, piece_of, piece_text};
+ghost use Rattle.ftl_boxes.specs.Sample.{pieces_text};
 
 use crate::grammar::Grammar;
 use crate::numbers::Numbers;
@@ -16,7 +17,8 @@ pub(crate) struct Sample {
 }
 
 fn push_box(out: &mut String, class: &str, width: u32, height: u32) -> Result<(), AllocError>
-    ensures { OnOk result (string_bytes out.new ≡ string_bytes out.old ++ box_text class.now width height) }
+    ensures { OnOk result (string_bytes out.new ≡ string_bytes out.old ++ box_text class.now width
+        height) }
 {
     write!(out, "{class} {{ iw = {width} ih = {height} }} ")
 }
@@ -42,7 +44,8 @@ impl Sample {
         width: u32,
         height: u32,
     ) -> Result<(), AllocError>
-        ensures { OnOk result (string_bytes out.new ≡ string_bytes out.old ++ piece_of self.grammar piece width height) }
+        ensures { OnOk result (string_bytes out.new ≡ string_bytes out.old ++ piece_of self.grammar
+            piece width height) }
     {
         match self.grammar {
             Grammar::Float if piece % 8 == 0 => push_box(out, "FloatLeft", width, height),
@@ -62,7 +65,8 @@ impl Sample {
         piece: u32,
     ) -> Result<(), AllocError>
         requires { numbers.old.state ≡ state self.size (2 * piece) }
-        ensures text { OnOk result (string_bytes out.new ≡ string_bytes out.old ++ piece_text self.grammar self.size piece) }
+        ensures text { OnOk result (string_bytes out.new ≡ string_bytes out.old ++ piece_text
+            self.grammar self.size piece) }
         ensures state { numbers.new.state ≡ state self.size (2 * (piece + 1)) }
     {
         let width = 10 + numbers.draw(40);
@@ -81,7 +85,8 @@ impl Sample {
     ) -> Result<(), AllocError>
         requires in_order { start ≤ end }
         requires state { numbers.old.state ≡ state self.size (2 * start) }
-        ensures text { OnOk result (string_bytes out.new ≡ string_bytes out.old ++ pieces_text self.grammar self.size start end) }
+        ensures text { OnOk result (string_bytes out.new ≡ string_bytes out.old ++ pieces_text
+            self.grammar self.size start end) }
         ensures state { OnOk result (numbers.new.state ≡ state self.size (2 * end)) }
     {
         for piece in start..end {

@@ -1,7 +1,8 @@
 //! Laws: samples that were worked out by hand.
 
 ghost use Rattle.std.specs.Prelude.{◌≡◌, ◌/◌, codes};
-ghost use Rattle.ftl_boxes.specs.declared.grammar.Grammar.TheVariants.{Stack, Block, Inline, Float, Table, Flow};
+ghost use Rattle.ftl_boxes.specs.declared.grammar.Grammar.TheVariants.{Stack, Block, Inline, Float};
+ghost use Rattle.ftl_boxes.specs.declared.grammar.Grammar.TheVariants.{Table, Flow};
 ghost use Rattle.ftl_boxes.specs.Numbers.{state, piece_width, piece_height};
 ghost use Rattle.ftl_boxes.specs.Sample.{sample_text, group_text};
 
@@ -64,8 +65,8 @@ pub fn samples_of_nine_pieces()
         ≡ codes "%page 1\n%grammar flow\n%schedule auto\n%document\nArticle { vw = 800 pad = 16 kids = [\nPara { margin = 6 space = 4 items = [ Word { iw = 42 ih = 12 } Word { iw = 49 ih = 15 } Word { iw = 32 ih = 15 } Word { iw = 47 ih = 8 } Word { iw = 15 ih = 14 } Word { iw = 47 ih = 13 } Word { iw = 41 ih = 12 } Word { iw = 35 ih = 10 } ] }\nPara { margin = 6 space = 4 items = [ Word { iw = 45 ih = 9 } ] }\n] }\n" }
 {}
 
-/// A law: the fourth group of a sample of `flow` is a grid: of one cell, a row of four, a row of four
-/// and one of one, and two rows of four; the third and the fifth are paragraphs.
+/// A law: the fourth group of a sample of `flow` is a grid: of one cell, a row of four, a row of
+/// four and one of one, and two rows of four; the third and the fifth are paragraphs.
 pub fn grids()
     ensures one_cell { group_text Flow 25 3
         ≡ codes "Grid { margin = 4 rows = [ Row { cells = [ Cell { iw = 19 ih = 9 } ] } ] }\n" }

@@ -1,5 +1,5 @@
-//! Shipped texts and samples. They stand above `ftl_boxes`, which is so proved once and not once more
-//! with them.
+//! Shipped texts and samples. They stand above `ftl_boxes`, which is so proved once and not once
+//! more with them.
 #![tactic(auto)]
 
 #[cfg(test)]

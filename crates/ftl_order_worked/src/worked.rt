@@ -1,10 +1,13 @@
 ghost use Rattle.std.specs.Prelude.{reverse, ◌≡◌, ◌↔◌, ◌⊎◌, ℕ, List, [], ◌∷◌, Contains};
 ghost use Rattle.std.specs.List.{AllByRecursion};
 ghost use Rattle.ftl_model.specs.Solves.{Instance, instance_of};
-ghost use Rattle.ftl_model.specs.Stack.{stack, stack_rules, sheet, column, word, box_y, box_h, word_iw};
+ghost use Rattle.ftl_model.specs.Stack.{stack, stack_rules, sheet, column, word, box_y, box_h};
+ghost use Rattle.ftl_model.specs.Stack.{word_iw};
 ghost use Rattle.ftl_model.specs.Table.{SolvesList};
 ghost use Rattle.ftl_model.specs.TreeOf.{IsTreeOf};
-ghost use Rattle.ftl_model.specs.AttributeGrammar.{RuleName, for_self, self_read, each_read, prev_read, last_read, plain, first_then, fold_over};
+ghost use Rattle.ftl_model.specs.AttributeGrammar.{RuleName, for_self, self_read, each_read};
+ghost use Rattle.ftl_model.specs.AttributeGrammar.{prev_read, last_read, plain, first_then};
+ghost use Rattle.ftl_model.specs.AttributeGrammar.{fold_over};
 ghost use Rattle.ftl_model.specs.Worked.{numbers, empty_column, two_words, two_words_values};
 ghost use Rattle.ftl_order.specs.Lawful.{IsLawful, PartsForSelf, PartsForChild};
 ghost use Rattle.ftl_order.specs.Schedule.{EachStandsOnce, spot_of};
@@ -13,10 +16,19 @@ ghost use Rattle.ftl_order.specs.Reads.{Reads};
 ghost use Rattle.ftl_order.specs.Pairs.{Where, Writes, Pair, IsPair};
 ghost use Rattle.ftl_order.specs.Ordered.{IsOrdered};
 ghost use Rattle.ftl_order.specs.LegalOrder.{IsLegalOrder, run};
-ghost use Rattle.ftl_order_worked.specs.WorkedSchedules.{sizes_then_places, places_beside, heights_topdown, places_first, width_twice, y_missing, kids_read_prev_h, sheet_reads_height, column_reads_height, stack_pairs, slanted, slanted_pair, Orders, LeavesUnordered};
+ghost use Rattle.ftl_order_worked.specs.WorkedSchedules.{sizes_then_places, places_beside};
+ghost use Rattle.ftl_order_worked.specs.WorkedSchedules.{heights_topdown, places_first};
+ghost use Rattle.ftl_order_worked.specs.WorkedSchedules.{width_twice, y_missing, kids_read_prev_h};
+ghost use Rattle.ftl_order_worked.specs.WorkedSchedules.{sheet_reads_height, column_reads_height};
+ghost use Rattle.ftl_order_worked.specs.WorkedSchedules.{stack_pairs, slanted, slanted_pair};
+ghost use Rattle.ftl_order_worked.specs.WorkedSchedules.{Orders, LeavesUnordered};
 ghost use Rattle.ftl_order_worked.specs.WorkedRows.{IsOrderedCase, ordered_rows, refused_rows};
-ghost use Rattle.ftl_order_worked.specs.WorkedSteps.{the_column, first_word, second_word, MustBe, IsFree, in_order, in_no_order, two_words_inputs, two_words_order, x_first, y_first, sheet_first, without_y};
-ghost use Rattle.ftl_order_worked.specs.Chain.{chain, chain_topdown, chain_inorder, a_reads_b, three_kids, three_kids_values, chain_order};
+ghost use Rattle.ftl_order_worked.specs.WorkedSteps.{the_column, first_word, second_word, MustBe};
+ghost use Rattle.ftl_order_worked.specs.WorkedSteps.{IsFree, in_order, in_no_order};
+ghost use Rattle.ftl_order_worked.specs.WorkedSteps.{two_words_inputs, two_words_order, x_first};
+ghost use Rattle.ftl_order_worked.specs.WorkedSteps.{y_first, sheet_first, without_y};
+ghost use Rattle.ftl_order_worked.specs.Chain.{chain, chain_topdown, chain_inorder, a_reads_b};
+ghost use Rattle.ftl_order_worked.specs.Chain.{three_kids, three_kids_values, chain_order};
 
 /// A law: the stack grammar and the chain grammar are lawful.
 pub fn worked_grammars_are_lawful()
@@ -62,8 +74,8 @@ pub fn a_chain_of_three()
         ≡ three_kids_values }
 {}
 
-/// A law: each row of the table of ordered reads for one pass, at one case or more, and that an input
-/// has no writer.
+/// A law: each row of the table of ordered reads for one pass, at one case or more, and that an
+/// input has no writer.
 pub fn rows_of_ordered_reads()
     ensures ordered { AllByRecursion IsOrderedCase ordered_rows }
     ensures refused { AllByRecursion (λ x. IsOrderedCase x → ⊥) refused_rows }
@@ -100,8 +112,8 @@ pub fn worked_tables_solve()
     ensures three_kids { SolvesList chain three_kids three_kids_values }
 {}
 
-/// A law: parts that no lawful grammar has: `prev` for the first kid, `this` in the start of a fold,
-/// `last` and a fold in rules for kids of a list, `first` for a single child.
+/// A law: parts that no lawful grammar has: `prev` for the first kid, `this` in the start of a
+/// fold, `last` and a fold in rules for kids of a list, `first` for a single child.
 pub fn parts_that_are_refused()
     ensures first_prev { PartsForChild chain 0 0 (first_then (prev_read 0 0 ∷ []) []) → ⊥ }
     ensures plain_prev { PartsForChild chain 0 0 (plain (prev_read 0 0 ∷ [])) → ⊥ }

@@ -1,4 +1,5 @@
-ghost use Rattle.std.specs.Prelude.{◌≡◌, ◌≢◌, ◌≤◌, ◌<◌, ◌+◌, ◌++◌, ◌⊎◌, ◌↔◌, IsTrue, IfOk, OnOk, IfSome, length, codes, Some, [], if◌then◌else◌};
+ghost use Rattle.std.specs.Prelude.{◌≡◌, ◌≢◌, ◌≤◌, ◌<◌, ◌+◌, ◌++◌, ◌⊎◌, ◌↔◌, IsTrue, IfOk, OnOk};
+ghost use Rattle.std.specs.Prelude.{IfSome, length, codes, Some, [], if◌then◌else◌};
 ghost use Rattle.std.specs.Result.{IsErrOf};
 ghost use Rattle.ftl_edge.specs.Counts.{Rose};
 ghost use Rattle.ftl_model.specs.Stack.{stack};
@@ -101,11 +102,13 @@ fn lay_out(alloc: Global, bytes: &[u8]) -> Result<Decided, AllocError>
 
 /// The answer to the page that the source has left.
 fn read_and_lay_out<S: Source>(alloc: Global, source: &mut S) -> Result<Decided, Undecided>
-    ensures answer { IfOk result (λ d. IfSome (S.remaining source.old) (λ left. IsAnswer run_words left (answer_of d))) }
+    ensures answer { IfOk result (λ d. IfSome (S.remaining source.old) (λ left. IsAnswer run_words
+        left (answer_of d))) }
     ensures status { IfOk result (λ d. IsPageStatus d.status.0) }
     ensures end { IfOk result (λ d. answer_of d ≢ refused 4 (codes "refused page: too long")
         → IfSome (S.remaining source.old) (λ _. S.remaining source.new ≡ Some [])) }
-    ensures fault { IsErrOf result Undecided.ReadFault → Rose (S.fault_count source.old) (S.fault_count source.new) }
+    ensures fault { IsErrOf result Undecided.ReadFault → Rose (S.fault_count source.old)
+        (S.fault_count source.new) }
     ensures at_most { S.taken source.new ≤ S.taken source.old + 67108865 }
     ensures turns { S.calls source.new ≤ S.calls source.old + 67108866 }
 {
@@ -121,20 +124,23 @@ fn read_and_lay_out<S: Source>(alloc: Global, source: &mut S) -> Result<Decided,
     }
 }
 
-/// The answer to the words and to the page that the source has left. Words that are no command leave the source alone.
+/// The answer to the words and to the page that the source has left. Words that are no command
+/// leave the source alone.
 pub fn decide<S: Source>(
     alloc: Global,
     words: &[String],
     source: &mut S,
 ) -> Result<Decided, Undecided>
-    ensures answer { IfOk result (λ d. IfSome (S.remaining source.old) (λ left. IsAnswer (texts words.now) left (answer_of d))) }
+    ensures answer { IfOk result (λ d. IfSome (S.remaining source.old) (λ left. IsAnswer (texts
+        words.now) left (answer_of d))) }
     ensures status { IfOk result (λ d. (d.status.0 ≡ 2) ⊎ IsPageStatus d.status.0) }
     ensures page { texts words.now ≡ run_words → IfOk result (λ d. IsPageStatus d.status.0) }
     ensures refused { texts words.now ≢ run_words
         → IfOk result (λ d. answer_of d ≡ refused 2 (codes "refused words")) }
     ensures end { IfOk result (λ d. texts words.now ≡ run_words → answer_of d ≢ refused 4 (codes "refused page: too long")
         → IfSome (S.remaining source.old) (λ _. S.remaining source.new ≡ Some [])) }
-    ensures fault { IsErrOf result Undecided.ReadFault → Rose (S.fault_count source.old) (S.fault_count source.new) }
+    ensures fault { IsErrOf result Undecided.ReadFault → Rose (S.fault_count source.old)
+        (S.fault_count source.new) }
     ensures at_most { S.taken source.new ≤ S.taken source.old + 67108865 }
     ensures turns { S.calls source.new ≤ S.calls source.old + 67108866 }
     ensures untouched { texts words.now ≢ run_words → source.new ≡ source.old }

@@ -2,9 +2,11 @@ ghost use Rattle.std.specs.Prelude.{◌≡◌, ◌<◌, ◌≤◌, ◌++◌, len
 ghost use Rattle.std.specs.Fmt.{decimal};
 ghost use Rattle.ftl_model.specs.Tree.{size};
 ghost use Rattle.ftl_model.specs.Boxes.{value_text, is_overflow, boxes, shows_overflow};
-ghost use Rattle.ftl_model.specs.StackNames.{stack_names, stack_class_name, stack_attribute_name, stack_shown};
+ghost use Rattle.ftl_model.specs.StackNames.{stack_names, stack_class_name, stack_attribute_name};
+ghost use Rattle.ftl_model.specs.StackNames.{stack_shown};
 ghost use Rattle.ftl_stack.specs.TableOf.{table_of};
-ghost use Rattle.ftl_stack.specs.Text.{shown_value, value_field, area_fields, area_line, area_overflows};
+ghost use Rattle.ftl_stack.specs.Text.{shown_value, value_field, area_fields, area_line};
+ghost use Rattle.ftl_stack.specs.Text.{area_overflows};
 
 use crate::area::Area;
 use ftl_base::Val;

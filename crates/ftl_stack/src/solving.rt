@@ -4,7 +4,8 @@ ghost use Rattle.ftl_model.specs.Path.{node_at, class_at};
 ghost use Rattle.ftl_model.specs.Stack.{stack, sheet, column};
 ghost use Rattle.ftl_model.specs.Solves.{Solves};
 ghost use Rattle.ftl_stack.specs.TableOf.{table_of};
-ghost use Rattle.ftl_stack.specs.Solving.{AreAreas, width_by, height_by, AllSized, KidsPlaced, AllPlaced, SameSizes, OnlyKids};
+ghost use Rattle.ftl_stack.specs.Solving.{AreAreas, width_by, height_by, AllSized, KidsPlaced};
+ghost use Rattle.ftl_stack.specs.Solving.{AllPlaced, SameSizes, OnlyKids};
 
 use crate::area::Area;
 use ftl_base::{Val, Width, add, greatest};

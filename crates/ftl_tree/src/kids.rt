@@ -5,8 +5,8 @@ ghost use Rattle.ftl_model.specs.Stack.{stack};
 
 use crate::tree::Tree;
 
-/// The kids of a node, walked by the sizes of their trees: the first is the next node, and each later
-/// one stands behind the tree of the one before.
+/// The kids of a node, walked by the sizes of their trees: the first is the next node, and each
+/// later one stands behind the tree of the one before.
 impl Tree {
     /// How many kids a node has in a child. Takes as many steps.
     pub fn kid_count(&self, node: u32, child: u32) -> u32

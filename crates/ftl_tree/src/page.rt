@@ -38,7 +38,8 @@ fn read_rows(alloc: Global, document: &[u8]) -> Result<Rows, StackFault>
 /// Reads a document, all of the bytes.
 fn read_document(alloc: Global, document: &[u8]) -> Result<Tree, StackFault>
     ensures found { IfOk result (λ t. IsDocument document.now t) }
-    ensures not_built { IsErrOf result StackFault.NotBuilt → (t : Forest) → IsDocument document.now t → ⊥ }
+    ensures not_built { IsErrOf result StackFault.NotBuilt → (t : Forest) → IsDocument document.now
+        t → ⊥ }
 {
     let rows = read_rows(alloc, document)?;
     Ok(Tree::from_rows(alloc, rows)?)
@@ -51,7 +52,8 @@ pub fn read_stack_page(alloc: Global, bytes: &[u8]) -> Result<Tree, StackFault>
     ensures one { IfOk result (λ t. (other : Forest) → IsInFirstForm bytes.now other → other ≡ t) }
     ensures tree { IfOk result (λ t. IsTreeOf stack t) }
     // What is refused is no page in this form.
-    ensures not_built { IsErrOf result StackFault.NotBuilt → (t : Forest) → IsInFirstForm bytes.now t → ⊥ }
+    ensures not_built { IsErrOf result StackFault.NotBuilt → (t : Forest) → IsInFirstForm bytes.now
+        t → ⊥ }
 {
     if bytes.len() > MAX_PAGE {
         return Err(StackFault::NotBuilt);

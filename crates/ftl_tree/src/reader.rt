@@ -47,7 +47,8 @@ impl<'a> Reader<'a> {
     #[tactic(auto, unfolding(crate::specs::Reading::expect))]
     fn expect(&mut self, terminal: Terminal) -> Result<(), StackFault>
         ensures rows { self.new.rows ≡ self.old.rows }
-        ensures reads { Reads result (reading.expect terminal (state self.old.symbols self.old.rows)) (state self.new.symbols self.new.rows) }
+        ensures reads { Reads result (reading.expect terminal (state self.old.symbols
+            self.old.rows)) (state self.new.symbols self.new.rows) }
     {
         match self.symbols.next() {
             Some(Symbol::Fixed(found)) if same(found, terminal) => Ok(()),
@@ -59,7 +60,8 @@ impl<'a> Reader<'a> {
     fn number(&mut self) -> Result<u32, StackFault>
         ensures rows { self.new.rows ≡ self.old.rows }
         ensures small { IfOk result (λ n. n ≤ 2147483647) }
-        ensures reads { ReadsNumber result (reading.number (state self.old.symbols self.old.rows)) (state self.new.symbols self.new.rows) }
+        ensures reads { ReadsNumber result (reading.number (state self.old.symbols self.old.rows))
+            (state self.new.symbols self.new.rows) }
     {
         match self.symbols.next() {
             Some(Symbol::Number(number)) => Ok(number),
@@ -72,7 +74,8 @@ impl<'a> Reader<'a> {
     fn input(&mut self, name: Terminal) -> Result<u32, StackFault>
         ensures rows { self.new.rows ≡ self.old.rows }
         ensures small { IfOk result (λ n. n ≤ 2147483647) }
-        ensures reads { ReadsNumber result (reading.input name (state self.old.symbols self.old.rows)) (state self.new.symbols self.new.rows) }
+        ensures reads { ReadsNumber result (reading.input name (state self.old.symbols
+            self.old.rows)) (state self.new.symbols self.new.rows) }
     {
         self.expect(name)?;
         self.expect(Terminal::Equals)?;
@@ -82,7 +85,8 @@ impl<'a> Reader<'a> {
     #[tactic(auto, unfolding(crate::specs::Reading::push_node))]
     fn push_node(&mut self, class: u32, parent: u32, kid: u32) -> Result<(), StackFault>
         ensures grows { OnOk result (length self.old.rows.nodes < length self.new.rows.nodes) }
-        ensures reads { Reads result (reading.push_node class parent kid (state self.old.symbols self.old.rows)) (state self.new.symbols self.new.rows) }
+        ensures reads { Reads result (reading.push_node class parent kid (state self.old.symbols
+            self.old.rows)) (state self.new.symbols self.new.rows) }
     {
         if self.rows.is_full() {
             return Err(StackFault::NotBuilt);
@@ -95,7 +99,8 @@ impl<'a> Reader<'a> {
     #[tactic(auto, unfolding(crate::specs::Reading::word_rest))]
     fn word_rest(&mut self, parent: u32, kid: u32) -> Result<(), StackFault>
         ensures grows { OnOk result (length self.old.rows.nodes ≤ length self.new.rows.nodes) }
-        ensures reads { Reads result (reading.word_rest parent kid (state self.old.symbols self.old.rows)) (state self.new.symbols self.new.rows) }
+        ensures reads { Reads result (reading.word_rest parent kid (state self.old.symbols
+            self.old.rows)) (state self.new.symbols self.new.rows) }
     {
         self.expect(Terminal::LeftBrace)?;
         let width = self.input(Terminal::Iw)?;
@@ -110,7 +115,8 @@ impl<'a> Reader<'a> {
     #[cycle(boxes)]
     fn kids(&mut self, parent: u32, depth: u32) -> Result<(), StackFault>
         ensures grows { OnOk result (length self.old.rows.nodes ≤ length self.new.rows.nodes) }
-        ensures reads { Reads result (reading.kids_within (reading.box_rows depth parent) 1048577 0 (state self.old.symbols self.old.rows)) (state self.new.symbols self.new.rows) }
+        ensures reads { Reads result (reading.kids_within (reading.box_rows depth parent) 1048577 0
+            (state self.old.symbols self.old.rows)) (state self.new.symbols self.new.rows) }
     {
         for kid in 0..MAX_TURNS {
             let Some(symbol) = self.symbols.next() else {
@@ -129,7 +135,8 @@ impl<'a> Reader<'a> {
     #[tactic(auto, unfolding(crate::specs::Reading::column_rest))]
     fn column_rest(&mut self, parent: u32, kid: u32, depth: u32) -> Result<(), StackFault>
         ensures grows { OnOk result (length self.old.rows.nodes ≤ length self.new.rows.nodes) }
-        ensures reads { Reads result (reading.column_rest (reading.box_rows depth) parent kid (state self.old.symbols self.old.rows)) (state self.new.symbols self.new.rows) }
+        ensures reads { Reads result (reading.column_rest (reading.box_rows depth) parent kid (state
+            self.old.symbols self.old.rows)) (state self.new.symbols self.new.rows) }
     {
         self.expect(Terminal::LeftBrace)?;
         self.expect(Terminal::Kids)?;
@@ -154,7 +161,8 @@ impl<'a> Reader<'a> {
         depth: u32,
     ) -> Result<(), StackFault>
         ensures grows { OnOk result (length self.old.rows.nodes ≤ length self.new.rows.nodes) }
-        ensures reads { Reads result (reading.box_rows depth parent kid first (state self.old.symbols self.old.rows)) (state self.new.symbols self.new.rows) }
+        ensures reads { Reads result (reading.box_rows depth parent kid first (state
+            self.old.symbols self.old.rows)) (state self.new.symbols self.new.rows) }
     {
         if depth == 0 {
             return Err(StackFault::NotBuilt);
@@ -168,7 +176,8 @@ impl<'a> Reader<'a> {
 
     fn first_box(&mut self, depth: u32) -> Result<(), StackFault>
         ensures grows { OnOk result (length self.old.rows.nodes ≤ length self.new.rows.nodes) }
-        ensures reads { Reads result (reading.first_box depth self.old.symbols.symbols (state self.old.symbols self.old.rows)) (state self.new.symbols self.new.rows) }
+        ensures reads { Reads result (reading.first_box depth self.old.symbols.symbols (state
+            self.old.symbols self.old.rows)) (state self.new.symbols self.new.rows) }
     {
         match self.symbols.next() {
             Some(symbol) => self.read_box(symbol, 0, 0, depth),
@@ -179,7 +188,8 @@ impl<'a> Reader<'a> {
     /// Reads a sheet with its box.
     #[tactic(auto, unfolding(crate::specs::Reading::sheet_rows))]
     pub fn sheet(&mut self) -> Result<(), StackFault>
-        ensures { Reads result (reading.sheet_rows (state self.old.symbols self.old.rows)) (state self.new.symbols self.new.rows) }
+        ensures { Reads result (reading.sheet_rows (state self.old.symbols self.old.rows)) (state
+            self.new.symbols self.new.rows) }
     {
         self.expect(Terminal::Sheet)?;
         self.expect(Terminal::LeftBrace)?;

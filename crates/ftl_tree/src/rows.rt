@@ -64,7 +64,11 @@ impl Rows {
     /// Adds the row of a node, for now of one node alone.
     pub fn push_node(&mut self, class: u32, parent: u32, kid: u32) -> Result<(), AllocError>
         requires { length self.old.nodes < 1048576 }
-        ensures { OnOk result (self.new ≡ record { nodes = self.old.nodes ++ new_node class parent kid ∷ []; inputs = self.old.inputs }) }
+        ensures { OnOk result (self.new ≡ record {
+          nodes = self.old.nodes ++ new_node class parent
+              kid ∷ [];
+          inputs = self.old.inputs;
+        }) }
     {
         self.nodes.push(Node {
             class,
@@ -80,7 +84,11 @@ impl Rows {
     pub fn push_inputs(&mut self, width: u32, height: u32) -> Result<(), AllocError>
         requires width { width ≤ 2147483647 }
         requires height { height ≤ 2147483647 }
-        ensures { OnOk result (self.new ≡ record { nodes = self.old.nodes; inputs = self.old.inputs ++ (pos width ∷ (pos height ∷ [])) }) }
+        ensures { OnOk result (self.new ≡ record {
+          nodes = self.old.nodes;
+          inputs = self.old.inputs
+              ++ (pos width ∷ (pos height ∷ []));
+        }) }
     {
         self.inputs.push(width as i32)?;
         self.inputs.push(height as i32)?;

@@ -1,9 +1,11 @@
-ghost use Rattle.std.specs.Prelude.{◌≡◌, ℕ, ◌≤◌, length, None, Some, IfSome, MatchOption, true, false, [], ◌∷◌};
+ghost use Rattle.std.specs.Prelude.{◌≡◌, ℕ, ◌≤◌, length, None, Some, IfSome, MatchOption, true};
+ghost use Rattle.std.specs.Prelude.{false, [], ◌∷◌};
 ghost use Rattle.std.specs.List.{prefix_len, AllByRecursion};
 ghost use Rattle.std.specs.Char.{is_ascii_alphabetic, is_ascii_digit};
 ghost use Rattle.std.specs.Str.Parse.{digits_value};
 ghost use Rattle.ftl_tree.specs.Symbols.{is_blank, is_mark, text_of, IsSmall};
-ghost use Rattle.ftl_tree.specs.Scanning.{number_of_digits, word_at, number_at, mark_at, next_symbol};
+ghost use Rattle.ftl_tree.specs.Scanning.{number_of_digits, word_at, number_at, mark_at};
+ghost use Rattle.ftl_tree.specs.Scanning.{next_symbol};
 
 /// A word or a mark of a stack document.
 #[derive(Clone, Copy, Debug, PartialEq, Eq)]
@@ -119,7 +121,8 @@ fn number(digits: &[u8]) -> Option<u32>
 
 fn word_at(bytes: &[u8]) -> Option<(Symbol, &[u8])>
     ensures small { IfSome result (λ found. IsSmall found.0) }
-    ensures symbol { MatchOption result (word_at bytes.now ≡ None) (λ found. word_at bytes.now ≡ Some (found.0, found.1.now)) }
+    ensures symbol { MatchOption result (word_at bytes.now ≡ None) (λ found. word_at bytes.now ≡
+        Some (found.0, found.1.now)) }
 {
     let (text, rest) = bytes.split_at(letters(bytes));
     match word(text) {
@@ -130,7 +133,8 @@ fn word_at(bytes: &[u8]) -> Option<(Symbol, &[u8])>
 
 fn number_at(bytes: &[u8]) -> Option<(Symbol, &[u8])>
     ensures small { IfSome result (λ found. IsSmall found.0) }
-    ensures symbol { MatchOption result (number_at bytes.now ≡ None) (λ found. number_at bytes.now ≡ Some (found.0, found.1.now)) }
+    ensures symbol { MatchOption result (number_at bytes.now ≡ None) (λ found. number_at bytes.now ≡
+        Some (found.0, found.1.now)) }
 {
     let (text, rest) = bytes.split_at(digits(bytes));
     match number(text) {
@@ -141,7 +145,8 @@ fn number_at(bytes: &[u8]) -> Option<(Symbol, &[u8])>
 
 fn mark_at(first: u8, rest: &[u8]) -> Option<(Symbol, &[u8])>
     ensures small { IfSome result (λ found. IsSmall found.0) }
-    ensures symbol { MatchOption result (mark_at first rest.now ≡ None) (λ found. mark_at first rest.now ≡ Some (found.0, found.1.now)) }
+    ensures symbol { MatchOption result (mark_at first rest.now ≡ None) (λ found. mark_at first
+        rest.now ≡ Some (found.0, found.1.now)) }
 {
     match mark(first) {
         Some(terminal) => Some((Symbol::Fixed(terminal), rest)),
@@ -152,7 +157,8 @@ fn mark_at(first: u8, rest: &[u8]) -> Option<(Symbol, &[u8])>
 /// The next symbol and the bytes behind it, if the bytes begin with one.
 pub(crate) fn next_symbol(bytes: &[u8]) -> Option<(Symbol, &[u8])>
     ensures small { IfSome result (λ found. IsSmall found.0) }
-    ensures symbol { MatchOption result (next_symbol bytes.now ≡ None) (λ found. next_symbol bytes.now ≡ Some (found.0, found.1.now)) }
+    ensures symbol { MatchOption result (next_symbol bytes.now ≡ None) (λ found. next_symbol
+        bytes.now ≡ Some (found.0, found.1.now)) }
 {
     let (_, bytes) = bytes.split_at(blanks(bytes));
     match bytes {

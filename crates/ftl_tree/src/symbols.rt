@@ -30,7 +30,8 @@ impl<'a> Symbols<'a> {
     /// Takes the next symbol, if there is one.
     pub(crate) fn next(&mut self) -> Option<Symbol>
         ensures small { IfSome result IsSmall }
-        ensures symbol { MatchOption result ((self.old.symbols ≡ []) × (self.new ≡ self.old)) (λ s. self.old ≡ with_symbol s self.new) }
+        ensures symbol { MatchOption result ((self.old.symbols ≡ []) × (self.new ≡ self.old)) (λ s.
+            self.old ≡ with_symbol s self.new) }
     {
         match next_symbol(self.rest) {
             Some((symbol, rest)) => {

@@ -1,6 +1,7 @@
 ghost use Rattle.std.specs.Prelude.{◌≡◌, ◌<◌, ◌≤◌, length, sum_by, IfOk, Contains};
 ghost use Rattle.ftl_model.specs.Tree.{size};
-ghost use Rattle.ftl_model.specs.Path.{node_at, class_at, child_at, kid_at, kids_at, size_at, number_of, parent_of, inputs_at};
+ghost use Rattle.ftl_model.specs.Path.{node_at, class_at, child_at, kid_at, kids_at, size_at};
+ghost use Rattle.ftl_model.specs.Path.{number_of, parent_of, inputs_at};
 ghost use Rattle.std.specs.Option.{option_map};
 ghost use Rattle.ftl_model.specs.TreeOf.{IsTreeOf};
 ghost use Rattle.ftl_model.specs.Stack.{stack};
@@ -10,7 +11,8 @@ ghost use Rattle.ftl_model.specs.AttributeGrammar.{attributes_of, input_value};
 ghost use Rattle.ftl_model.specs.Solves.{instance_of};
 ghost use Rattle.ftl_model.specs.Table.{instance_count, instance_number};
 ghost use Rattle.ftl_tree.specs.Rows.{RowLists, row_at};
-ghost use Rattle.ftl_tree.specs.Flat.{AreRows, IsInputAt, tree_of, offsets_from, attribute_width, input_width};
+ghost use Rattle.ftl_tree.specs.Flat.{AreRows, IsInputAt, tree_of, offsets_from, attribute_width};
+ghost use Rattle.ftl_tree.specs.Flat.{input_width};
 
 use crate::rows::{Node, Rows};
 use std::alloc::{AllocError, Global};
@@ -219,7 +221,8 @@ impl Tree {
     /// The number of an instance: by node, then by the number of the attribute.
     pub fn instance(&self, node: u32, attr: u32) -> u32
         requires node { node < size self.now }
-        requires attr { Contains (attributes_of stack (class_at self.now (node_at self.now node))) attr }
+        requires attr { Contains (attributes_of stack (class_at self.now (node_at self.now node)))
+            attr }
         ensures { result ≡ instance_number stack self.now (instance_of (node_at self.now node) attr) }
     {
         let offsets = self.offsets[node as usize];
