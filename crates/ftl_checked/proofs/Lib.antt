@@ -1,2 +1,6 @@
 pub use Rattle.ftl_syntax.specs.Trees
 pub mod WorkedFormulas
+pub mod First
+pub mod Counting
+pub mod Numbered
+pub mod Places

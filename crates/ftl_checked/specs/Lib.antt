@@ -3,3 +3,7 @@ pub mod Allowed
 pub mod RuleForms
 pub mod FirstFault
 pub mod Worked
+pub mod Finds
+pub mod Checked
+pub mod Counts
+pub mod Tables

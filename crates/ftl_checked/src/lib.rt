@@ -6,11 +6,15 @@
 #![tactic(auto)]
 
 mod fault;
+mod info;
+mod limits;
 mod rule_name;
+mod tables;
 mod worked;
 
 pub use fault::{GrammarFault, What};
 pub use ftl_formula::ReadName;
+pub use info::{AttrInfo, ChildInfo, Field, PassKind, RuleInfo};
 pub use rule_name::RuleName;
 pub use worked::{
     bad_reads, faults_of_names, faults_of_one_child, faults_of_one_class, faults_of_targets,

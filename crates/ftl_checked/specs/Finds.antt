@@ -1,0 +1,9 @@
+-- What a check of one condition answers.
+use Rattle.std.specs.Prelude.{◌≡◌, ◌≢◌, Option, Some, None, Result, Ok, Err}
+use Rattle.ftl_checked.specs.declared.fault.GrammarFault.{GrammarFault}
+use Rattle.ftl_checked.specs.declared.fault.GrammarFault.TheVariants as fault
+
+-- success exactly where there is no fault, and else the fault, unless memory ran out
+abbrev pub Finds : Option GrammarFault → Result (Unit {0}) GrammarFault → Type 0
+Finds expected (Ok done) = expected ≡ None
+Finds expected (Err e) = e ≢ fault.OutOfMemory → expected ≡ Some e
