@@ -4,3 +4,4 @@ pub mod First
 pub mod Counting
 pub mod Numbered
 pub mod Places
+pub mod Finding

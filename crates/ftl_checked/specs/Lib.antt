@@ -7,3 +7,5 @@ pub mod Finds
 pub mod Checked
 pub mod Counts
 pub mod Tables
+pub mod Found
+pub mod Slots

@@ -6,9 +6,13 @@
 #![tactic(auto)]
 
 mod fault;
+mod find;
+mod forms;
 mod info;
 mod limits;
+mod reading;
 mod rule_name;
+mod slots;
 mod tables;
 mod worked;
 
