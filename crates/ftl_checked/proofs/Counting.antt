@@ -34,3 +34,8 @@ passing_one p xs i d within =
 pub passing_ends : {X : Type 0} (p : X → Bool) (xs : List X) → length (filter p (drop (length xs) xs)) ≡ 0
 passing_ends p [] = refl
 passing_ends p (x ∷ xs) = passing_ends p xs
+
+-- what is left, by its first entry as code reads it
+pub left_by : {X : Type 0} (xs : List X) (i : ℕ) (x : X) → i < length xs → x ≡ get_or xs i x
+    → drop i xs ≡ x ∷ drop (i + 1) xs
+left_by xs i x within is = left_is xs i x within ∙ ap (λ y. y ∷ drop (i + 1) xs) (sym is)

@@ -195,3 +195,12 @@ own_small g k small within =
     let most = count_within (λ (x : Class). x.attrs) g.classes k (trees.class [] [] [] [] []) within in
     let all = small.attributes in
     omega arith
+
+-- a child that is found is one of the class
+pub child_place_within : (g : Grammar) (k : ℕ) (name : NameText) (names : List NameText) (o : Option ℕ) (n : ℕ)
+    → names ≡ map (λ c. c.name) (class_at g k).children → o ≡ position (bytes_eq name) names → o ≡ Some n
+    → n < length (class_at g k).children
+child_place_within g k name names o n named placed is =
+    let counted : length (map (λ (c : Child). c.name) (class_at g k).children) ≡ length (class_at g k).children =
+        length-map (class_at g k).children (λ (c : Child). c.name) in
+    subst (λ m. n < m) (ap length named ∙ counted) (position_within (bytes_eq name) names n (sym placed ∙ is))

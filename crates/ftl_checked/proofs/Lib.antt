@@ -5,3 +5,5 @@ pub mod Counting
 pub mod Numbered
 pub mod Places
 pub mod Finding
+pub mod SlotSets
+pub mod RuleLists

@@ -1,5 +1,5 @@
 -- Slots and forms of rules, as code has them.
-use Rattle.std.specs.Prelude.{ℕ, ◌≡◌, ◌<◌, List, [], ◌∷◌, ◌++◌, length, map, Option, Some, None}
+use Rattle.std.specs.Prelude.{ℕ, ◌<◌, List, [], ◌∷◌, ◌++◌, length, map, Option, Some, None, IfSome}
 use Rattle.std.specs.Option.{option_to_list}
 use Rattle.ftl_syntax.specs.declared.expression.Expr.{Expr}
 use Rattle.ftl_syntax.specs.declared.rules.Grammar.{Grammar}
@@ -34,7 +34,7 @@ parts_in f = part_in f.first ∷ map part_in (option_to_list f.second)
 -- its positions name children of the class
 pub record IsFormIn (g : Grammar) (k : ℕ) (f : RuleForm) : Type 0 where
   pub first : IsWithin g k f.first.at
-  pub second : (p : Part) → f.second ≡ Some p → IsWithin g k p.at
+  pub second : IfSome f.second (λ p. IsWithin g k p.at)
 
 -- the slots of rules, in order
 abbrev pub slots_of : Grammar → (class : ℕ) → List Rule → List Slot

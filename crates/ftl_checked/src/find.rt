@@ -1,5 +1,5 @@
 //! Look-ups by name.
-ghost use Rattle.std.specs.Prelude.{◌≡◌, ◌+◌, ◌<◌, length, map, slice_index_or};
+ghost use Rattle.std.specs.Prelude.{◌≡◌, ◌+◌, ◌<◌, length, IfSome};
 ghost use Rattle.std.specs.Option.{option_map};
 ghost use Rattle.ftl_checked.specs.Counts.{IsSmall, HasSmallCounts};
 ghost use Rattle.ftl_checked.specs.Checked.{child_info};
@@ -153,6 +153,8 @@ pub(crate) fn child(
     requires within { number < length grammar.now.classes }
     ensures found { result ≡ option_map (found_child grammar.now)
         (find_child grammar.now number name.now) }
+    ensures within { IfSome result
+        (λ c. c.number < length (class_at grammar.now number).children) }
 {
     let table = class_table(grammar, tables, number);
     match table.child_names.place(name) {

@@ -12,6 +12,7 @@ mod info;
 mod limits;
 mod reading;
 mod rule_name;
+mod rules;
 mod slots;
 mod tables;
 mod worked;
