@@ -7,3 +7,7 @@ pub mod Places
 pub mod Finding
 pub mod SlotSets
 pub mod RuleLists
+pub mod FirstNumbered
+pub mod FirstLists
+pub mod NeedLists
+pub mod RuleInfos

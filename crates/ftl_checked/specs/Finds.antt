@@ -19,3 +19,8 @@ FindsRules expected (Err e) = e ≢ fault.OutOfMemory → expected ≡ Some e
 abbrev pub FindsRule : Option GrammarFault → Result RuleSlot GrammarFault → Type 0
 FindsRule expected (Ok slot) = expected ≡ None
 FindsRule expected (Err e) = e ≢ fault.OutOfMemory → expected ≡ Some e
+
+-- the same of a look at all rules, which tells of them
+abbrev pub FindsInfos : {X : Type 0} → Option GrammarFault → Result X GrammarFault → Type 0
+FindsInfos expected (Ok infos) = expected ≡ None
+FindsInfos expected (Err e) = e ≢ fault.OutOfMemory → expected ≡ Some e

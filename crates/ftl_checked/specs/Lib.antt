@@ -9,3 +9,4 @@ pub mod Counts
 pub mod Tables
 pub mod Found
 pub mod Slots
+pub mod Needs

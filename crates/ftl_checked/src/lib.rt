@@ -5,11 +5,13 @@
 //! grammar. There is no code here but the types of faults, and laws.
 #![tactic(auto)]
 
+mod class_checks;
 mod fault;
 mod find;
 mod forms;
 mod info;
 mod limits;
+mod needs;
 mod reading;
 mod rule_name;
 mod rules;
