@@ -11,3 +11,6 @@ pub mod FirstNumbered
 pub mod FirstLists
 pub mod NeedLists
 pub mod RuleInfos
+pub mod Seconds
+pub mod NameLists
+pub mod AttrInfos

@@ -95,6 +95,10 @@ info_by k None = record { class = k; child = None; attr = 0 }
 abbrev pub rule_info : Grammar → ℕ × Rule → RuleInfo
 rule_info g r = info_by r.0 (slot_of g r.0 r.1.target)
 
+-- what is told of the rule of this number; past the end of one for nothing
+abbrev pub rule_told : Grammar → (rule : ℕ) → RuleInfo
+rule_told g r = slice_index_or (map (rule_info g) (all_rules g)) r (info_by 0 None)
+
 -- ---- look-ups by name
 
 -- the class of this name

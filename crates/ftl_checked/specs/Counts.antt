@@ -13,9 +13,10 @@ use Rattle.ftl_checked.specs.RuleForms.{expressions_of}
 abbrev pub IsSmall : ℕ → Type 0
 IsSmall n = n < 4294967296
 
--- the attributes of an interface
-abbrev pub HasSmallInterface : Interface → Type 0
-HasSmallInterface x = IsSmall (length x.attrs)
+-- the attributes of an interface, and those that it shows
+pub record HasSmallInterface (x : Interface) : Type 0 where
+  pub attrs : IsSmall (length x.attrs)
+  pub shown : IsSmall (length x.shown)
 
 -- the reads of each expression of a rule
 abbrev pub HasSmallRule : Rule → Type 0

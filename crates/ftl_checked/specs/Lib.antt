@@ -10,3 +10,6 @@ pub mod Tables
 pub mod Found
 pub mod Slots
 pub mod Needs
+pub mod NameFaults
+pub mod Kept
+pub mod Told

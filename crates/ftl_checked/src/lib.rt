@@ -5,12 +5,16 @@
 //! grammar. There is no code here but the types of faults, and laws.
 #![tactic(auto)]
 
+mod attrs;
+mod check;
+mod checked;
 mod class_checks;
 mod fault;
 mod find;
 mod forms;
 mod info;
 mod limits;
+mod names;
 mod needs;
 mod reading;
 mod rule_name;
@@ -19,6 +23,8 @@ mod slots;
 mod tables;
 mod worked;
 
+pub use check::check_grammar;
+pub use checked::Checked;
 pub use fault::{GrammarFault, What};
 pub use ftl_formula::ReadName;
 pub use info::{AttrInfo, ChildInfo, Field, PassKind, RuleInfo};

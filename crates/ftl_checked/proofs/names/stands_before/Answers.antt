@@ -1,0 +1,12 @@
+use Rattle.std.proofs.Common.{arith, ◌≡◌, Option, sym, ◌∙◌, ap, subst, List, [], false, nat_lt}
+use Rattle.std.proofs.lemmas.Grind.{common_steps}
+use Rattle.std.proofs.lemmas.Bool.Decides.{nat_tests}
+use Rattle.std.specs.Option.{option_map_or}
+use Rattle.std.specs.Str.{bytes_eq}
+use Rattle.ftl_checked.proofs.Seconds.{front_any}
+use Rattle.ftl_checked.proofs.names.stands_before.Goals as goal
+
+pub returns : goal.returns
+returns c =
+    let front = front_any (bytes_eq c.args.name.now) c.args.table.now c.args.place in
+    grind (arith, common_steps)
