@@ -1,0 +1,8 @@
+//! Why the meaning of a grammar is lawful. Goes in: grammars without a fault, by `ftl_checked`,
+//! and their meaning, by `ftl_meaning`. Comes out: laws, stated by empty functions, in the words of
+//! `specs/`. There is no code here.
+#![tactic(auto)]
+
+mod lawful;
+
+pub use lawful::trial;
