@@ -1,8 +1,8 @@
 -- What a look-up finds.
-use Rattle.std.proofs.Common.{◌≡◌, ℕ, suc, ◌+◌, ◌<◌, not, Bool, true, false, ◌||◌, cond, refl, sym, subst, ap, arith, List, [], ◌∷◌, length, Contains, Option, Some, None}
-use Rattle.std.specs.List.{find, list_any, position_or_len, prefix_len}
+use Rattle.std.proofs.Common.{◌≡◌, ℕ, zero, suc, ◌+◌, ◌<◌, ◌∙◌, ⊎_elim, not, Bool, true, false, ◌||◌, cond, refl, subst, ap, arith, List, [], ◌∷◌, length, Contains, Some}
+use Rattle.std.specs.List.{find, list_any, position_or_len, prefix_len, slice_get}
 use Rattle.std.proofs.lemmas.Option.{none-some, same_Some}
-use Rattle.std.proofs.lemmas.Bool.{false≢true}
+use Rattle.std.proofs.lemmas.Bool.{false≢true, or_cases}
 use Rattle.ftl_lists.proofs.Elements.{here_in, later_in}
 
 -- what is found is there, and passes
@@ -28,3 +28,28 @@ position_within p (x ∷ xs) h =
       | false ↦ λ h. let i = position_within p xs h in omega (arith, i)
     ]
     h
+
+-- what some entry passes, one at a place does
+pub any_at : {X : Type 0} (p : X → Bool) (xs : List X) → list_any p xs ≡ true
+    → (n : ℕ) × (x : X) × (slice_get xs n ≡ Some x) × (p x ≡ true)
+any_at p [] h = absurd (false≢true h)
+any_at p (x ∷ xs) h =
+    ⊎_elim (λ here. (0, x, refl, here)) (λ later. let i = any_at p xs later in (suc i.0, i.1, i.2, i.3))
+    (or_cases (p x) (list_any p xs) h)
+
+-- the first that passes is found
+pub find_first : {X : Type 0} (p : X → Bool) (xs : List X) (n : ℕ) (x : X) → slice_get xs n ≡ Some x → p x ≡ true
+    → ((m : ℕ) (y : X) → m < n → slice_get xs m ≡ Some y → p y ≡ false) → find p xs ≡ Some x
+find_first p [] n x is passes first = absurd (none-some x is)
+find_first p (y ∷ ys) zero x is passes first =
+    let same = same_Some y x is in
+    ap (λ b. cond b (Some y) (find p ys)) (ap p same ∙ passes) ∙ is
+find_first p (y ∷ ys) (suc n) x is passes first =
+    ap (λ b. cond b (Some y) (find p ys)) (first 0 y (omega arith) refl)
+    ∙ find_first p ys n x is passes (λ m z before at. first (suc m) z (omega (arith, before)) at)
+
+-- an entry at a place is an entry
+pub in_by_place : {X : Type 0} (xs : List X) (n : ℕ) (x : X) → slice_get xs n ≡ Some x → Contains xs x
+in_by_place [] n x is = absurd (none-some x is)
+in_by_place (y ∷ ys) zero x is = subst (Contains (y ∷ ys)) (same_Some y x is) (here_in y ys)
+in_by_place (y ∷ ys) (suc n) x is = later_in y x ys (in_by_place ys n x is)

@@ -4,3 +4,12 @@ pub mod Found
 pub mod ValueOf
 pub mod RuleValues
 pub mod ReadsAllowed
+pub mod SlotRules
+pub mod RuleParts
+pub mod RightRules
+pub mod RuleList
+pub mod Declared
+pub mod Needs
+pub mod SpelledKinds
+pub mod Lawfulness
+pub mod KeptRules

@@ -1,5 +1,5 @@
 -- Each attribute stands at its number.
-use Rattle.std.proofs.Common.{◌≡◌, ℕ, zero, suc, ◌+◌, ◌<◌, ◌≤◌, refl, sym, ◌∙◌, ap, subst, ⊎_elim, arith, List, [], ◌∷◌, ◌++◌, length, get_or, map, take, flat_map, Contains, add-one, length-append}
+use Rattle.std.proofs.Common.{◌≡◌, ℕ, zero, suc, ◌+◌, ◌<◌, refl, sym, ◌∙◌, ap, subst, ⊎_elim, arith, List, [], ◌∷◌, length, get_or, map, take, flat_map, Contains}
 use Rattle.std.specs.List.{range_with_len}
 use Rattle.std.proofs.lemmas.Bool.{cases_lt}
 use Rattle.std.proofs.lemmas.List.{get_or-append-add, get_or_append_left, get_or_past}
@@ -77,14 +77,13 @@ module _ (g : Grammar) where
   shared_at i p h =
       ⊎_elim
       (λ known.
-      let s = in_numbered (shared_count (take i g.interfaces)) (interface_at g i).attrs p h in
-      (
+      let s = in_numbered (shared_count (take i g.interfaces)) (interface_at g i).attrs p h in (
         known,
         ap (attribute_at g) s.number
-        ∙ get_or_append_left shared_all own_all no_attribute (shared_count (take i g.interfaces) + s.place)
-        (piece_within (λ (x : Interface). x.attrs) (trees.interface [] [] []) g.interfaces i s.place known s.known)
-        ∙ get_or-flat_map (λ (x : Interface). x.attrs) g.interfaces i s.place (trees.interface [] [] []) no_attribute known s.known
-        ∙ s.is no_attribute,
+            ∙ get_or_append_left shared_all own_all no_attribute (shared_count (take i g.interfaces) + s.place)
+            (piece_within (λ (x : Interface). x.attrs) (trees.interface [] [] []) g.interfaces i s.place known s.known)
+            ∙ get_or-flat_map (λ (x : Interface). x.attrs) g.interfaces i s.place (trees.interface [] [] []) no_attribute known s.known
+            ∙ s.is no_attribute,
       ))
       (λ past. absurd
       (nothing_in p
@@ -98,15 +97,14 @@ module _ (g : Grammar) where
   own_at k p h =
       ⊎_elim
       (λ known.
-      let s = in_numbered (shared_count g.interfaces + own_count (take k g.classes)) (class_at g k).attrs p h in
-      (
+      let s = in_numbered (shared_count g.interfaces + own_count (take k g.classes)) (class_at g k).attrs p h in (
         known,
         ap (attribute_at g)
-        (s.number
-        ∙ (let z : (shared_count g.interfaces + own_count (take k g.classes)) + s.place ≡ shared_count g.interfaces + (own_count (take k g.classes) + s.place) = omega arith in z))
-        ∙ get_or-append-add shared_all own_all (own_count (take k g.classes) + s.place) no_attribute
-        ∙ get_or-flat_map (λ (x : Class). x.attrs) g.classes k s.place (trees.class [] [] [] [] []) no_attribute known s.known
-        ∙ s.is no_attribute,
+            (s.number
+            ∙ (let z : (shared_count g.interfaces + own_count (take k g.classes)) + s.place ≡ shared_count g.interfaces + (own_count (take k g.classes) + s.place) = omega arith in z))
+            ∙ get_or-append-add shared_all own_all (own_count (take k g.classes) + s.place) no_attribute
+            ∙ get_or-flat_map (λ (x : Class). x.attrs) g.classes k s.place (trees.class [] [] [] [] []) no_attribute known s.known
+            ∙ s.is no_attribute,
       ))
       (λ past. absurd
       (nothing_in p

@@ -1,14 +1,13 @@
 -- What a name stands for may be read where it stands.
-use Rattle.std.proofs.Common.{◌≡◌, ◌⊎◌, inl, inr, ℕ, zero, ◌+◌, ◌<◌, Bool, true, false, if◌then◌else◌, cond, refl, sym, ◌∙◌, ap, subst, arith, List, [], ◌∷◌, ◌++◌, length, get_or, map, Contains, Option, Some, None}
+use Rattle.std.proofs.Common.{◌≡◌, ◌⊎◌, inl, inr, ℕ, ◌<◌, Bool, true, false, if◌then◌else◌, refl, sym, ◌∙◌, ap, subst, arith, List, [], length, map, Contains, Option, Some, None}
 use Rattle.std.specs.Option.{option_and_then, option_map, option_to_list}
-use Rattle.std.specs.List.{find}
 use Rattle.std.specs.Str.{bytes_eq}
 use Rattle.std.proofs.lemmas.Option.{none-some, option_and_then_some, same_Some}
 use Rattle.std.proofs.lemmas.List.{map-append}
 use Rattle.ftl_lists.proofs.Elements.{in_cases, in_flat_map, nothing_in}
 use Rattle.ftl_lists.proofs.Rising.{map_has}
 use Rattle.ftl_model.specs.AttributeGrammar.{AttributeGrammar, Read, each_read, last_read, prev_read, self_read, single_read, this_read}
-use Rattle.ftl_order.specs.Lawful.{EachMay, IsListChild, IsSingle, MayReadForChild, MayReadForSelf, MayReadInStep, MayReadLater, OfChild, OfClass, PartsForChild, PartsForSelf}
+use Rattle.ftl_order.specs.Lawful.{EachMay, IsListChild, IsSingle, MayReadForChild, MayReadForSelf, MayReadInStep, MayReadLater, OfChild, OfClass}
 use Rattle.ftl_syntax.specs.Trees as trees
 use Rattle.ftl_syntax.specs.Trees.{NameText}
 use Rattle.ftl_syntax.specs.declared.expression.Expr.{Expr}
@@ -62,8 +61,7 @@ module _ (w : ℕ) (g : Grammar) (k : ℕ) where
       let s = in_numbered 0 (class_at g k).children c (find_is (λ c. bytes_eq name c.1.name) (children_of g k) c h).0 in
       let e = s.number in
       let known = s.known in
-      let same : c.0 ≡ s.place = omega (arith, e) in
-      (
+      let same : c.0 ≡ s.place = omega (arith, e) in (
         (let z : c.0 < length (class_at g k).children = omega (arith, same, known) in z),
         ap (child_at g k) same ∙ s.is (trees.child [] [] false),
       )
@@ -91,8 +89,7 @@ module _ (w : ℕ) (g : Grammar) (k : ℕ) where
           → (m : ℕ) × (b : ℕ) × (single_read m b ≡ r) × IsSingle meant k m × OfChild meant k m b
       go child stands true e h = absurd (none-some (of_read r) h)
       go child stands false e h =
-          let f = by_form (single_read child.0) a (child_attributes g child.1) r h in
-          (
+          let f = by_form (single_read child.0) a (child_attributes g child.1) r h in (
             child.0,
             f.0,
             f.1,
@@ -114,8 +111,7 @@ module _ (w : ℕ) (g : Grammar) (k : ℕ) where
           → (m : ℕ) × (b : ℕ) × (last_read m b ≡ r) × IsListChild meant k m × OfChild meant k m b
       go child stands false e h = absurd (none-some (of_read r) h)
       go child stands true e h =
-          let f = by_form (last_read child.0) a (child_attributes g child.1) r h in
-          (
+          let f = by_form (last_read child.0) a (child_attributes g child.1) r h in (
             child.0,
             f.0,
             f.1,

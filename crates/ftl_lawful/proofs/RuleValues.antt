@@ -1,10 +1,10 @@
 -- The value of a rule depends on what it reads alone, and keeps to the range of the width.
-use Rattle.std.proofs.Common.{◌≡◌, ℕ, zero, suc, ◌+◌, ◌<◌, refl, sym, ◌∙◌, ap, subst, arith, List, [], ◌∷◌, ◌++◌, flat_map, Contains, Option, Some, None}
+use Rattle.std.proofs.Common.{◌≡◌, ℕ, zero, suc, ◌<◌, refl, sym, ◌∙◌, ap, subst, arith, List, [], ◌∷◌, ◌++◌, flat_map, Contains, Option, Some, None}
 use Rattle.std.specs.List.{range_with_len}
 use Rattle.std.specs.Option.{option_and_then, option_to_list}
 use Rattle.std.proofs.lemmas.List.Elements.{Contains-append_left, Contains-append_right}
 use Rattle.ftl_lists.proofs.Elements.{flat_map_has, here_in, range_has}
-use Rattle.ftl_model.specs.AttributeGrammar.{Occurrence, Read, occurrences, read_occurrences, seen_by}
+use Rattle.ftl_model.specs.AttributeGrammar.{Occurrence, Read, occurrences, seen_by}
 use Rattle.ftl_model.specs.Folds.{fold_kids}
 use Rattle.ftl_model.specs.Values.{IsValueIn, Value, overflow}
 use Rattle.ftl_model.proofs.FoldLaws.{fold_kids_same}
@@ -17,7 +17,7 @@ use Rattle.ftl_formula.specs.Formula.{reads_of}
 use Rattle.ftl_formula.specs.declared.read_name.ReadName.{ReadName}
 use Rattle.ftl_checked.specs.Allowed.{Leaf, Position, accumulator, for_kids, for_later, for_self, in_step, leaf_of, of_read}
 use Rattle.ftl_checked.specs.RuleForms.{Form, first_form, fold_form, one_form}
-use Rattle.ftl_meaning.specs.Meaning.{expression_reads, expression_value, form_parts, form_value, leaf_value, look_up, read_of, rule_of_form, sight, value_seen}
+use Rattle.ftl_meaning.specs.Meaning.{expression_reads, expression_value, leaf_value, look_up, read_of, rule_of_form, sight, value_seen}
 use Rattle.ftl_lawful.proofs.ValueOf.{FoundIn, value_in, value_same}
 
 -- two tables agree on some occurrences

@@ -1,5 +1,5 @@
 -- The value of a formula depends on what it reads alone, and keeps to the range of the width.
-use Rattle.std.proofs.Common.{◌≡◌, ℕ, Bool, true, false, cond, refl, ap, ap₂, ◌∙◌, List, [], ◌∷◌, ◌++◌, Contains, Option, Some, None, pos, neg_ℤ, ◌+ℤ◌, ◌-ℤ◌, ◌*ℤ◌, int_lt}
+use Rattle.std.proofs.Common.{◌≡◌, ℕ, true, false, cond, refl, ap, ap₂, ◌∙◌, List, [], ◌++◌, Contains, Option, Some, None, pos, neg_ℤ, ◌-ℤ◌, ◌*ℤ◌, int_lt}
 use Rattle.std.specs.Int.{int_div_euclid}
 use Rattle.std.specs.Option.{unwrap_or}
 use Rattle.std.proofs.lemmas.List.Elements.{Contains-append_left, Contains-append_right}
@@ -7,7 +7,7 @@ use Rattle.ftl_lists.proofs.Elements.{here_in, later_in}
 use Rattle.ftl_base.specs.Truths.{both_of, choice_of, comparison_of, either_of, opposite_of}
 use Rattle.ftl_base.specs.declared.truth.Truth.{Truth}
 use Rattle.ftl_base.specs.declared.truth.Truth.TheVariants as truths
-use Rattle.ftl_model.specs.Values.{IsValueIn, Value, difference_of, greatest_of, least_of, negated_of, number, overflow, product_of, quotient_of, sum_of, value_of}
+use Rattle.ftl_model.specs.Values.{IsValueIn, Value, difference_of, greatest_of, least_of, negated_of, number, overflow, product_of, quotient_of, sum_of}
 use Rattle.ftl_model.proofs.ValueRanges.{greatest_in, sum_in, value_of_in}
 use Rattle.ftl_formula.specs.Formula as formula
 use Rattle.ftl_formula.specs.Formula.{Formula, Question, reads_in, reads_of}

@@ -1,5 +1,4 @@
 -- What follows of a grammar without a fault, once its names are gone.
-use Rattle.std.specs.Prelude.{◌≡◌}
 use Rattle.ftl_base.specs.Widths.{greatest_of_width}
 use Rattle.ftl_base.specs.declared.width.Width.{Width}
 use Rattle.ftl_model.specs.AttributeGrammar.{AttributeGrammar}

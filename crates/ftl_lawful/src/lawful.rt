@@ -1,8 +1,23 @@
-ghost use Rattle.std.specs.Prelude.{◌≡◌};
-ghost use Rattle.ftl_lawful.specs.LawfulOf.{HasOneTable};
-ghost use Rattle.ftl_lawful.specs.Kept.{RulesAreKept};
+//! Laws on grammars without a fault.
 
-/// A law
-pub fn trial()
-    ensures { Unit {0} }
+ghost use Rattle.ftl_order.specs.Lawful.{IsLawful};
+ghost use Rattle.ftl_lawful.specs.Faultless.{SpelledAreFaultless};
+ghost use Rattle.ftl_lawful.specs.LawfulOf.{OfFaultless, HasOneTable, HasOneList, StaysInRange};
+ghost use Rattle.ftl_lawful.specs.Kept.{RulesAreKept, RulesAreWritten};
+
+/// A law: a grammar without a fault is lawful, with its names gone and in either width. So exactly
+/// one table solves each of its trees under each ordered schedule, with values in the range.
+pub fn faultless_grammars_are_lawful()
+    ensures lawful { OfFaultless IsLawful }
+    ensures one_table { OfFaultless HasOneTable }
+    ensures one_list { OfFaultless HasOneList }
+    ensures in_range { OfFaultless StaysInRange }
+    ensures spelled { SpelledAreFaultless }
+{}
+
+/// A law: nothing of a grammar without a fault is lost where its names go. Each rule is the one for
+/// what it is for, and each attribute that a rule has to define has one.
+pub fn rules_are_kept()
+    ensures kept { RulesAreKept }
+    ensures written { RulesAreWritten }
 {}
