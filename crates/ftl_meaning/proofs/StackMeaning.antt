@@ -1,16 +1,15 @@
 -- The stack grammar as it is written means the stack grammar of the model.
-use Rattle.std.proofs.Common.{◌≡◌, ℕ, zero, suc, ◌<◌, ◌≤◌, Bool, true, false, ◌&&◌, refl, sym, ap, ◌∙◌, subst, ⊎_elim, arith, List, [], ◌∷◌, Contains, pos, negsuc, int_le, cond}
+use Rattle.std.proofs.Common.{◌≡◌, ℕ, zero, suc, ◌<◌, refl, ap, subst, ⊎_elim, arith, pos, cond}
 use Rattle.std.specs.List.{AllByRecursion}
 use Rattle.std.proofs.lemmas.Bool.{cases_lt, le-leb}
 use Rattle.ftl_lists.proofs.Elements.{each_in}
 use Rattle.ftl_model.specs.AttributeGrammar.{AttributeGrammar, Occurrence, RuleName, for_child, for_self}
-use Rattle.ftl_model.specs.Folds.{fold_kids}
 use Rattle.ftl_model.specs.Solves.{rule_named}
 use Rattle.ftl_model.specs.Stack.{stack_in, stack_rules}
 use Rattle.ftl_model.specs.StackNames.{stack_names}
-use Rattle.ftl_model.specs.Values.{Value, in_range, number, overflow, value_of}
+use Rattle.ftl_model.specs.Values.{Value, number, overflow, value_of}
 use Rattle.ftl_checked.specs.Worked as written
-use Rattle.ftl_checked.proofs.WorkedFormulas.{of-adding, of-num, of-reading, of-so_far, of-stacked, of-widest}
+use Rattle.ftl_checked.proofs.WorkedFormulas.{of-adding, of-num, of-reading, of-stacked, of-widest}
 use Rattle.ftl_meaning.specs.Alike.{IsAlike, IsSameRule, PrintsAlike}
 use Rattle.ftl_meaning.specs.GrammarOf.{grammar_of, names_of}
 

@@ -1,7 +1,7 @@
 -- Worked expressions, rules and grammars, as they are written, with what they mean typed out by hand.
 use Rattle.std.specs.Prelude.{ℕ, zero, suc, ◌+◌, ◌*◌, true, false, List, [], ◌∷◌, pos, negsuc, codes}
 use Rattle.ftl_base.specs.declared.comparison.Cmp.TheVariants as cmp
-use Rattle.ftl_model.specs.AttributeGrammar.{Occurrence, Rule, kid, own}
+use Rattle.ftl_model.specs.AttributeGrammar.{Occurrence, kid, own}
 use Rattle.ftl_model.specs.Tree.{Forest, none, tree}
 use Rattle.ftl_model.specs.Values.{Value, number}
 use Rattle.ftl_model.specs.Worked.{numbers}
@@ -19,8 +19,6 @@ use Rattle.ftl_syntax.specs.declared.rules.AttrKind.TheVariants as kinds
 use Rattle.ftl_syntax.specs.declared.rules.Grammar.{Grammar}
 use Rattle.ftl_checked.specs.Allowed.{for_self}
 use Rattle.ftl_checked.specs.Worked as written
-use Rattle.ftl_checked.specs.RuleForms.{Slot}
-use Rattle.ftl_meaning.specs.GrammarOf.{rule_for}
 use Rattle.ftl_meaning.specs.Meaning.{expression_value, sight}
 
 -- ---- expressions

@@ -9,6 +9,5 @@ mod worked;
 
 pub use stack::the_written_stack;
 pub use worked::{
-    numbers_of_a_grammar, parts_of_rules, tables_that_solve, values_of_expressions,
-    values_of_rules,
+    numbers_of_a_grammar, parts_of_rules, tables_that_solve, values_of_expressions, values_of_rules,
 };
