@@ -13,3 +13,4 @@ pub mod Needs
 pub mod SpelledKinds
 pub mod Lawfulness
 pub mod KeptRules
+pub mod WorkedKinds

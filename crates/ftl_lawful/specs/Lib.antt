@@ -2,3 +2,4 @@ pub mod Faultless
 pub mod LawfulOf
 pub mod Kept
 pub use Rattle.ftl_meaning.specs.GrammarOf
+pub mod Worked

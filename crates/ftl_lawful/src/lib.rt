@@ -4,5 +4,7 @@
 #![tactic(auto)]
 
 mod lawful;
+mod worked;
 
 pub use lawful::{faultless_grammars_are_lawful, rules_are_kept};
+pub use worked::{grammars_without_a_fault, words_of_attributes};
