@@ -14,3 +14,5 @@ pub mod SpelledKinds
 pub mod Lawfulness
 pub mod KeptRules
 pub mod WorkedKinds
+pub mod AlikeTrees
+pub mod WorkedGrammars

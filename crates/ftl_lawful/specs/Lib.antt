@@ -3,3 +3,4 @@ pub mod LawfulOf
 pub mod Kept
 pub use Rattle.ftl_meaning.specs.GrammarOf
 pub mod Worked
+pub mod AlikeLaws

@@ -3,8 +3,10 @@
 //! `specs/`. There is no code here.
 #![tactic(auto)]
 
+mod alike;
 mod lawful;
 mod worked;
 
+pub use alike::{alike_grammars, the_written_stack_solves};
 pub use lawful::{faultless_grammars_are_lawful, rules_are_kept};
 pub use worked::{grammars_without_a_fault, words_of_attributes};
