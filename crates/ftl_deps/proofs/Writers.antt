@@ -1,136 +1,20 @@
 -- The rules that write what is read are those of the pairs.
-use Rattle.std.proofs.Common.{◌≡◌, ◌≢◌, inl, inr, ℕ, suc, ◌<◌, ◌==◌, ◌&&◌, not, ◌+◌, Bool, true, false, cond, refl, sym, ◌∙◌, ap, ap₂, subst, ⊎_elim, arith, eqb-true, eq-eqb, List, [], ◌∷◌, length, get_or, Contains, Option, Some, None}
-use Rattle.std.specs.List.{position, position_or_len, prefix_len}
-use Rattle.std.proofs.lemmas.Bool.{and_from, and_parts, both_ways, false≢true, lt-ltb}
-use Rattle.std.proofs.lemmas.Option.{get_or_from_slice_get, none-some, slice_get-get_or}
-use Rattle.std.proofs.lemmas.List.Elements.{Contains-append_cases, Contains-append_left, Contains-append_right, Contains-get_or}
+use Rattle.std.proofs.Common.{◌≡◌, ◌≢◌, inl, inr, ℕ, ◌<◌, ◌==◌, ◌&&◌, true, false, refl, sym, ◌∙◌, ap, ap₂, subst, ⊎_elim, arith, eqb-true, eq-eqb, get_or, Contains, Some, None}
+use Rattle.std.proofs.lemmas.Bool.{and_from, and_parts, both_ways, false≢true}
+use Rattle.std.proofs.lemmas.Option.{get_or_from_slice_get, slice_get-get_or}
+use Rattle.std.proofs.lemmas.List.Elements.{Contains-append_cases, Contains-append_left, Contains-get_or}
 use Rattle.std.proofs.lemmas.List.Quantifiers.{position-Some}
-use Rattle.ftl_lists.proofs.Elements.{in_cases, nothing_in}
-use Rattle.ftl_model.specs.AttributeGrammar.{AttributeGrammar, Part, Parts, Read, RuleName, Sort, each_read, first_part, first_then, fold_over, for_child, for_self, from_part, inherited, input, last_read, local, plain, plain_part, prev_read, reads_in, self_read, single_read, synthesized, then_part, this_read, with_part}
+use Rattle.ftl_model.specs.AttributeGrammar.{AttributeGrammar, Read, RuleName, Sort, each_read, for_child, for_self, inherited, input, last_read, local, prev_read, self_read, single_read, synthesized, this_read}
 use Rattle.ftl_model.specs.Solves.{rule_named}
-use Rattle.ftl_order.specs.Lawful.{IsLawful, IsRule, MayReadForChild, MayReadForSelf, MayReadInStep, MayReadLater, OfChild, OfClass, PartsForChild, PartsForSelf, class_of_rule}
+use Rattle.ftl_order.specs.Lawful.{IsLawful, IsRule, OfChild, OfClass, class_of_rule}
 use Rattle.ftl_order.specs.Pairs.{Where, WritesKid, WritesOwn, child_class, parent_class, same_class}
-use Rattle.ftl_order.proofs.PartReads.{first_then_reads, fold_reads, plain_reads}
 use Rattle.ftl_deps.specs.DepLaws.{FirstWriterIsFirst, NoneWhereNoneWrites, SitesSayWhere, WritersAreOfPairs, WritersAreRules, WritesSomewhere, where_of}
 use Rattle.ftl_deps.specs.DepReads.{dep_read, kid_site, own_site, reads_of_parts}
 use Rattle.ftl_deps.specs.Writers.{is_above, is_below, is_of_class, is_writer, writes_at}
-
--- ---- places
-
-passes_within : {X : Type 0} (p : X → Bool) (xs : List X) (x : X) → Contains xs x → p x ≡ true
-    → position_or_len p xs < length xs
-passes_within p [] x there passes = absurd (nothing_in x there)
-passes_within p (y ∷ ys) x there passes =
-    elim (p y) as (λ b. (p y ≡ b) → cond (not b) (1 + prefix_len (λ z. not (p z)) ys) 0 < suc (length ys)) [
-      | true ↦ λ e. omega arith
-      | false ↦ λ e.
-          ⊎_elim
-          (λ same. absurd (both_ways (p y) e (subst (λ z. p z ≡ true) (sym same) passes)))
-          (λ later. let i = passes_within p ys x later passes in omega (arith, i))
-          (in_cases y x ys there)
-    ]
-    refl
-
--- where there is no position, nothing passes
-none_passes : {X : Type 0} (p : X → Bool) (xs : List X) → position p xs ≡ None → (x : X) → Contains xs x → p x ≡ true → ⊥
-none_passes p xs none x there passes =
-    none-some (position_or_len p xs)
-    (sym none ∙ ap (λ b. cond b (Some (position_or_len p xs)) None)
-    (lt-ltb (position_or_len p xs) (length xs) (passes_within p xs x there passes)))
-
--- and the other way round
-no_position : {X : Type 0} (p : X → Bool) (xs : List X) → ((x : X) → Contains xs x → p x ≡ true → ⊥) → position p xs ≡ None
-no_position p [] none = refl
-no_position p (x ∷ xs) none = go (position p (x ∷ xs)) refl
-  where
-    go : (o : Option ℕ) → position p (x ∷ xs) ≡ o → position p (x ∷ xs) ≡ None
-    go None is = is
-    go (Some n) is =
-        let at = position-Some p (x ∷ xs) n x is in
-        absurd (none (get_or (x ∷ xs) n x) (Contains-get_or (x ∷ xs) n x at.0) at.1)
-
--- ---- reads of parts
-
-pub in_parts : (x : Parts) (r : Read) → Contains (reads_of_parts x) r → (part : Part) × Contains (reads_in x part) r
-in_parts (plain reads) r h = (plain_part, h)
-in_parts (first_then first later) r h =
-    ⊎_elim (λ here. (first_part, here)) (λ there. (then_part, there)) (Contains-append_cases first later r h)
-in_parts (fold_over c start step) r h =
-    ⊎_elim (λ here. (from_part, here)) (λ there. (with_part, there)) (Contains-append_cases start step r h)
-
-pub of_parts : (x : Parts) (r : Read) (part : Part) → Contains (reads_in x part) r → Contains (reads_of_parts x) r
-of_parts (plain reads) r part h = (plain_reads reads part r h).1
-of_parts (first_then first later) r part h =
-    ⊎_elim (λ here. Contains-append_left first later r here.1) (λ there. Contains-append_right first later r there.1)
-    (first_then_reads first later part r h)
-of_parts (fold_over c start step) r part h =
-    ⊎_elim (λ here. Contains-append_left start step r here.1) (λ there. Contains-append_right start step r there.1)
-    (fold_reads c start step part r h)
+use Rattle.ftl_deps.proofs.Places.{no_position, none_passes}
+use Rattle.ftl_deps.proofs.ReadsThere.{IsThere, read_there}
 
 module _ (g : AttributeGrammar) (law : IsLawful g) where
-  -- what is read is an attribute that is there
-  abbrev IsThere : ℕ → Read → Type 0
-  IsThere k (self_read a) = OfClass g k a
-  IsThere k (single_read c a) = (c < g.child_count k) × OfChild g k c a
-  IsThere k (each_read c a) = (c < g.child_count k) × OfChild g k c a
-  IsThere k (this_read c a) = (c < g.child_count k) × OfChild g k c a
-  IsThere k (prev_read c a) = (c < g.child_count k) × OfChild g k c a
-  IsThere k (last_read c a) = (c < g.child_count k) × OfChild g k c a
-
-  self_there : (k : ℕ) (r : Read) → MayReadForSelf g k r → IsThere k r
-  self_there k (self_read a) h = h
-  self_there k (single_read c a) h = (h.0.0, h.1)
-  self_there k (each_read c a) h = absurd h
-  self_there k (this_read c a) h = absurd h
-  self_there k (prev_read c a) h = absurd h
-  self_there k (last_read c a) h = (h.0.0, h.1)
-
-  step_there : (k c : ℕ) → c < g.child_count k → (r : Read) → MayReadInStep g k c r → IsThere k r
-  step_there k c known (self_read a) h = h
-  step_there k c known (single_read d a) h = (h.0.0, h.1)
-  step_there k c known (each_read d a) h =
-      subst (λ d. (d < g.child_count k) × OfChild g k d a) (sym h.0) (known, h.1)
-  step_there k c known (this_read d a) h = absurd h
-  step_there k c known (prev_read d a) h = absurd h
-  step_there k c known (last_read d a) h = (h.0.0, h.1)
-
-  child_there : (k c : ℕ) (r : Read) → MayReadForChild g k c r → IsThere k r
-  child_there k c (self_read a) h = h
-  child_there k c (single_read d a) h = (h.0.0, h.1)
-  child_there k c (each_read d a) h = absurd h
-  child_there k c (this_read d a) h = subst (λ d. (d < g.child_count k) × OfChild g k d a) (sym h.0) (h.1.0, h.2)
-  child_there k c (prev_read d a) h = absurd h
-  child_there k c (last_read d a) h = (h.1.0, h.2)
-
-  later_there : (k c : ℕ) (r : Read) → MayReadLater g k c r → IsThere k r
-  later_there k c (self_read a) h = h
-  later_there k c (single_read d a) h = (h.0.0, h.1)
-  later_there k c (each_read d a) h = absurd h
-  later_there k c (this_read d a) h = subst (λ d. (d < g.child_count k) × OfChild g k d a) (sym h.0) (h.1.0, h.2)
-  later_there k c (prev_read d a) h = subst (λ d. (d < g.child_count k) × OfChild g k d a) (sym h.0) (h.1.0, h.2)
-  later_there k c (last_read d a) h = (h.1.0, h.2)
-
-  self_parts_there : (k : ℕ) (x : Parts) (r : Read) → PartsForSelf g k x → Contains (reads_of_parts x) r → IsThere k r
-  self_parts_there k (plain reads) r h in_it = self_there k r (h r in_it)
-  self_parts_there k (first_then first later) r h in_it = absurd h
-  self_parts_there k (fold_over c start step) r h in_it =
-      ⊎_elim (λ here. self_there k r (h.1 r here)) (λ there. step_there k c h.0.0 r (h.2 r there))
-      (Contains-append_cases start step r in_it)
-
-  child_parts_there : (k c : ℕ) (x : Parts) (r : Read) → PartsForChild g k c x → Contains (reads_of_parts x) r
-      → IsThere k r
-  child_parts_there k c (plain reads) r h in_it = child_there k c r (h r in_it)
-  child_parts_there k c (first_then first later) r h in_it =
-      ⊎_elim (λ here. child_there k c r (h.1 r here)) (λ there. later_there k c r (h.2 r there))
-      (Contains-append_cases first later r in_it)
-  child_parts_there k c (fold_over d start step) r h in_it = absurd h
-
-  read_there : (w : RuleName) (r : Read) → IsRule g w → Contains (reads_of_parts (rule_named g w).parts) r
-      → IsThere (class_of_rule w) r
-  read_there (for_self k a) r rule in_it = self_parts_there k (g.self_rule k a).parts r (law.self_parts k a rule) in_it
-  read_there (for_child k c a) r rule in_it =
-      child_parts_there k c (g.child_rule k c a).parts r (law.child_parts k c a rule) in_it
-
   -- an inherited attribute of a class is one of its interface
   shared_of : (k a : ℕ) → k < g.class_count → OfClass g k a → g.sort a ≡ inherited → Contains (g.shared (g.interface k)) a
   shared_of k a known of is =
@@ -272,7 +156,7 @@ module _ (g : AttributeGrammar) (law : IsLawful g) where
   rule_class (for_self k a) rule = rule.0
   rule_class (for_child k c a) rule = rule.0
 
-  to_pair : (k : ℕ) → k < g.class_count → (r : Read) → IsThere k r → (w : RuleName) → IsRule g w
+  to_pair : (k : ℕ) → k < g.class_count → (r : Read) → IsThere g law k r → (w : RuleName) → IsRule g w
       → is_writer g k (dep_read g r) w ≡ true → WritesSomewhere g k r w
   to_pair k known (self_read a) there w rule h = own_to (g.sort a) k a w rule h
   to_pair k known (single_read c a) there w rule h = kid_to (g.sort a) k c a (kid_shared k c a known there) w rule h
@@ -289,7 +173,7 @@ module _ (g : AttributeGrammar) (law : IsLawful g) where
   from_pair k (prev_read c a) w h = kid_from (g.sort a) k c a w h.0 h.1
   from_pair k (last_read c a) w h = kid_from (g.sort a) k c a w h.0 h.1
 
-  is_rule : (k : ℕ) → k < g.class_count → (r : Read) → IsThere k r → (w : RuleName) → WritesSomewhere g k r w → IsRule g w
+  is_rule : (k : ℕ) → k < g.class_count → (r : Read) → IsThere g law k r → (w : RuleName) → WritesSomewhere g k r w → IsRule g w
   is_rule k known (self_read a) there w h = own_rule (g.sort a) k a refl known there w h.0 h.1
   is_rule k known (single_read c a) there w h = kid_rule (g.sort a) k c a refl known there w h.0 h.1
   is_rule k known (each_read c a) there w h = kid_rule (g.sort a) k c a refl known there w h.0 h.1
@@ -313,10 +197,10 @@ module _ (g : AttributeGrammar) (law : IsLawful g) where
 
     pub writers_of_pairs : WritersAreOfPairs g k r
     writers_of_pairs v valid =
-        (to_pair k (rule_class w rule) r (read_there w r rule in_it) v valid, from_pair k r v)
+        (to_pair k (rule_class w rule) r (read_there g law w r rule in_it) v valid, from_pair k r v)
 
     pub writers_are_rules : WritersAreRules g k r
-    writers_are_rules v h = is_rule k (rule_class w rule) r (read_there w r rule in_it) v h
+    writers_are_rules v h = is_rule k (rule_class w rule) r (read_there g law w r rule in_it) v h
 
     pub first_is_first : FirstWriterIsFirst g k r
     first_is_first n h =

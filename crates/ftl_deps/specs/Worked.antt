@@ -26,7 +26,8 @@ stack_table =
     ∷ (reading 5 sites.Input forms.Plain None ∷ [])
     ∷ (reading 6 sites.Input forms.Plain None ∷ []) ∷ []
 
--- `head.size`, `last kids.w`, `self.base`, `prev.x`, `prev.w`, `this.gap` and `this.w` of a sheet; `self.shift` of a text
+-- `head.size`, `last kids.w`, `self.base`, `prev.x`, `prev.w`, `this.gap` and `this.w` of a sheet; `self.shift` of
+-- a text
 abbrev pub head_size : DepRead
 head_size = reading 5 sites.Below forms.Plain (Some 0)
 

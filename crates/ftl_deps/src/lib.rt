@@ -1,7 +1,7 @@
 //! What each rule of a grammar reads, and which rule writes that first. Goes in: the grammar with
 //! its names gone, of `ftl_model`. Comes out: `specs/DepReads.antt`, the reads of a rule in the
-//! order of the text; `specs/Writers.antt`, the rules that write them. There is no code here but the
-//! types of reads, and laws that tie them to the pairs of `ftl_order`.
+//! order of the text; `specs/Writers.antt`, the rules that write them. There is no code here but
+//! the types of reads, and laws that tie them to the pairs of `ftl_order`.
 #![tactic(auto)]
 
 mod dep_read;

@@ -16,3 +16,4 @@ pub mod KeptRules
 pub mod WorkedKinds
 pub mod AlikeTrees
 pub mod WorkedGrammars
+pub mod WithinLimits

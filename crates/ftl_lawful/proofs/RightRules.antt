@@ -20,6 +20,7 @@ use Rattle.ftl_checked.specs.FirstFault.{bad_read, fault_if, first_of, form_faul
 use Rattle.ftl_checked.specs.Numbering.{class_at}
 use Rattle.ftl_checked.specs.RuleForms.{Form, Slot, form_of, kid_slot, own_slot, parts_of, slot_of}
 use Rattle.ftl_meaning.specs.GrammarOf.{name_of_rule}
+use Rattle.ftl_lawful.specs.Kept.{EachReadIs}
 use Rattle.ftl_lawful.proofs.NoFault.{no_fault, none_in, none_of}
 
 -- ---- slots
@@ -62,11 +63,6 @@ one_name k (kid_slot c a) (own_slot b) h = absurd (let z : ⊥ = grind (arith, h
 one_name k (kid_slot c a) (kid_slot d b) h = ap₂ kid_slot (let z : c ≡ d = cc in z) (let z : a ≡ b = cc in z)
 
 -- ---- one rule
-
--- the reads of a part all are of something
-abbrev pub EachReadIs : Grammar → ℕ → Form → Type 0
-EachReadIs g k form =
-    All (λ part. All (λ name. is_some (leaf_of g k part.0 name) ≡ true) (reads_of (formula_of part.1))) (parts_of form)
 
 -- a rule without a fault, where earlier ones have those slots
 pub record IsRight (g : Grammar) (k : ℕ) (earlier : List Slot) (r : Rule) : Type 0 where

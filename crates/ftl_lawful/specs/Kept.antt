@@ -1,5 +1,5 @@
--- Nothing of a grammar without a fault is lost where its names go: each rule as it is written is the one rule for what it
--- defines, and each attribute that has to have a rule has one.
+-- Nothing of a grammar without a fault is lost where its names go: each rule as it is written is the one rule for
+-- what it defines, and each attribute that has to have a rule has one.
 use Rattle.std.specs.Prelude.{◌≡◌, ℕ, ◌<◌, true, length, Some, None}
 use Rattle.std.specs.List.{All, slice_get}
 use Rattle.std.specs.Option.{is_some, option_map}
@@ -21,8 +21,14 @@ use Rattle.ftl_meaning.specs.Meaning.{rule_of_form}
 abbrev pub StandsAt : Grammar → (class place : ℕ) → written.Rule → Type 0
 StandsAt g k n r = slice_get (class_at g k).rules n ≡ Some r
 
--- The rule at this place of a class is for something, as no other rule of the class is; it has a form, its reads all are
--- of something, and with the names gone it is the rule for what it is for.
+-- what each part of a rule reads is something
+abbrev pub EachReadIs : Grammar → (class : ℕ) → Form → Type 0
+EachReadIs g k form =
+    All (λ part. All (λ name. is_some (leaf_of g k part.0 name) ≡ true) (reads_of (formula_of part.1)))
+    (parts_of form)
+
+-- The rule at this place of a class is for something, as no other rule of the class is; it has a form, its reads
+-- all are of something, and with the names gone it is the rule for what it is for.
 pub record IsKept (g : Grammar) (k n : ℕ) (r : written.Rule) : Type 0 where
   pub slot : Slot
   pub is_for : slot_of g k r.target ≡ Some slot
@@ -30,9 +36,9 @@ pub record IsKept (g : Grammar) (k n : ℕ) (r : written.Rule) : Type 0 where
       (m : ℕ) (other : written.Rule) → StandsAt g k m other → slot_of g k other.target ≡ Some slot → m ≡ n
   pub form : Form
   pub has_form : form_of g k slot r.body ≡ Some form
-  pub reads :
-      All (λ part. All (λ name. is_some (leaf_of g k part.0 name) ≡ true) (reads_of (formula_of part.1))) (parts_of form)
-  pub means : (greatest : ℕ) → rule_named (grammar_of greatest g) (name_of_rule k slot) ≡ rule_of_form greatest g k form
+  pub reads : EachReadIs g k form
+  pub means :
+      (greatest : ℕ) → rule_named (grammar_of greatest g) (name_of_rule k slot) ≡ rule_of_form greatest g k form
 
 -- each rule is kept
 abbrev pub RulesAreKept : Type 0

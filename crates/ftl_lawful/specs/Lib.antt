@@ -4,3 +4,4 @@ pub mod Kept
 pub use Rattle.ftl_meaning.specs.GrammarOf
 pub mod Worked
 pub mod AlikeLaws
+pub mod Limits

@@ -3,6 +3,7 @@
 ghost use Rattle.ftl_order.specs.Lawful.{IsLawful};
 ghost use Rattle.ftl_lawful.specs.Faultless.{SpelledAreFaultless};
 ghost use Rattle.ftl_lawful.specs.LawfulOf.{OfFaultless, HasOneTable, HasOneList, StaysInRange};
+ghost use Rattle.ftl_lawful.specs.Limits.{IsWithinLimits};
 ghost use Rattle.ftl_lawful.specs.Kept.{RulesAreKept, RulesAreWritten};
 
 /// A law: a grammar without a fault is lawful, with its names gone and in either width. So exactly
@@ -20,4 +21,9 @@ pub fn faultless_grammars_are_lawful()
 pub fn rules_are_kept()
     ensures kept { RulesAreKept }
     ensures written { RulesAreWritten }
+{}
+
+/// A law: a grammar without a fault keeps to the limits, with its names gone.
+pub fn faultless_grammars_are_small()
+    ensures limits { OfFaultless IsWithinLimits }
 {}

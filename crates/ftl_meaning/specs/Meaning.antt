@@ -1,5 +1,5 @@
--- What expressions and rules mean: their values, from those of what they read. Numbers that leave the range of the width,
--- of which `greatest` is the greatest number, are Overflow.
+-- What expressions and rules mean: their values, from those of what they read. Numbers that leave the range of the
+-- width, of which `greatest` is the greatest number, are Overflow.
 use Rattle.std.specs.Prelude.{ℕ, zero, suc, List, [], ◌∷◌, flat_map, pos, Option, Some, None}
 use Rattle.std.specs.Option.{option_and_then, option_to_list, unwrap_or}
 use Rattle.ftl_base.specs.Truths.{both_of, choice_of, comparison_of, either_of, opposite_of}
@@ -46,8 +46,8 @@ abbrev mutual
 
 -- ---- expressions at a node
 
--- What an expression sees: how many kids each child has, the number of the kid at hand (the one that the rule is for, or
--- the one that a fold has come to), the values of what it reads, and what a fold has so far.
+-- What an expression sees: how many kids each child has, the number of the kid at hand (the one that the rule is
+-- for, or the one that a fold has come to), the values of what it reads, and what a fold has so far.
 pub record Sight : Type 0 where
   pub kids : ℕ → ℕ
   pub at_hand : ℕ
@@ -96,9 +96,9 @@ form_parts g k (first_form c e f) =
 form_parts g k (fold_form c e f) =
     fold_over c (expression_reads g k for_self e) (expression_reads g k (in_step c) f)
 
--- The value of a rule for the kid of this number (0 where it is for the node itself): of its one expression; of the first
--- at kid 0 and of the other one at each later kid; or from the value of the start one step for each kid, from the first
--- to the last.
+-- The value of a rule for the kid of this number (0 where it is for the node itself): of its one expression; of the
+-- first at kid 0 and of the other one at each later kid; or from the value of the start one step for each kid, from
+-- the first to the last.
 abbrev pub form_value : (greatest : ℕ) → Grammar → (class : ℕ) → Form
     → (kids : ℕ → ℕ) → (number : ℕ) → (Occurrence → Value) → Value
 form_value greatest g k (one_form at e) kids n s = expression_value greatest g k at e (sight kids n s overflow)

@@ -47,7 +47,8 @@ unknown = exprs.If (one_test (tests.Compare cmp.More too_great (num 2))) (num 5)
 abbrev pub halved : Expr
 halved =
     exprs.Sum (alone (trees.term
-    (trees.unary false (atoms.Group (exprs.Sum (trees.sum (lone (atoms.Number 0)) (trees.signed true (lone (atoms.Number 7)) ∷ [])))))
+    (trees.unary false (atoms.Group (exprs.Sum
+    (trees.sum (lone (atoms.Number 0)) (trees.signed true (lone (atoms.Number 7)) ∷ [])))))
     (factors.Over 2 ∷ [])))
 
 -- `min(self.p, -3) * 10 + max(self.p, 4)`
@@ -67,7 +68,8 @@ denied =
     (trees.cond
     (trees.conj
     (tests.Group true (trees.cond (trees.conj
-    (tests.Compare cmp.MoreEq (alone (own_term (codes "p"))) (num 5) ∷ tests.Compare cmp.Equal (num 1) (num 1) ∷ []) ∷ []))
+    (tests.Compare cmp.MoreEq (alone (own_term (codes "p"))) (num 5)
+    ∷ tests.Compare cmp.Equal (num 1) (num 1) ∷ []) ∷ []))
     ∷ [])
     ∷ trees.conj (tests.Compare cmp.Unequal (num 2) (num 2) ∷ []) ∷ []))
     (num 1) (num 0)
@@ -80,7 +82,8 @@ two =
     written.two
     (written.rule_a ∷ written.rule_l ∷ written.rule_s ∷ written.rule_x ∷ written.rule_z ∷ written.rule_d ∷ [])
 
--- a kid's attribute has the digits of its child, its number and the attribute; a node's own has 1000 more than its number
+-- a kid's attribute has the digits of its child, its number and the attribute; a node's own has 1000 more than its
+-- number
 abbrev pub table : Occurrence → Value
 table (own a) = number (pos (1000 + a))
 table (kid c k a) = number (pos (100 * c + 10 * k + a))
@@ -97,8 +100,8 @@ value_in_width greatest e = expression_value greatest two 0 for_self e (sight (k
 
 -- ---- whole grammars, with trees
 
--- `root R; interface R { syn a, b; show a, b; } class C : R { self.a := if 1 < 2 then 5 else 2147483647 + 1; self.b := (0
--- - 7) / 2; }`
+-- `root R; interface R { syn a, b; show a, b; } class C : R { self.a := if 1 < 2 then 5 else 2147483647 + 1; self.b
+-- := (0 - 7) / 2; }`
 abbrev pub branches : Grammar
 branches =
     trees.grammar (codes "R")
@@ -128,7 +131,8 @@ abbrev pub shown_backwards : Grammar
 shown_backwards =
     trees.grammar (codes "R")
     (trees.interface (codes "R")
-    (trees.attr_decl kinds.Syn (codes "a") ∷ trees.attr_decl kinds.Syn (codes "b") ∷ trees.attr_decl kinds.Syn (codes "c") ∷ [])
+    (trees.attr_decl kinds.Syn (codes "a") ∷ trees.attr_decl kinds.Syn (codes "b")
+    ∷ trees.attr_decl kinds.Syn (codes "c") ∷ [])
     (codes "c" ∷ codes "a" ∷ []) ∷ [])
     (trees.class (codes "C") (codes "R") [] []
     (written.self_is (codes "a") (written.num 1) ∷ written.self_is (codes "b") (written.num 2)

@@ -1,5 +1,6 @@
 use Rattle.ftl_order.specs.Lawful.{class_of_rule}
-use Rattle.ftl_deps.proofs.Writers.{in_parts, of_parts, sites_say, writers_are_rules, writers_of_pairs}
+use Rattle.ftl_deps.proofs.ReadsThere.{in_parts, of_parts}
+use Rattle.ftl_deps.proofs.Writers.{sites_say, writers_are_rules, writers_of_pairs}
 use Rattle.ftl_deps.proofs.laws.dep_reads_are_pairs.Goals as goal
 
 pub returns : goal.returns

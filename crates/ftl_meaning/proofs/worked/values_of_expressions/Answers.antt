@@ -1,5 +1,6 @@
 use Rattle.std.proofs.Common.{refl}
 use Rattle.ftl_formula.proofs.Equations.{of-If, of-cond, of-conj, of-Compare, of-bracketed, of-Sum, of-sum, of-term, of-unary, of-Number, of-Read, of-Group, of-Least, of-Greatest, times_at, over_at, minus_at, plus_at}
+use Rattle.ftl_checked.proofs.WorkedFormulas.{of-num}
 use Rattle.ftl_meaning.proofs.worked.values_of_expressions.Goals as goal
 
 pub returns-clause-not_taken : goal.returns-clause-not_taken
@@ -19,3 +20,9 @@ returns-clause-least_and_greatest c = simp (of-Sum, of-sum, of-term, of-unary, o
 
 pub returns-clause-denied : goal.returns-clause-denied
 returns-clause-denied c = simp (of-If, of-cond, of-conj, of-Compare, of-bracketed, of-sum, of-term, of-unary, of-Number, of-Read) refl
+
+pub returns-clause-too_great : goal.returns-clause-too_great
+returns-clause-too_great c = simp of-num refl
+
+pub returns-clause-great_if_wide : goal.returns-clause-great_if_wide
+returns-clause-great_if_wide c = simp of-num refl
