@@ -17,3 +17,4 @@ pub mod WorkedKinds
 pub mod AlikeTrees
 pub mod WorkedGrammars
 pub mod WithinLimits
+pub mod TextReads

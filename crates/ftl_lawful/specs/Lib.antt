@@ -5,3 +5,4 @@ pub use Rattle.ftl_meaning.specs.GrammarOf
 pub mod Worked
 pub mod AlikeLaws
 pub mod Limits
+pub mod TextOrder

@@ -5,6 +5,7 @@ ghost use Rattle.ftl_lawful.specs.Faultless.{SpelledAreFaultless};
 ghost use Rattle.ftl_lawful.specs.LawfulOf.{OfFaultless, HasOneTable, HasOneList, StaysInRange};
 ghost use Rattle.ftl_lawful.specs.Limits.{IsWithinLimits};
 ghost use Rattle.ftl_lawful.specs.Kept.{RulesAreKept, RulesAreWritten};
+ghost use Rattle.ftl_lawful.specs.TextOrder.{ReadsStandInTextOrder};
 
 /// A law: a grammar without a fault is lawful, with its names gone and in either width. So exactly
 /// one table solves each of its trees under each ordered schedule, with values in the range.
@@ -17,10 +18,12 @@ pub fn faultless_grammars_are_lawful()
 {}
 
 /// A law: nothing of a grammar without a fault is lost where its names go. Each rule is the one for
-/// what it is for, and each attribute that a rule has to define has one.
+/// what it is for, with its reads in the order of the text, and each attribute that a rule has to
+/// define has one.
 pub fn rules_are_kept()
     ensures kept { RulesAreKept }
     ensures written { RulesAreWritten }
+    ensures text_order { ReadsStandInTextOrder }
 {}
 
 /// A law: a grammar without a fault keeps to the limits, with its names gone.
