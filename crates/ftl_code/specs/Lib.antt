@@ -1,0 +1,3 @@
+pub mod Code
+pub mod Depth
+pub mod Machine
