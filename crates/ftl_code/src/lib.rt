@@ -6,7 +6,10 @@
 mod depth;
 mod instruction;
 mod laws;
+mod reads;
+mod rows;
 
 pub use depth::depth_of;
 pub use instruction::Instruction;
 pub use laws::code_computes_the_formula;
+pub use reads::Reads;
