@@ -8,6 +8,8 @@ mod instruction;
 mod laws;
 mod reads;
 mod rows;
+mod stacks;
+mod step;
 
 pub use depth::depth_of;
 pub use instruction::Instruction;
