@@ -8,6 +8,7 @@ mod instruction;
 mod laws;
 mod reads;
 mod rows;
+mod run;
 mod stacks;
 mod step;
 
