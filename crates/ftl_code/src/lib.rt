@@ -9,6 +9,7 @@ mod laws;
 mod reads;
 mod rows;
 mod run;
+mod running;
 mod stacks;
 mod step;
 
@@ -16,3 +17,4 @@ pub use depth::depth_of;
 pub use instruction::Instruction;
 pub use laws::code_computes_the_formula;
 pub use reads::Reads;
+pub use running::run_code;
