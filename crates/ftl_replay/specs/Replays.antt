@@ -72,6 +72,12 @@ pub record IsStateOf (m : Meaning) (words : List ℕ) (hands : List HandState)
 abbrev pub IsState : Meaning → List ℕ → List ReplayPlace → Type 0
 IsState m words places = (hands : List HandState) × IsStateOf m words hands places
 
+-- from this state of words and hands the event is a step
+pub record IsStep (m : Meaning) (event : Event) (words : List ℕ) (hands : List HandState) : Type 0 where
+  pub next : List ℕ
+  pub more : List HandState
+  pub does : Does m event words hands next more
+
 -- the event is a step from this state to one of these words and places
 pub record DoesAt (m : Meaning) (event : Event) (words : List ℕ) (hands : List HandState) (next : List ℕ)
     (places : List ReplayPlace) : Type 0 where
