@@ -137,7 +137,8 @@ module _ (m : Meaning) (words : List ℕ) (hands : List HandState) (places : Lis
   own_made : (event : Event) → IsOwn event → (p : Place) → place_at places (hand_of event) ≡ p → IsPlaceFor m event p
       → IsStep m event words hands
   own_made event o (live p) e f =
-      let c : Can m event words p = can m words event p (stage_of m words places (hand_of event) p (hands, state) e) o f in
+      let stage : IsStageWith m words p = stage_of m words places (hand_of event) p (hands, state) e in
+      let c : Can m event words p = can m words event p stage o f in
       made event c.next _ (makes_own m event words places c.next p c.to o e c.step)
   own_made event o spent e f = absurd (spent_makes_none m event o f)
 

@@ -24,7 +24,7 @@ pub fn events_are_steps()
 
 /// From one state an event leads to one state at most.
 pub fn one_state_follows()
-    ensures { (m : Meaning) (words : List ℕ) (hands : List HandState) (next last : List ℕ)
+    ensures one { (m : Meaning) (words : List ℕ) (hands : List HandState) (next last : List ℕ)
         (more most : List HandState) (event : Event) → Does m event words hands next more
         → Does m event words hands last most → (next ≡ last) × (more ≡ most) }
 {}
@@ -49,7 +49,7 @@ pub fn one_state_of_events()
 {}
 
 /// Events lead nowhere where one of them is the first that is no step, and there is one such place
-/// at most. So `replay` answers `NoStep` exactly where an event is no step.
+/// at most. So, want of memory aside, `replay` answers `NoStep` exactly where an event is no step.
 pub fn one_event_is_the_first()
     ensures nowhere { (m : Meaning) (cells : List ℕ) (events : List Event) (at : ℕ)
         → IsFirstNoStep m cells events at → (words : List ℕ) (places : List ReplayPlace)
