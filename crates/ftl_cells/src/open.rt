@@ -19,7 +19,7 @@ use std::alloc::{AllocError, Global};
 impl<W: Work + Drop> Cells<W> {
     /// Opens the cells of a work, from the words of its Given cells and 0 for all others.
     pub fn open(alloc: Global, work: W, mut words: Vec<u64>) -> Result<(Cells<W>, Hand), AllocError>
-        requires { AreFirst (W.meaning work) words.items }
+        requires first { AreFirst (W.meaning work) words.items }
         ensures work { IfOk result (λ r. r.0.1 ≡ work) }
         ensures made { IfOk result (λ r. IsMadeBy (W.meaning work) r.0.0 r.1) }
         ensures new { IfOk result (λ r. r.1.state ≡ newcomer (W.meaning work) first_name) }
@@ -46,7 +46,7 @@ impl<W: Work + Drop> Cells<W> {
     pub fn close(self, hand: Hand) -> Vec<u64>
         requires made { IsMadeBy (W.meaning self.1) self.0 hand }
         requires ended { hand.state.place ≡ live Ended }
-        ensures { AreLast (W.meaning self.1) result.items }
+        ensures words { AreLast (W.meaning self.1) result.items }
     {
         let Cells {
             table,
