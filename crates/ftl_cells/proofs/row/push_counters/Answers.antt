@@ -1,6 +1,6 @@
 use Rattle.ftl_cells.specs.Work.{pred_total}
 use Rattle.ftl_cells.proofs.Opening.{counters_more}
-use Rattle.ftl_cells.proofs.open.push_counters.Goals as goal
+use Rattle.ftl_cells.proofs.row.push_counters.Goals as goal
 
 pub loop-item-preserved : goal.loop-item-preserved
 loop-item-preserved g c =

@@ -1,14 +1,15 @@
+// The words that stand for a work before the first step.
 ghost use Rattle.std.specs.Prelude.{◌≡◌, ◌++◌, map, OnOk};
 ghost use Rattle.std.specs.List.{range_with_len};
 ghost use Rattle.ftl_cells.specs.Work.{IsLawfulWork, item_total, pred_total};
 ghost use Rattle.ftl_cells.specs.State.{AreFirst, opening_words};
 
-use ftl_cells::Work;
+use crate::work::Work;
 use std::alloc::AllocError;
 
 /// Makes the row of words at the opening from those of the cells, in the same vector.
-pub(crate) fn open_row<W: Work>(work: &W, words: &mut Vec<u64>) -> Result<(), AllocError>
-    requires { AreFirst (W.meaning work.now) words.old.items }
+pub fn open_row<W: Work>(work: &W, words: &mut Vec<u64>) -> Result<(), AllocError>
+    requires first { AreFirst (W.meaning work.now) words.old.items }
     ensures row { OnOk result
         (words.new.items ≡ opening_words (W.meaning work.now) words.old.items) }
     ensures lawful { IsLawfulWork (W.meaning work.now) }
@@ -22,7 +23,7 @@ pub(crate) fn open_row<W: Work>(work: &W, words: &mut Vec<u64>) -> Result<(), Al
 }
 
 fn push_counters<W: Work>(work: &W, row: &mut Vec<u64>) -> Result<(), AllocError>
-    ensures { OnOk result
+    ensures counters { OnOk result
         (row.new.items
         ≡ row.old.items
         ++ map (pred_total (W.meaning work.now))
