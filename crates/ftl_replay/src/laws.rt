@@ -1,12 +1,12 @@
 //! What holds of events and of the states that they lead to.
-ghost use Rattle.std.specs.Prelude.{◌≡◌, ◌↔◌, ℕ, List, [], ◌∷◌};
+ghost use Rattle.std.specs.Prelude.{◌≡◌, ◌↔◌, ◌⊎◌, ℕ, List, [], ◌∷◌};
 ghost use Rattle.ftl_cells.specs.Work.{Meaning, IsLawfulWork};
 ghost use Rattle.ftl_cells.specs.State.{HandState, newcomer, first_name, AreFirst, opening_words};
 ghost use Rattle.ftl_cells.specs.State.{Makes, Reached};
 ghost use Rattle.ftl_cells.specs.Kept.{IsKeptBy};
 ghost use Rattle.ftl_replay.specs.Events.{Does, IsStepAt};
 ghost use Rattle.ftl_replay.specs.Replays.{Lead, LeadTo, ArePlacesOf, IsStateOf, IsStep};
-ghost use Rattle.ftl_replay.specs.Replays.{IsFirstNoStep};
+ghost use Rattle.ftl_replay.specs.Replays.{LeadSomewhere, HaveNoStep, IsFirstNoStep};
 ghost use Rattle.ftl_replay.specs.declared.event.Event.{Event};
 ghost use Rattle.ftl_replay.specs.declared.place.ReplayPlace.{ReplayPlace};
 
@@ -46,6 +46,12 @@ pub fn one_state_of_events()
     ensures places { (m : Meaning) (cells : List ℕ) (events : List Event) (next last : List ℕ)
         (more most : List ReplayPlace) → LeadTo m cells events next more
         → LeadTo m cells events last most → (next ≡ last) × (more ≡ most) }
+{}
+
+/// Each list of events leads to a state, or one of them is the first that is no step.
+pub fn each_list_has_an_answer()
+    ensures some { (m : Meaning) → IsLawfulWork m → (cells : List ℕ) → AreFirst m cells
+        → (events : List Event) → LeadSomewhere m cells events ⊎ HaveNoStep m cells events }
 {}
 
 /// Events lead nowhere where one of them is the first that is no step, and there is one such place
