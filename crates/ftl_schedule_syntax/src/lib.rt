@@ -7,6 +7,8 @@ mod fault;
 mod kind;
 mod laws;
 mod read;
+#[cfg(test)]
+mod tests;
 mod types;
 
 pub use fault::WrittenFault;
