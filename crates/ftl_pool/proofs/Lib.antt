@@ -1,0 +1,3 @@
+pub mod Balances
+pub mod Plays
+pub mod Putting
