@@ -2,3 +2,4 @@ pub mod Count
 pub mod Told
 pub mod Pool
 pub mod Flags
+pub mod Deque

@@ -31,3 +31,13 @@ pub record ArePut (state : Counted) (puts : List ℕ) : Type 0 where
   pub once : IsDistinct eqb puts
   pub below : All (λ x. x < state.items) puts
   pub count : state.puts ≡ length puts
+
+-- a hold of deques: beside the rest, what it took from each deque, its own first
+pub record StealHoldModel : Type 0 where
+  pub hold : HoldModel
+  pub taken : List (List ℕ)
+
+-- the hold is one that this pool made, and nothing was put or taken through it
+pub record IsFreshStealHoldOf (pool : PoolModel) (steal : StealHoldModel) : Type 0 where
+  pub hold : IsFreshHoldOf pool steal.hold
+  pub taken : All (λ items. items ≡ []) steal.taken

@@ -1,5 +1,5 @@
 // The count of waiting items: a table of one word, with its rule and its kinds of step.
-ghost use Rattle.std.specs.Prelude.{◌≡◌, ◌-◌, ◌<◌, IfOk};
+ghost use Rattle.std.specs.Prelude.{◌≡◌, ◌-◌, ◌<◌, ◌≤◌, IfOk};
 ghost use Rattle.std.specs.Bool.{MatchBool};
 ghost use Rattle.ftl_pool.specs.Count.{IsCount, IsTallyOf, first_hold, new_hold, after_split};
 ghost use Rattle.ftl_pool.specs.Count.{after_load, after_put, after_take, IsMoment};
@@ -142,10 +142,11 @@ impl Count {
         shared.compare_exchange::<TakePlay>(&mut tally.seat, 0, count, count - 1) == count
     }
 
-    /// One more item waits.
-    pub(crate) fn add(&self, tally: &mut Tally)
+    /// One more item waits. It is there already: the hold has put `put` items, more than it counted.
+    pub(crate) fn add(&self, tally: &mut Tally, put: usize)
         requires made { IsTallyOf self.now tally.old }
-        requires room { tally.old.state.puts < self.now.items }
+        requires there { tally.old.state.puts < put }
+        requires few { put ≤ self.now.items }
         ensures made { IsTallyOf self.now tally.new }
         ensures told { tally.new.state ≡ after_put tally.old.state }
     {

@@ -107,7 +107,7 @@ impl ReadyPool for FlagPool {
     fn put<R: Wait>(&self, rt: &R, hold: &mut FlagHold, item: u32) {
         self.raise(rt, item);
         hold.puts.push(item).unwrap();
-        self.count.add(&mut hold.tally);
+        self.count.add(&mut hold.tally, hold.puts.len());
     }
 
     fn take<R: Wait>(&self, rt: &R, hold: &mut FlagHold) -> Option<u32> {

@@ -5,11 +5,14 @@
 #![tactic(auto)]
 
 mod count;
+mod deque;
 mod flag_pool;
 mod flag_row;
 pub mod laws;
 mod ready_pool;
+mod steal_pool;
 
 pub use flag_pool::{FlagHold, FlagPool};
 pub use flag_row::FlagRow;
 pub use ready_pool::ReadyPool;
+pub use steal_pool::{StealHold, StealPool};
