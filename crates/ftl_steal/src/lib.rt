@@ -4,5 +4,7 @@
 #![tactic(auto)]
 
 mod alone;
+mod member;
+mod worker;
 
 pub use alone::run_alone;

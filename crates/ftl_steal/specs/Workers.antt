@@ -1,0 +1,46 @@
+-- What each worker of a stage has, before, while and after it works.
+use Rattle.std.specs.Prelude.{◌≡◌, ◌≢◌, ℕ, ◌<◌, ◌≤◌, List, [], ◌++◌}
+use Rattle.std.specs.List.{All}
+use Rattle.std.specs.Vec.{vec_capacity}
+use Rattle.atomic_table.specs.Seated.{TableId}
+use Rattle.ftl_cells.specs.Work.{Meaning, pred_total}
+use Rattle.ftl_cells.specs.State.{live}
+use Rattle.ftl_cells.specs.Calls.{HandModel, IsMadeBy}
+use Rattle.ftl_cells.specs.declared.place.HandPlace.TheVariants.{Idle, Ended}
+use Rattle.ftl_pool.specs.Count.{PoolModel}
+use Rattle.ftl_pool.specs.Pool.{IsHoldOf}
+use Rattle.ftl_steal.specs.declared.member.Member.{Member}
+use Rattle.crossbeam_utils.specs.Padded.{padded_value}
+use Rattle.crossbeam_utils.specs.declared.cache_padded.CachePadded.{CachePadded}
+
+-- the items that a worker put: those that were dealt to it, which wait for none, and those that its hand released
+pub record ArePutBy (m : Meaning) (puts released : List ℕ) : Type 0 where
+  pub dealt : List ℕ
+  pub are : puts ≡ dealt ++ released
+  pub free : All (λ item. pred_total m item ≡ 0) dealt
+
+-- a worker of a stage: a hand of the cells, a hold of the pool, and buffers with room
+pub record IsMember (m : Meaning) (table : TableId) (pool : PoolModel) (worker : Member) : Type 0 where
+  pub hand : IsMadeBy m table worker.hand
+  pub hold : IsHoldOf pool worker.hold.hold
+  pub puts : ArePutBy m worker.hold.hold.puts worker.hand.state.released
+  pub reads : m.max_reads ≤ vec_capacity worker.reads
+  pub stack : m.max_stack ≤ worker.stack.room
+
+-- it is at no item
+pub record IsIdleMember (m : Meaning) (table : TableId) (pool : PoolModel) (worker : CachePadded Member) : Type 0 where
+  pub is : IsMember m table pool (padded_value worker)
+  pub idle : (padded_value worker).hand.state.place ≡ live Idle
+
+-- it has not worked yet, and the items that were dealt to it are below this number
+pub record IsDealtBelow (m : Meaning) (table : TableId) (pool : PoolModel) (item : ℕ) (worker : CachePadded Member)
+    : Type 0 where
+  pub is : IsMember m table pool (padded_value worker)
+  pub idle : (padded_value worker).hand.state.place ≡ live Idle
+  pub none : (padded_value worker).hand.state.released ≡ []
+  pub below : All (λ x. x < item) (padded_value worker).hold.hold.puts
+
+-- its hand is one of these cells, and found the end
+pub record IsEndedMember (m : Meaning) (table : TableId) (worker : CachePadded Member) : Type 0 where
+  pub made : IsMadeBy m table (padded_value worker).hand
+  pub ended : (padded_value worker).hand.state.place ≡ live Ended
