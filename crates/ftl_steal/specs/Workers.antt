@@ -1,11 +1,11 @@
 -- What each worker of a stage has, before, while and after it works.
-use Rattle.std.specs.Prelude.{◌≡◌, ◌≢◌, ℕ, ◌<◌, ◌≤◌, List, [], ◌++◌}
+use Rattle.std.specs.Prelude.{◌≡◌, ℕ, ◌<◌, ◌≤◌, List, [], ◌++◌}
 use Rattle.std.specs.List.{All}
 use Rattle.std.specs.Vec.{vec_capacity}
 use Rattle.atomic_table.specs.Seated.{TableId}
 use Rattle.ftl_cells.specs.Work.{Meaning, pred_total}
 use Rattle.ftl_cells.specs.State.{live}
-use Rattle.ftl_cells.specs.Calls.{HandModel, IsMadeBy}
+use Rattle.ftl_cells.specs.Calls.{IsMadeBy}
 use Rattle.ftl_cells.specs.declared.place.HandPlace.TheVariants.{Idle, Ended}
 use Rattle.ftl_pool.specs.Count.{PoolModel}
 use Rattle.ftl_pool.specs.Pool.{IsHoldOf}

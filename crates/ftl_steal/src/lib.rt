@@ -5,6 +5,8 @@
 
 mod alone;
 mod member;
+mod stage;
 mod worker;
 
 pub use alone::run_alone;
+pub use stage::run_stage;

@@ -1,4 +1,3 @@
-use Rattle.std.proofs.Common.{◌≡◌}
 use Rattle.ftl_cells.specs.State.{Sends}
 use Rattle.ftl_steal.specs.Workers.{IsMember}
 use Rattle.ftl_steal.proofs.worker.run_item.Given as goal
