@@ -1,10 +1,10 @@
 -- What each worker of a stage has, before, while and after it works.
-use Rattle.std.specs.Prelude.{◌≡◌, ℕ, ◌<◌, ◌≤◌, List, [], ◌++◌}
-use Rattle.std.specs.List.{All}
+use Rattle.std.specs.Prelude.{◌≡◌, ℕ, zero, suc, ◌+◌, ◌<◌, ◌≤◌, List, [], ◌++◌, length, cond, eqb}
+use Rattle.std.specs.List.{All, sum_by}
 use Rattle.std.specs.Vec.{vec_capacity}
 use Rattle.atomic_table.specs.Seated.{TableId}
 use Rattle.ftl_cells.specs.Work.{Meaning, pred_total}
-use Rattle.ftl_cells.specs.State.{live}
+use Rattle.ftl_cells.specs.State.{live, HandState}
 use Rattle.ftl_cells.specs.Calls.{IsMadeBy}
 use Rattle.ftl_cells.specs.declared.place.HandPlace.TheVariants.{Idle, Ended}
 use Rattle.ftl_pool.specs.Count.{PoolModel}
@@ -27,6 +27,23 @@ pub record IsMember (m : Meaning) (table : TableId) (pool : PoolModel) (worker :
   pub reads : m.max_reads ≤ vec_capacity worker.reads
   pub stack : m.max_stack ≤ worker.stack.room
 
+-- how many steps a hand made, with those of the hands that it took in
+abbrev pub steps_of : HandState → ℕ
+steps_of hand = hand.count + hand.taken
+
+-- how many of the items below this number wait for none
+abbrev pub free_below : Meaning → ℕ → ℕ
+free_below m zero = 0
+free_below m (suc item) = free_below m item + cond (eqb (pred_total m item) 0) 1 0
+
+-- how many items these workers put
+abbrev pub put_total : List (CachePadded Member) → ℕ
+put_total workers = sum_by (λ (w : CachePadded Member). length (padded_value w).hold.hold.puts) workers
+
+-- how many steps the hands of these workers made
+abbrev pub step_total : List (CachePadded Member) → ℕ
+step_total workers = sum_by (λ (w : CachePadded Member). steps_of (padded_value w).hand.state) workers
+
 -- it is at no item
 pub record IsIdleMember (m : Meaning) (table : TableId) (pool : PoolModel) (worker : CachePadded Member) : Type 0 where
   pub is : IsMember m table pool (padded_value worker)
@@ -44,3 +61,4 @@ pub record IsDealtBelow (m : Meaning) (table : TableId) (pool : PoolModel) (item
 pub record IsEndedMember (m : Meaning) (table : TableId) (worker : CachePadded Member) : Type 0 where
   pub made : IsMadeBy m table (padded_value worker).hand
   pub ended : (padded_value worker).hand.state.place ≡ live Ended
+  pub stepped : 0 < (padded_value worker).hand.state.count

@@ -1,12 +1,15 @@
 // A whole stage, by workers in threads of their own.
-ghost use Rattle.std.specs.Prelude.{◌≡◌, ◌<◌, ◌≤◌, ◌+◌, [], IfOk, vec_len, length, min, max};
+ghost use Rattle.std.specs.Prelude.{◌≡◌, ◌<◌, ◌≤◌, ◌+◌, ◌*◌, [], ◌∷◌, ◌++◌, min, max};
+ghost use Rattle.std.specs.Prelude.{length, vec_len, IfOk, OnOk};
 ghost use Rattle.std.specs.List.{All};
 ghost use Rattle.ftl_cells.specs.Work.{item_total, pred_total};
 ghost use Rattle.ftl_cells.specs.State.{live};
 ghost use Rattle.ftl_cells.specs.Calls.{IsMadeBy};
 ghost use Rattle.ftl_cells.specs.declared.place.HandPlace.TheVariants.{Idle, Ended};
 ghost use Rattle.ftl_pool.specs.Pool.{IsFreshStealHoldOf};
+ghost use Rattle.crossbeam_utils.specs.Padded.{padded_value};
 ghost use Rattle.ftl_steal.specs.Workers.{IsIdleMember, IsDealtBelow, IsEndedMember};
+ghost use Rattle.ftl_steal.specs.Workers.{steps_of, free_below, put_total, step_total};
 
 use crate::member::Member;
 use crate::worker::work;
@@ -35,6 +38,11 @@ pub fn run_stage<R: Threads + Wait + Sync, W: Work, G: Gate>(
     requires few { workers ≤ 64 }
     ensures made { IfOk result (IsMadeBy (W.meaning cells.now.1) cells.now.0) }
     ensures ended { IfOk result (λ h. h.state.place ≡ live Ended) }
+
+    // All hands are given up to the one that comes back: for each worker its hand was made, found
+    // the end and was taken in.
+    ensures given_up { IfOk result (λ h. steps_of hand.state
+        + 3 * min workers (max (item_total (W.meaning cells.now.1)) 1) ≤ steps_of h.state) }
 {
     let items = cells.work().items();
     let workers = workers.min(items.max(1));
@@ -60,6 +68,7 @@ fn gather<W: Work>(
     requires fresh { All (IsFreshStealHoldOf pool.now) holds.items }
     ensures made { IsMadeBy (W.meaning cells.now.1) cells.now.0 hand.new }
     ensures idle { hand.new.state.place ≡ live Idle }
+    ensures steps { OnOk result (steps_of hand.new.state ≡ steps_of hand.old.state + workers) }
     ensures count { IfOk result (λ members. vec_len members ≡ workers) }
     ensures dealt { IfOk result
         (λ members. All (IsDealtBelow (W.meaning cells.now.1) cells.now.0 pool.now 0)
@@ -99,6 +108,7 @@ fn equip<W: Work>(
     requires fresh { IsFreshStealHoldOf _pool.now hold }
     ensures made { IsMadeBy (W.meaning cells.now.1) cells.now.0 hand.new }
     ensures idle { hand.new.state.place ≡ live Idle }
+    ensures steps { OnOk result (steps_of hand.new.state ≡ steps_of hand.old.state + 1) }
     ensures dealt { IfOk result
         (IsDealtBelow (W.meaning cells.now.1) cells.now.0 _pool.now 0) }
 {
@@ -125,16 +135,43 @@ fn deal_all<R: Wait, W: Work>(
     requires dealt { All (IsDealtBelow (W.meaning cells.now.1) cells.now.0 pool.now 0)
         members.old.items }
     ensures count { vec_len members.new ≡ vec_len members.old }
+    ensures once { put_total members.new.items
+        ≡ free_below (W.meaning cells.now.1) (item_total (W.meaning cells.now.1)) }
     ensures idle { All (IsIdleMember (W.meaning cells.now.1) cells.now.0 pool.now)
         members.new.items }
 {
     let mut worker = 0;
     for item in 0..cells.work().items() {
-        if cells.work().pred_count(item) == 0 {
-            deal(rt, cells, pool, &mut members[worker], item);
-            worker = (worker + 1) % members.len();
-        }
+        worker = deal_next(rt, cells, pool, members, worker, item);
     }
+}
+
+/// Deals an item to this worker if it waits for none, and answers whose turn is next.
+fn deal_next<R: Wait, W: Work>(
+    rt: &R,
+    cells: &Cells<W>,
+    pool: &StealPool,
+    members: &mut Vec<CachePadded<Member>>,
+    worker: usize,
+    item: u32,
+) -> usize
+    requires items { pool.now.items ≡ item_total (W.meaning cells.now.1) }
+    requires item { item < item_total (W.meaning cells.now.1) }
+    requires worker { worker < vec_len members.old }
+    requires dealt { All (IsDealtBelow (W.meaning cells.now.1) cells.now.0 pool.now item)
+        members.old.items }
+    ensures worker { result < vec_len members.new }
+    ensures count { vec_len members.new ≡ vec_len members.old }
+    ensures once { put_total members.new.items + free_below (W.meaning cells.now.1) item
+        ≡ put_total members.old.items + free_below (W.meaning cells.now.1) (item + 1) }
+    ensures dealt { All (IsDealtBelow (W.meaning cells.now.1) cells.now.0 pool.now (item + 1))
+        members.new.items }
+{
+    if cells.work().pred_count(item) != 0 {
+        return worker;
+    }
+    deal(rt, cells, pool, &mut members[worker], item);
+    (worker + 1) % members.len()
 }
 
 /// Deals one item to one worker.
@@ -151,6 +188,8 @@ fn deal<R: Wait, W: Work>(
     requires dealt { IsDealtBelow (W.meaning cells.now.1) cells.now.0 pool.now item member.old }
     ensures dealt { IsDealtBelow (W.meaning cells.now.1) cells.now.0 pool.now (item + 1)
         member.new }
+    ensures once { length (padded_value member.new).hold.hold.puts
+        ≡ length (padded_value member.old).hold.hold.puts + 1 }
 {
     let member: &mut Member = member;
     pool.put(rt, &mut member.hold, item);
@@ -185,6 +224,7 @@ fn run_all<R: Threads + Wait + Sync, W: Work, G: Gate>(
     );
 }
 
+#[tactic(auto, using(crate::proofs::Totals::push_total))]
 /// The hand of one worker, which takes in those of all others and the caller's.
 fn give_up_all<W: Work>(cells: &Cells<W>, mut members: Vec<CachePadded<Member>>, hand: Hand) -> Hand
     requires made { IsMadeBy (W.meaning cells.now.1) cells.now.0 hand }
@@ -193,6 +233,9 @@ fn give_up_all<W: Work>(cells: &Cells<W>, mut members: Vec<CachePadded<Member>>,
     requires ended { All (IsEndedMember (W.meaning cells.now.1) cells.now.0) members.items }
     ensures made { IsMadeBy (W.meaning cells.now.1) cells.now.0 result }
     ensures ended { result.state.place ≡ live Ended }
+    ensures all { steps_of result.state
+        ≡ steps_of hand.state + step_total members.items + vec_len members }
+    ensures least { steps_of hand.state + 2 * vec_len members ≤ steps_of result.state }
 {
     let mut kept = next_member(cells, &mut members).into_inner().hand;
     cells.give_up(&mut kept, hand);
@@ -212,6 +255,7 @@ fn next_member<W: Work>(
     requires ended { All (IsEndedMember (W.meaning _cells.now.1) _cells.now.0)
         members.old.items }
     ensures ended { IsEndedMember (W.meaning _cells.now.1) _cells.now.0 result }
+    ensures taken { members.old.items ≡ members.new.items ++ result ∷ [] }
     ensures count { vec_len members.new + 1 ≡ vec_len members.old }
     ensures rest { All (IsEndedMember (W.meaning _cells.now.1) _cells.now.0)
         members.new.items }

@@ -27,6 +27,7 @@ pub(crate) fn work<R: Wait, W: Work, G: Gate>(
     requires items { pool.now.items ≡ item_total (W.meaning cells.now.1) }
     ensures made { IsMadeBy (W.meaning cells.now.1) cells.now.0 member.new.hand }
     ensures ended { member.new.hand.state.place ≡ live Ended }
+    ensures stepped { 0 < member.new.hand.state.count }
 {
     for _ in rt.forever() {
         if let Some(item) = pool.take(rt, &mut member.hold) {

@@ -10,6 +10,7 @@ loop-number-preserved g c =
     let P = IsDealtBelow (g.W.Meant.meaning c.args.cells.now.1) c.args.cells.now.0 c.args.pool.now 0 in record {
       made = c.in_ok-member.ensures.made;
       idle = c.in_ok-member.ensures.idle;
+      steps = omega (arith, c.loop-number.invariant.steps, c.in_ok-member.ensures.steps);
       fresh = c.next_hold-hold.ensures.rest;
       left = omega (arith, c.loop-number.invariant.left, c.next_hold-hold.ensures.count);
       count = omega (arith, c.in_ok-push.ensures.len, c.loop-number.invariant.count);
