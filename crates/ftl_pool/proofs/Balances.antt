@@ -90,7 +90,8 @@ first_balances items = record {
 
 pub balances : (items n : ℕ) (holds : List Counted) → IsReached items n holds → IsBalanced items n holds
 balances items n holds begins = first_balances items
-balances items n holds (goes_on {n = k} {holds = before} r s) = step_balances items k n before holds (balances items k before r) s
+balances items n holds (goes_on {n = k} {holds = before} r s) =
+    step_balances items k n before holds (balances items k before r) s
 
 -- what is read at a place stands there
 read_there : {X : Type 0} (xs : List X) (k : ℕ) (d : X) → k < length xs → get_elem? xs k ≡ some (get_or xs k d)

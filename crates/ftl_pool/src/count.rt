@@ -142,7 +142,8 @@ impl Count {
         shared.compare_exchange::<TakePlay>(&mut tally.seat, 0, count, count - 1) == count
     }
 
-    /// One more item waits. It is there already: the hold has put `put` items, more than it counted.
+    /// One more item waits. It is there already: the hold has put `put` items, more than it
+    /// counted.
     pub(crate) fn add(&self, tally: &mut Tally, put: usize)
         requires made { IsTallyOf self.now tally.old }
         requires there { tally.old.state.puts < put }

@@ -1,5 +1,5 @@
-//! Tests of the pools: a row of flags, a pool of flags through one hold, and a pool of deques through
-//! two.
+//! Tests of the pools: a row of flags, a pool of flags through one hold, and a pool of deques
+//! through two.
 #![tactic(auto)]
 
 #[cfg(test)]

@@ -32,7 +32,8 @@ begins m words law first = record {
   count = first.count;
   given = λ c l kind. first.each c l ∙ ap (λ q. first_word_of q (solved_word m c)) kind;
   later = λ c l kind. first.each c l ∙ ap (λ q. first_word_of q (solved_word m c)) kind;
-  filled = λ k l st b. ⊎_elim (λ (x : k < 0). absurd (omega arith)) (λ (x : (k ≡ 0) × (l < 0)). absurd (omega (arith, x.1))) b;
+  filled = λ k l st b. ⊎_elim (λ (x : k < 0). absurd (omega arith))
+      (λ (x : (k ≡ 0) × (l < 0)). absurd (omega (arith, x.1))) b;
 }
 
 -- each cell that a step reads holds the solution's word
@@ -45,7 +46,8 @@ read_is m words i j r f st b =
     ⊎_elim (λ given. f.given (read_of m i j r) (law.read_in_range i j r st b) given)
     (λ more. ⊎_elim
     (λ (own : IsOwn m i j (read_of m i j r)). subst P own.is
-    (f.filled i own.step (record { item = st.item; step = omega (arith, own.earlier, here) }) (inr (refl, own.earlier))))
+    (f.filled i own.step (record { item = st.item; step = omega (arith, own.earlier, here) })
+    (inr (refl, own.earlier))))
     (λ (on : IsHandedOn m i (read_of m i j r)). subst P on.is
     (f.filled on.item on.step on.known
     (inl (subst (λ y. on.item < y) on.next.is (law.next_is_later on.item on.next.at on.next.known on.next.below)))))
@@ -78,8 +80,10 @@ fills_on m words i j n f st is =
     get_or-set_other words at c n 0 ne in record {
       lawful = law;
       count = length-set words at n ∙ f.count;
-      given = λ c l k. old c (λ e. let same : Given ≡ Target = sym k ∙ ap (kind_at m) e ∙ kind in absurd (cc)) ∙ f.given c l k;
-      later = λ c l k. old c (λ e. let same : Later ≡ Target = sym k ∙ ap (kind_at m) e ∙ kind in absurd (cc)) ∙ f.later c l k;
+      given = λ c l k. old c (λ e. let same : Given ≡ Target = sym k ∙ ap (kind_at m) e ∙ kind in absurd (cc))
+          ∙ f.given c l k;
+      later = λ c l k. old c (λ e. let same : Later ≡ Target = sym k ∙ ap (kind_at m) e ∙ kind in absurd (cc))
+          ∙ f.later c l k;
       filled = λ k l step b. dite (ℕ_discrete (target_of m k l) at)
           (λ e. subst (λ c. get_or (set words at n) c 0 ≡ solved_word m c) (sym e) new)
           (λ ne. old (target_of m k l) ne ∙ f.filled k l step (⊎_elim (λ (x : k < i). inl x)

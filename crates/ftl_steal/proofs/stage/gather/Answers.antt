@@ -14,6 +14,6 @@ loop-number-preserved g c =
       fresh = c.next_hold-hold.ensures.rest;
       left = omega (arith, c.loop-number.invariant.left, c.next_hold-hold.ensures.count);
       count = omega (arith, c.in_ok-push.ensures.len, c.loop-number.invariant.count);
-      dealt = subst (All P) (sym c.in_ok-push.ensures.items) (All-push P c.loop-number.members.items c.in_ok-member.member
-          c.loop-number.invariant.dealt c.in_ok-member.ensures.dealt);
+      dealt = subst (All P) (sym c.in_ok-push.ensures.items) (All-push P c.loop-number.members.items
+          c.in_ok-member.member c.loop-number.invariant.dealt c.in_ok-member.ensures.dealt);
     }

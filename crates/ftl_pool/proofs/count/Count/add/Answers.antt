@@ -10,5 +10,7 @@ fetch_add-requires c =
     let table = ap (λ (t : TallyModel). t.table) c.tally.view_is ∙ c.requires.made.0
     ∙ sym (ap (λ (p : PoolModel). p.table) c.self.view_is) in
     let asks = put_asks c.args.self.now.items c.self.inside.table.shared.key c.self.inside.table.shared.table_id
-    c.tally.inside.seat.id c.tally.inside.seat.me of is c.self.invariant.0 c.self.invariant.2 (subst (λ (t : TallyModel). t.state.puts < c.args.self.now.items) (sym c.tally.view_is) (omega (arith, c.requires.there, c.requires.few))) in
+    c.tally.inside.seat.id c.tally.inside.seat.me of is c.self.invariant.0 c.self.invariant.2
+    (subst (λ (t : TallyModel). t.state.puts < c.args.self.now.items)
+    (sym c.tally.view_is) (omega (arith, c.requires.there, c.requires.few))) in
     (table, asks.0, asks.1)

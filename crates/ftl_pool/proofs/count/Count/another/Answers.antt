@@ -10,5 +10,7 @@ split_seat-requires c =
     let table = ap (λ (t : TallyModel). t.table) c.tally.view_is ∙ c.requires.made.0
     ∙ sym (ap (λ (p : PoolModel). p.table) c.self.view_is) in
     let asks = split_asks c.args.self.now.items c.self.inside.table.shared.key c.self.inside.table.shared.table_id
-    c.tally.inside.seat.id c.tally.inside.seat.me of is c.self.invariant.0 c.self.invariant.2 (subst (λ (t : TallyModel). 0 < t.state.spare) (sym c.tally.view_is) c.requires.spare) in
+    c.tally.inside.seat.id c.tally.inside.seat.me of is c.self.invariant.0 c.self.invariant.2
+    (subst (λ (t : TallyModel). 0 < t.state.spare)
+    (sym c.tally.view_is) c.requires.spare) in
     (table, asks.0, asks.1)
