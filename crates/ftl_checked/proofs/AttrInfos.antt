@@ -40,7 +40,7 @@ pub attributes_are : (g : Grammar) → map (attribute_info g) (all_attributes g)
     ≡ flat_map (shared_told g) (numbered 0 g.interfaces) ++ flat_map (own_told g) (numbered 0 g.classes)
 attributes_are g =
     map-append (attribute_info g) (flat_map (λ x. map (declared false x.0) x.1.attrs) (numbered 0 g.interfaces))
-      (flat_map (λ k. map (declared true k.0) k.1.attrs) (numbered 0 g.classes))
+    (flat_map (λ k. map (declared true k.0) k.1.attrs) (numbered 0 g.classes))
     ∙ ap₂ (λ a b. a ++ b) (shared_all g (numbered 0 g.interfaces)) (own_all g (numbered 0 g.classes))
 
 -- one interface more
@@ -83,9 +83,15 @@ counted f h s (x ∷ xs) =
 pub attribute_count_is : (g : Grammar) → length (all_attributes g) ≡ shared_count g.interfaces + own_count g.classes
 attribute_count_is g =
     length-append (flat_map (λ x. map (declared false x.0) x.1.attrs) (numbered 0 g.interfaces))
-      (flat_map (λ k. map (declared true k.0) k.1.attrs) (numbered 0 g.classes))
+    (flat_map (λ k. map (declared true k.0) k.1.attrs) (numbered 0 g.classes))
     ∙ ap₂ (λ a b. a + b) (counted (λ (x : Interface). x.attrs) (declared false) 0 g.interfaces)
-      (counted (λ (k : Class). k.attrs) (declared true) 0 g.classes)
+    (counted (λ (k : Class). k.attrs) (declared true) 0 g.classes)
 
 pub rule_count_is : (g : Grammar) → length (all_rules g) ≡ length (flat_map (λ (k : Class). k.rules) g.classes)
 rule_count_is g = counted (λ (k : Class). k.rules) (λ n r. (let p : ℕ × Rule = (n, r) in p)) 0 g.classes
+
+-- the steps of a loop over interfaces
+pub ruleset shared_steps = (shared_more, shared_end)
+
+-- the steps of a loop over classes
+pub ruleset own_steps = (own_more, own_end)

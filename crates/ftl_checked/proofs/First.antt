@@ -24,3 +24,6 @@ first_of_stops f xs i d e within here =
 pub first_of_ends : {X : Type 0} (f : X → Option GrammarFault) (xs : List X) → first_of f (drop (length xs) xs) ≡ None
 first_of_ends f [] = refl
 first_of_ends f (x ∷ xs) = first_of_ends f xs
+
+-- the steps of a loop over entries
+pub ruleset first_steps = (first_of_passes, first_of_stops, first_of_ends)

@@ -13,6 +13,7 @@ use Rattle.ftl_checked.specs.Needs.{infos_of}
 use Rattle.ftl_checked.specs.Numbering.{class_at, numbered}
 use Rattle.ftl_checked.proofs.Counting.{left_is}
 use Rattle.ftl_checked.proofs.FirstLists.{there_append}
+use Rattle.ftl_checked.proofs.FirstNumbered.{placed_first_passes, placed_first_stops, numbered_first_ends}
 
 -- the rules of one class
 of_class : (g : Grammar) (k : ℕ) (rs : List Rule)
@@ -57,3 +58,6 @@ class_fault_is g k =
     by_missing (Some x) b = refl
     by_missing None (Some x) = refl
     by_missing None None = refl
+
+-- the steps of a loop over all classes
+pub ruleset class_steps = (placed_first_passes, placed_first_stops, numbered_first_ends, infos_more, infos_end)

@@ -31,7 +31,7 @@ after_passes before xs i d within new =
     ap (second_name (before ++ take i xs)) (left_is xs i d within)
     ∙ ap (λ b. if b then Some (get_or xs i d) else second_name ((before ++ take i xs) ++ (get_or xs i d ∷ [])) (drop (i + 1) xs)) new
     ∙ ap (λ bs. second_name bs (drop (i + 1) xs))
-      (append_assoc before (take i xs) (get_or xs i d ∷ []) ∙ ap (λ ys. before ++ ys) (sym (take_more xs i d within)))
+    (append_assoc before (take i xs) (get_or xs i d ∷ []) ∙ ap (λ ys. before ++ ys) (sym (take_more xs i d within)))
 
 -- one that is among them
 pub after_stops : (before xs : List NameText) (i : ℕ) (d : NameText) → i < length xs
@@ -123,3 +123,9 @@ second_in_then before (x ∷ xs) ys e =
         → (if b then Some x else second_name (before ++ (x ∷ [])) (xs ++ ys)) ≡ second_name ((before ++ (x ∷ [])) ++ xs) ys
     by_test true e rest = absurd (cc e)
     by_test false e rest = rest e
+
+-- the steps of a loop over names
+pub ruleset second_steps = (second_passes, second_stops, second_ends)
+
+-- the steps of one over names after others
+pub ruleset after_steps = (after_passes, after_stops, after_ends)

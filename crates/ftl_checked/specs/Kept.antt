@@ -11,7 +11,8 @@ use Rattle.ftl_checked.specs.Numbering.{interface_number}
 use Rattle.ftl_checked.specs.Tables.{tables_of}
 
 -- the grammar is lawful, and what is kept says what its numbers stand for
-pub record IsKept (g : Grammar) (kept : Tables) (told : List AttrInfo) (ruled : List RuleInfo) (first : ℕ) : Type 0 where
+pub record IsKept (g : Grammar) (kept : Tables) (told : List AttrInfo) (ruled : List RuleInfo) (first : ℕ) : Type 0
+    where
   pub lawful : first_fault g ≡ None
   pub small : HasSmallCounts g
   pub tables : kept ≡ tables_of g

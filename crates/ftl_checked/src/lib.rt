@@ -10,6 +10,7 @@ mod check;
 mod checked;
 mod class_checks;
 mod fault;
+mod fields;
 mod find;
 mod forms;
 mod info;

@@ -12,5 +12,5 @@ use Rattle.ftl_checked.proofs.find.child_of.Goals as goal
 pub returns : goal.returns
 returns c =
     let here = made_at (child_info c.args.grammar.now) (class_at c.args.grammar.now c.args.number).children c.args.child
-        (record { interface = 0; many = false }) (trees.child [] [] false) c.requires.child in
+    (record { interface = 0; many = false }) (trees.child [] [] false) c.requires.child in
     grind (arith, common_steps)

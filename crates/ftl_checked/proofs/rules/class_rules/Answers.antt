@@ -22,5 +22,5 @@ loop-rule-preserved c =
     record {
       faults = grind (arith, common_steps);
       slots = grind (arith, common_steps);
-      infos = grind (arith, common_steps)
+      infos = grind (arith, common_steps);
     }

@@ -7,5 +7,5 @@ abbrev pub invariant-loop-class : goal.invariant-loop-class
 invariant-loop-class l = record {
   built : l.tables ++ map (class_entry l.grammar) (numbered l.class-index (drop l.class-index l.grammar.classes))
       ≡ map (class_entry l.grammar) (numbered 0 l.grammar.classes);
-  at : l.start ≡ shared_count l.grammar.interfaces + own_count (take l.class-index l.grammar.classes)
+  at : l.start ≡ shared_count l.grammar.interfaces + own_count (take l.class-index l.grammar.classes);
 }
