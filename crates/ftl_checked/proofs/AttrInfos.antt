@@ -1,5 +1,5 @@
 -- What is told of all attributes, owner by owner.
-use Rattle.std.proofs.Common.{◌≡◌, ℕ, suc, ◌+◌, ◌<◌, Bool, true, false, List, [], ◌∷◌, ◌++◌, length, map, flat_map, drop, get_or, refl, sym, ◌∙◌, ap, ap₂, add-one, append_assoc}
+use Rattle.std.proofs.Common.{◌≡◌, ℕ, suc, ◌+◌, ◌<◌, Bool, true, false, List, [], ◌∷◌, ◌++◌, length, map, flat_map, drop, refl, sym, ◌∙◌, ap, ap₂, add-one, append_assoc}
 use Rattle.std.proofs.lemmas.List.{map-append, length-map}
 use Rattle.std.proofs.Math.ListN.{length-append}
 use Rattle.ftl_syntax.specs.declared.rules.AttrDecl.{AttrDecl}
@@ -9,7 +9,7 @@ use Rattle.ftl_syntax.specs.declared.rules.Grammar.{Grammar}
 use Rattle.ftl_syntax.specs.declared.rules.Rule.{Rule}
 use Rattle.ftl_syntax.specs.Trees as trees
 use Rattle.ftl_checked.specs.declared.info.AttrInfo.{AttrInfo}
-use Rattle.ftl_checked.specs.Checked.{Declared, all_attributes, all_rules, attribute_info, declared}
+use Rattle.ftl_checked.specs.Checked.{all_attributes, all_rules, attribute_info, declared}
 use Rattle.ftl_checked.specs.Numbering.{class_at, interface_at, numbered, own_count, shared_count}
 use Rattle.ftl_checked.specs.Told.{own_told, shared_told}
 use Rattle.ftl_checked.proofs.Counting.{left_is}

@@ -1,7 +1,7 @@
 -- Look-ups by name in numbered lists, by the first place of the name.
-use Rattle.std.proofs.Common.{◌≡◌, ℕ, suc, zero, ◌+◌, ◌<◌, Bool, true, false, not, cond, if◌then◌else◌, nat_lt, List, [], ◌∷◌, ◌++◌, length, map, take, get_or, Option, Some, None, refl, sym, ◌∙◌, ap, ap₂, subst, arith, add-one, add-zero}
+use Rattle.std.proofs.Common.{◌≡◌, ℕ, suc, zero, ◌+◌, ◌<◌, Bool, true, false, not, cond, nat_lt, List, [], ◌∷◌, length, map, take, get_or, Option, Some, None, refl, sym, ◌∙◌, ap, subst, arith, add-zero}
 use Rattle.std.specs.List.{find, position, position_or_len}
-use Rattle.std.specs.Option.{option_map, is_some, option_and_then, option_map_or, option_or}
+use Rattle.std.specs.Option.{option_map, option_or}
 use Rattle.std.specs.Str.{bytes_eq}
 use Rattle.std.proofs.lemmas.Bool.Decides.{nat_tests}
 use Rattle.std.proofs.lemmas.Grind.{common_steps}
@@ -20,7 +20,7 @@ use Rattle.ftl_checked.specs.Checked.{child_info}
 use Rattle.ftl_checked.specs.Counts.{HasSmallCounts, IsSmall}
 use Rattle.ftl_checked.specs.FirstFault.{attribute_names}
 use Rattle.ftl_checked.specs.Found.{found_attribute, found_child}
-use Rattle.ftl_checked.specs.Numbering.{numbered, find_attribute, find_child, class_at, child_at, interface_at, interface_of, shared_count, own_count, shared_attributes, own_attributes, class_attributes}
+use Rattle.ftl_checked.specs.Numbering.{numbered, find_attribute, find_child, class_at, interface_at, interface_of, shared_count, own_count, shared_attributes, own_attributes, class_attributes}
 use Rattle.ftl_checked.proofs.Numbered.{count_within}
 use Rattle.std.proofs.lemmas.List.Folds.{find-append}
 

@@ -1,5 +1,5 @@
 -- The first fault of numbered entries, entry by entry.
-use Rattle.std.proofs.Common.{◌≡◌, ℕ, suc, ◌+◌, ◌<◌, List, [], ◌∷◌, ◌++◌, length, map, drop, get_or, Option, Some, None, refl, sym, ◌∙◌, ap, arith, add-one}
+use Rattle.std.proofs.Common.{◌≡◌, ℕ, suc, ◌+◌, ◌<◌, List, [], ◌∷◌, length, map, drop, get_or, Option, Some, None, refl, sym, ◌∙◌, ap, arith, add-one}
 use Rattle.ftl_checked.specs.FirstFault.{first_there, first_of}
 use Rattle.ftl_checked.specs.Numbering.{numbered}
 use Rattle.ftl_checked.specs.declared.fault.GrammarFault.{GrammarFault}

@@ -1,5 +1,5 @@
 -- What a class needs rules for, list by list.
-use Rattle.std.proofs.Common.{◌≡◌, ℕ, Bool, true, false, ◌||◌, List, [], ◌∷◌, ◌++◌, map, filter, flat_map, Option, Some, None, refl, sym, ◌∙◌, ap, ap₂}
+use Rattle.std.proofs.Common.{◌≡◌, ℕ, Bool, true, false, ◌||◌, List, [], ◌∷◌, ◌++◌, flat_map, Option, Some, None, refl, sym, ◌∙◌, ap, ap₂}
 use Rattle.std.specs.List.{list_any}
 use Rattle.std.specs.Option.{option_to_list}
 use Rattle.ftl_syntax.specs.declared.rules.AttrDecl.{AttrDecl}
@@ -14,7 +14,7 @@ use Rattle.ftl_checked.specs.Needs.{kid_need, need_fault, need_of}
 use Rattle.ftl_checked.specs.Numbering.{child_attributes, children_of, class_at, class_attributes, interface_of, own_attributes, shared_attributes}
 use Rattle.ftl_checked.specs.RuleForms.{Slot, is_inherited, is_synthesized_or_local, kid_slot, own_slot, slot_of}
 use Rattle.ftl_checked.specs.Slots.{slots_of}
-use Rattle.ftl_checked.proofs.FirstLists.{of_append, of_joined, of_picked, of_same, there_cons}
+use Rattle.ftl_checked.proofs.FirstLists.{of_append, of_joined, of_picked, of_same}
 
 -- whether any of two lists has it
 any_append : (p : Slot → Bool) (xs ys : List Slot) → list_any p (xs ++ ys) ≡ list_any p xs || list_any p ys

@@ -1,5 +1,5 @@
 -- What is told of all rules, class by class.
-use Rattle.std.proofs.Common.{◌≡◌, ℕ, suc, ◌+◌, ◌<◌, List, [], ◌∷◌, ◌++◌, length, map, flat_map, drop, get_or, Option, Some, None, refl, sym, ◌∙◌, ap, ap₂, add-one, append_assoc}
+use Rattle.std.proofs.Common.{◌≡◌, ℕ, ◌+◌, ◌<◌, List, [], ◌∷◌, ◌++◌, length, map, flat_map, drop, Option, Some, None, refl, sym, ◌∙◌, ap, ap₂, add-one, append_assoc}
 use Rattle.std.proofs.lemmas.List.{map-append}
 use Rattle.ftl_syntax.specs.declared.rules.Class.{Class}
 use Rattle.ftl_syntax.specs.declared.rules.Grammar.{Grammar}
@@ -8,7 +8,7 @@ use Rattle.ftl_syntax.specs.Trees as trees
 use Rattle.ftl_checked.specs.declared.fault.GrammarFault.{GrammarFault}
 use Rattle.ftl_checked.specs.declared.info.RuleInfo.{RuleInfo}
 use Rattle.ftl_checked.specs.Checked.{all_rules, rule_info}
-use Rattle.ftl_checked.specs.FirstFault.{class_fault, first_there, missing_rule, rule_faults, first_of}
+use Rattle.ftl_checked.specs.FirstFault.{class_fault, first_there, missing_rule, rule_faults}
 use Rattle.ftl_checked.specs.Needs.{infos_of}
 use Rattle.ftl_checked.specs.Numbering.{class_at, numbered}
 use Rattle.ftl_checked.proofs.Counting.{left_is}

@@ -1,5 +1,5 @@
 -- The tables that stand beside a grammar, by what they hold.
-use Rattle.std.specs.Prelude.{ℕ, ◌+◌, List, ◌++◌, map, take}
+use Rattle.std.specs.Prelude.{ℕ, ◌+◌, ◌++◌, map, take}
 use Rattle.ftl_syntax.specs.declared.rules.Class.{Class}
 use Rattle.ftl_syntax.specs.declared.rules.Grammar.{Grammar}
 use Rattle.ftl_syntax.specs.declared.rules.Interface.{Interface}

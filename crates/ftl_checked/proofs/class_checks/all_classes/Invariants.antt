@@ -1,5 +1,4 @@
 use Rattle.std.proofs.Common.{◌≡◌, ◌++◌, drop, flat_map}
-use Rattle.ftl_syntax.specs.declared.rules.Class.{Class}
 use Rattle.ftl_checked.specs.FirstFault.{class_fault, first_of}
 use Rattle.ftl_checked.specs.Needs.{infos_of}
 use Rattle.ftl_checked.specs.Numbering.{numbered}

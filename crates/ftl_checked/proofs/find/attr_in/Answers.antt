@@ -1,5 +1,4 @@
-use Rattle.std.proofs.Common.{arith, ◌≡◌, ◌+◌, ◌<◌, ℕ, length, Option, Some, None, sym, ◌∙◌, ap, subst}
-use Rattle.std.proofs.lemmas.Grind.{common_steps}
+use Rattle.std.proofs.Common.{Some, None}
 use Rattle.std.proofs.Common.{[]}
 use Rattle.ftl_syntax.specs.Trees as trees
 use Rattle.ftl_syntax.specs.declared.rules.AttrKind.TheVariants.{Inh}

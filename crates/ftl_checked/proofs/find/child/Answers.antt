@@ -1,4 +1,4 @@
-use Rattle.std.proofs.Common.{arith, ◌≡◌, ◌+◌, ◌<◌, ℕ, length, Option, Some, None, sym, ◌∙◌, ap, subst}
+use Rattle.std.proofs.Common.{arith}
 use Rattle.std.proofs.lemmas.Grind.{common_steps}
 use Rattle.ftl_checked.proofs.Finding.{child_found_here, child_found_none, child_place_within}
 use Rattle.ftl_checked.proofs.find.child.Goals as goal

@@ -1,9 +1,7 @@
-use Rattle.std.proofs.Common.{arith, ◌≡◌, ◌+◌, ◌<◌, ℕ, length, Option, Some, None, sym, ◌∙◌, ap, subst}
+use Rattle.std.proofs.Common.{arith}
 use Rattle.std.proofs.lemmas.Grind.{common_steps}
 use Rattle.std.proofs.Common.{[], false}
 use Rattle.ftl_syntax.specs.Trees as trees
-use Rattle.ftl_syntax.specs.declared.rules.AttrKind.TheVariants.{Inh}
-use Rattle.ftl_checked.specs.Tables.{interface_entry, class_entry, tables_of}
 use Rattle.ftl_checked.specs.Numbering.{class_at}
 use Rattle.ftl_checked.specs.Checked.{child_info}
 use Rattle.ftl_checked.proofs.Finding.{made_at}

@@ -1,6 +1,6 @@
-use Rattle.std.proofs.Common.{◌≡◌, ◌+◌, ◌++◌, ◌<◌, ◌≤◌, map, take, drop, length, ℕ}
-use Rattle.ftl_checked.specs.Numbering.{class_names, interface_names, numbered, own_count, shared_count}
-use Rattle.ftl_checked.specs.Tables.{interface_table, class_entry}
+use Rattle.std.proofs.Common.{◌≡◌, ◌+◌, ◌++◌, map, take, drop}
+use Rattle.ftl_checked.specs.Numbering.{numbered, own_count, shared_count}
+use Rattle.ftl_checked.specs.Tables.{class_entry}
 use Rattle.ftl_checked.proofs.tables.class_tables.Given as goal
 
 abbrev pub invariant-loop-class : goal.invariant-loop-class

@@ -1,6 +1,6 @@
-use Rattle.std.proofs.Common.{◌≡◌, ◌+◌, ◌++◌, ◌<◌, ◌≤◌, map, take, drop, length, ℕ}
-use Rattle.ftl_checked.specs.Numbering.{class_names, interface_names, numbered, own_count, shared_count}
-use Rattle.ftl_checked.specs.Tables.{interface_table, class_entry}
+use Rattle.std.proofs.Common.{◌≡◌, ◌++◌, map, take, drop}
+use Rattle.ftl_checked.specs.Numbering.{numbered, shared_count}
+use Rattle.ftl_checked.specs.Tables.{interface_table}
 use Rattle.ftl_checked.proofs.tables.interface_tables.Given as goal
 
 abbrev pub invariant-loop-interface : goal.invariant-loop-interface

@@ -1,4 +1,4 @@
-use Rattle.std.proofs.Common.{refl, sym, ◌∙◌, ap}
+use Rattle.std.proofs.Common.{refl, ◌∙◌, ap}
 use Rattle.std.specs.List.{list_any}
 use Rattle.ftl_checked.specs.FirstFault.{same_slot}
 use Rattle.ftl_checked.specs.Slots.{slot_in}
