@@ -3,3 +3,13 @@ pub mod Allowed
 pub mod RuleForms
 pub mod FirstFault
 pub mod Worked
+pub mod Finds
+pub mod Checked
+pub mod Counts
+pub mod Tables
+pub mod Found
+pub mod Slots
+pub mod Needs
+pub mod NameFaults
+pub mod Kept
+pub mod Told

@@ -1,8 +1,12 @@
 //! Why a grammar is not lawful.
 
+ghost use Rattle.std.specs.Prelude.{◌≡◌};
+ghost use Rattle.ftl_checked.specs.declared.fault.GrammarFault.TheVariants.{OutOfMemory};
+
 use crate::rule_name::RuleName;
 use ftl_formula::ReadName;
 use ftl_tokens::Name;
+use std::alloc::{AllocError, AllocFailed};
 
 /// What a grammar may have only so many of.
 #[derive(Clone, Copy, Debug, PartialEq, Eq)]
@@ -46,4 +50,20 @@ pub enum GrammarFault {
     MissingRule { rule: RuleName },
     /// No memory was left for the names.
     OutOfMemory,
+}
+
+impl From<AllocError> for GrammarFault {
+    ghost from_gives = { λ _ e. e ≡ OutOfMemory };
+
+    fn from(_: AllocError) -> Self {
+        GrammarFault::OutOfMemory
+    }
+}
+
+impl<T: Drop> From<AllocFailed<T>> for GrammarFault {
+    ghost from_gives = { λ _ e. e ≡ OutOfMemory };
+
+    fn from(_: AllocFailed<T>) -> Self {
+        GrammarFault::OutOfMemory
+    }
 }

@@ -1,0 +1,16 @@
+use Rattle.std.proofs.Common.{◌≡◌, drop, Option}
+use Rattle.std.specs.Option.{is_none}
+use Rattle.ftl_formula.specs.declared.read_name.ReadName.{ReadName}
+use Rattle.ftl_checked.specs.Allowed.{leaf_of}
+use Rattle.ftl_checked.specs.Found.{position_of}
+use Rattle.ftl_checked.specs.FirstFault.{fault_if, first_of, rule_name}
+use Rattle.ftl_checked.specs.Numbering.{class_at}
+use Rattle.ftl_checked.specs.declared.fault.GrammarFault.{GrammarFault}
+use Rattle.ftl_checked.specs.declared.fault.GrammarFault.TheVariants as fault
+use Rattle.ftl_checked.proofs.rules.part_reads.Given as goal
+
+abbrev pub invariant-loop-read : goal.invariant-loop-read
+invariant-loop-read l =
+    let F : ReadName → Option GrammarFault = λ r. fault_if (is_none (leaf_of l.grammar l.number (position_of l.part.at) r))
+    (fault.BadRead (rule_name (class_at l.grammar l.number) l.target) r) in
+    first_of F l.read-items ≡ first_of F (drop l.read-index l.read-items)

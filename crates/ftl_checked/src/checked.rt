@@ -1,0 +1,176 @@
+//! A lawful grammar, with its numbers.
+ghost use Rattle.std.specs.Prelude.{◌≡◌, ◌<◌, None, length};
+ghost use Rattle.ftl_checked.specs.Checked.{all_attributes, all_rules, attribute_at};
+ghost use Rattle.ftl_checked.specs.Checked.{attribute_info};
+ghost use Rattle.ftl_checked.specs.Checked.{child_info, class_named, field_named};
+ghost use Rattle.ftl_checked.specs.Checked.{rule_told};
+ghost use Rattle.ftl_checked.specs.FirstFault.{first_fault};
+ghost use Rattle.ftl_checked.specs.Kept.{IsKept};
+ghost use Rattle.ftl_checked.specs.Numbering.{class_at, child_at, interface_number, interface_of};
+
+use crate::fields::field_in;
+use crate::find::{child_of, class_table};
+use crate::info::{AttrInfo, ChildInfo, Field, RuleInfo};
+use crate::tables::Tables;
+use ftl_base::Width;
+use ftl_syntax::Grammar;
+use ftl_tokens::Name;
+use sqlite_items::Items;
+use std::marker::Model;
+
+/// A lawful grammar with the width of its numbers. Contracts see both.
+#[derive(Drop)]
+pub struct Checked {
+    grammar: Grammar,
+    width: Width,
+    tables: Tables,
+    attrs: Items<AttrInfo>,
+    rules: Items<RuleInfo>,
+    root: u32,
+}
+
+impl Model for Checked {
+    ghost use Rattle.std.specs.Coded.{codes};
+    ghost use Rattle.ftl_syntax.specs.contracts.expression.Expr as e;
+    ghost use Rattle.ftl_checked.specs.Checked.{CheckedGrammar};
+    ghost use Rattle.ftl_checked.specs.Kept.{IsKept};
+
+    ghost Value = { CheckedGrammar };
+
+    ghost coded = { Prim.hlevel (codes, e.the_row.coded) };
+
+    ghost view = { λ c. record { grammar = c.grammar; width = c.width } };
+
+    ghost invariant = { λ c. IsKept c.grammar c.tables c.attrs c.rules c.root };
+}
+
+impl Checked {
+    pub(crate) fn new(
+        grammar: Grammar,
+        width: Width,
+        tables: Tables,
+        attrs: Items<AttrInfo>,
+        rules: Items<RuleInfo>,
+        root: u32,
+    ) -> Checked
+        requires kept { IsKept grammar tables attrs rules root }
+        ensures grammar { result.grammar ≡ grammar }
+        ensures width { result.width ≡ width }
+    {
+        Checked {
+            grammar,
+            width,
+            tables,
+            attrs,
+            rules,
+            root,
+        }
+    }
+
+    pub fn grammar(&self) -> &Grammar
+        ensures grammar { result.now ≡ self.now.grammar }
+        ensures lawful { first_fault self.now.grammar ≡ None }
+    {
+        &self.grammar
+    }
+
+    pub fn width(&self) -> Width
+        ensures width { result ≡ self.now.width }
+    {
+        self.width
+    }
+
+    /// The number of the root's interface.
+    pub fn root(&self) -> u32
+        ensures root { result ≡ interface_number self.now.grammar self.now.grammar.root }
+    {
+        self.root
+    }
+
+    pub fn interface_count(&self) -> u32
+        ensures count { result ≡ length self.now.grammar.interfaces }
+    {
+        self.grammar.interfaces.len() as u32
+    }
+
+    pub fn class_count(&self) -> u32
+        ensures count { result ≡ length self.now.grammar.classes }
+    {
+        self.grammar.classes.len() as u32
+    }
+
+    pub fn attr_count(&self) -> u32
+        ensures count { result ≡ length (all_attributes self.now.grammar) }
+    {
+        self.attrs.len() as u32
+    }
+
+    pub fn rule_count(&self) -> u32
+        ensures count { result ≡ length (all_rules self.now.grammar) }
+    {
+        self.rules.len() as u32
+    }
+
+    /// The number of a class's interface.
+    pub fn interface_of(&self, class: u32) -> u32
+        requires within { class < length self.now.grammar.classes }
+        ensures interface { result ≡ interface_of self.now.grammar class }
+    {
+        class_table(&self.grammar, &self.tables, class).interface
+    }
+
+    pub fn attr(&self, attr: u32) -> AttrInfo
+        requires within { attr < length (all_attributes self.now.grammar) }
+        ensures info { result
+            ≡ attribute_info self.now.grammar (attribute_at self.now.grammar attr) }
+    {
+        self.attrs.as_slice()[attr as usize]
+    }
+
+    pub fn class_name(&self, class: u32) -> &Name
+        requires within { class < length self.now.grammar.classes }
+        ensures name { result.now ≡ (class_at self.now.grammar class).name }
+    {
+        &self.grammar.classes.as_slice()[class as usize].name
+    }
+
+    pub fn child_count(&self, class: u32) -> u32
+        requires within { class < length self.now.grammar.classes }
+        ensures count { result ≡ length (class_at self.now.grammar class).children }
+    {
+        self.grammar.classes.as_slice()[class as usize]
+            .children
+            .len() as u32
+    }
+
+    pub fn child(&self, class: u32, child: u32) -> ChildInfo
+        requires within { class < length self.now.grammar.classes }
+        requires child { child < length (class_at self.now.grammar class).children }
+        ensures info { result
+            ≡ child_info self.now.grammar (child_at self.now.grammar class child) }
+    {
+        child_of(&self.grammar, &self.tables, class, child)
+    }
+
+    pub fn rule(&self, rule: u32) -> RuleInfo
+        requires within { rule < length (all_rules self.now.grammar) }
+        ensures info { result ≡ rule_told self.now.grammar rule }
+    {
+        self.rules.as_slice()[rule as usize]
+    }
+
+    /// The class of this name.
+    pub fn find_class(&self, name: &str) -> Option<u32>
+        ensures class { result ≡ class_named self.now.grammar name.now }
+    {
+        self.tables.class_names.place(name)
+    }
+
+    /// The input or child that a field of this name is, of a node of this class.
+    pub fn find_field(&self, class: u32, name: &str) -> Option<Field>
+        requires within { class < length self.now.grammar.classes }
+        ensures field { result ≡ field_named self.now.grammar class name.now }
+    {
+        field_in(&self.grammar, &self.tables, class, name)
+    }
+}

@@ -1,0 +1,2 @@
+pub mod ReadNames
+pub mod Postfix
