@@ -9,12 +9,12 @@ use Rattle.ftl_syntax.specs.declared.expression.Atom.{Atom, Atom-F, fold-roll-At
 use Rattle.ftl_syntax.specs.declared.expression.Expr.{Expr, Expr-F, fold-roll-Expr}
 use Rattle.ftl_syntax.specs.declared.expression.Factor.{Factor, Factor-F, fold-roll-Factor}
 use Rattle.ftl_syntax.specs.declared.expression.Test.{Test, Test-F, fold-roll-Test}
-use Rattle.ftl_syntax.specs.declared.expression.Cond.{Cond, Cond-F, fold-roll-Cond}
-use Rattle.ftl_syntax.specs.declared.expression.Conj.{Conj, Conj-F, fold-roll-Conj}
-use Rattle.ftl_syntax.specs.declared.expression.SignedTerm.{SignedTerm, SignedTerm-F, fold-roll-SignedTerm}
-use Rattle.ftl_syntax.specs.declared.expression.Sum.{Sum, Sum-F, fold-roll-Sum}
-use Rattle.ftl_syntax.specs.declared.expression.Term.{Term, Term-F, fold-roll-Term}
-use Rattle.ftl_syntax.specs.declared.expression.Unary.{Unary, Unary-F, fold-roll-Unary}
+use Rattle.ftl_syntax.specs.declared.expression.Cond.{Cond, fold-roll-Cond}
+use Rattle.ftl_syntax.specs.declared.expression.Conj.{Conj, fold-roll-Conj}
+use Rattle.ftl_syntax.specs.declared.expression.SignedTerm.{SignedTerm, fold-roll-SignedTerm}
+use Rattle.ftl_syntax.specs.declared.expression.Sum.{Sum, fold-roll-Sum}
+use Rattle.ftl_syntax.specs.declared.expression.Term.{Term, fold-roll-Term}
+use Rattle.ftl_syntax.specs.declared.expression.Unary.{Unary, fold-roll-Unary}
 use Rattle.ftl_syntax.specs.declared.expression.Atom.TheVariants as atoms
 use Rattle.ftl_syntax.specs.declared.expression.Expr.TheVariants as exprs
 use Rattle.ftl_syntax.specs.declared.expression.Factor.TheVariants as factors

@@ -1,5 +1,5 @@
 -- The tokens of an expression, by one fold over the types of the syntax.
-use Rattle.std.specs.Prelude.{Bool, List, [], ◌∷◌, ◌++◌, if◌then◌else◌}
+use Rattle.std.specs.Prelude.{List, [], ◌∷◌, ◌++◌, if◌then◌else◌}
 use Rattle.ftl_base.specs.declared.comparison.Cmp.{Cmp}
 use Rattle.ftl_base.specs.declared.comparison.Cmp.TheVariants as cmp
 use Rattle.ftl_tokens.specs.declared.kind.Kind.{Kind}

@@ -1,12 +1,15 @@
 //! Grammars, token by token.
 
-ghost use Rattle.std.specs.Prelude.{◌≡◌, ◌++◌, ◌∷◌, [], string_bytes, flat_map, OnOk, IfOk};
+ghost use Rattle.std.specs.Prelude.{◌≡◌, ◌++◌, ◌∷◌, ℕ, List, [], string_bytes, flat_map};
+ghost use Rattle.std.specs.Prelude.{OnOk, IfOk};
+ghost use Rattle.std.specs.Str.{IsUtf8};
 ghost use Rattle.ftl_tokens.specs.Tokenized as said;
 ghost use Rattle.ftl_printing.specs.ExpressionTokens.{expr_tokens};
 ghost use Rattle.ftl_printing.specs.GrammarTokens.{attr_word, attr_tokens, next_name};
 ghost use Rattle.ftl_printing.specs.GrammarTokens.{shown_tokens, interface_tokens, child_tokens};
 ghost use Rattle.ftl_printing.specs.GrammarTokens.{target_tokens, body_tokens, rule_tokens};
 ghost use Rattle.ftl_printing.specs.GrammarTokens.{class_tokens, spaced_text, grammar_text};
+ghost use Rattle.ftl_printing.specs.TextOf.{IsTextOf};
 
 use crate::expression::print_expr;
 use crate::token::{fixed, name};
@@ -14,9 +17,11 @@ use ftl_syntax::{AttrDecl, AttrKind, Body, Child, Class, Grammar, Interface, Rul
 use ftl_tokens::{Kind, Name};
 use std::alloc::{AllocError, Global};
 
-/// The canonical text of a grammar.
+/// The canonical text of a grammar. Where any text spells the grammar, this one does.
 pub fn print_grammar(alloc: Global, grammar: &Grammar) -> Result<String, AllocError>
-    ensures text { IfOk result (λ text. string_bytes text ≡ grammar_text grammar.now) }
+    ensures text { IfOk result (λ printed. string_bytes printed ≡ grammar_text grammar.now) }
+    ensures spells { (text : List ℕ) → IsUtf8 text → IsTextOf text grammar.now
+        → IfOk result (λ printed. IsTextOf (string_bytes printed) grammar.now) }
 {
     let mut out = String::new(alloc);
     print_root(&mut out, &grammar.root)?;

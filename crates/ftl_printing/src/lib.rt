@@ -6,6 +6,8 @@
 
 mod expression;
 mod grammar;
+mod laws;
 mod token;
 
 pub use grammar::print_grammar;
+pub use laws::canonical_texts;

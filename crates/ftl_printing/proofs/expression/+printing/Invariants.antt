@@ -1,5 +1,4 @@
-use Rattle.std.proofs.Common.{◌≡◌, ◌++◌, ◌∷◌, string_bytes, take, flat_map}
-use Rattle.ftl_tokens.specs.declared.kind.Kind.TheVariants as kind
+use Rattle.std.proofs.Common.{◌≡◌, ◌++◌, string_bytes, take, flat_map}
 use Rattle.ftl_printing.specs.ExpressionTokens.{signed_tokens, factor_tokens}
 use Rattle.ftl_printing.specs.GrammarTokens.{spaced_text}
 use Rattle.ftl_printing.proofs.TokenLemmas.{or_conj, and_test}
