@@ -24,12 +24,17 @@ pub fn print_grammar(alloc: Global, grammar: &Grammar) -> Result<String, AllocEr
         → IfOk result (λ printed. IsTextOf (string_bytes printed) grammar.now) }
 {
     let mut out = String::new(alloc);
-    print_root(&mut out, &grammar.root)?;
-    for interface in grammar.interfaces.as_slice() {
-        print_interface(&mut out, interface)?;
-    }
-    print_classes(&mut out, grammar.classes.as_slice())?;
+    print_whole(&mut out, grammar)?;
     Ok(out)
+}
+
+fn print_whole(out: &mut String, grammar: &Grammar) -> Result<(), AllocError>
+    ensures { OnOk result (string_bytes out.new
+        ≡ string_bytes out.old ++ grammar_text grammar.now) }
+{
+    print_root(out, &grammar.root)?;
+    print_interfaces(out, grammar.interfaces.as_slice())?;
+    print_classes(out, grammar.classes.as_slice())
 }
 
 fn print_root(out: &mut String, root: &Name) -> Result<(), AllocError>
@@ -40,6 +45,16 @@ fn print_root(out: &mut String, root: &Name) -> Result<(), AllocError>
     fixed(out, Kind::Root)?;
     name(out, root)?;
     fixed(out, Kind::Semicolon)
+}
+
+fn print_interfaces(out: &mut String, interfaces: &[Interface]) -> Result<(), AllocError>
+    ensures { OnOk result (string_bytes out.new
+        ≡ string_bytes out.old ++ spaced_text (flat_map interface_tokens interfaces.now)) }
+{
+    for interface in interfaces {
+        print_interface(out, interface)?;
+    }
+    Ok(())
 }
 
 fn print_interface(out: &mut String, interface: &Interface) -> Result<(), AllocError>
