@@ -14,7 +14,7 @@ use Rattle.ftl_deps.specs.declared.dep_read.DepRead.{DepRead}
 use Rattle.ftl_deps.specs.declared.dep_read.Site.{Site}
 use Rattle.ftl_deps.specs.declared.dep_read.Site.TheVariants as sites
 use Rattle.ftl_schedule_faults.specs.OrderedReads.{has_smaller_key, is_same_rule, has_earlier_block, is_same_block}
-use Rattle.ftl_schedule_faults.specs.OrderedReads.{is_prev, child_or_first, in_same_visit, from_parent, from_kid}
+use Rattle.ftl_schedule_faults.specs.OrderedReads.{is_prev, child_or_zero, in_same_visit, from_parent, from_kid}
 use Rattle.ftl_schedule_faults.specs.OrderedReads.{in_pass_by, is_one_pass, is_ordered_read}
 
 -- a test of a test
@@ -69,7 +69,7 @@ prev_is g (this_read c a) = refl
 prev_is g (prev_read c a) = refl
 prev_is g (last_read c a) = refl
 
-child_is : (g : AttributeGrammar) (r : Read) → child_or_first (dep_read g r).child ≡ child_read r
+child_is : (g : AttributeGrammar) (r : Read) → child_or_zero (dep_read g r).child ≡ child_read r
 child_is g (self_read a) = refl
 child_is g (single_read c a) = refl
 child_is g (each_read c a) = refl
@@ -79,7 +79,7 @@ child_is g (last_read c a) = refl
 
 -- the row, by the site
 row_tells : (s : Site) (runs_at : Where) (kind : PassKind) (at : Placing) (d : DepRead) (r : Read) (x y : VisitPlace)
-    → where_of s ≡ Some runs_at → is_prev d.form ≡ is_by_prev r → child_or_first d.child ≡ child_read r
+    → where_of s ≡ Some runs_at → is_prev d.form ≡ is_by_prev r → child_or_zero d.child ≡ child_read r
     → Decides (in_pass_by s kind at d x y) (Row runs_at kind at r x y)
 row_tells sites.Input runs_at kind at d r x y e p c = cc
 row_tells sites.SameVisit same_class kind at d r x y e p c =
@@ -93,9 +93,9 @@ row_tells sites.Above child_class kind at d r x y e p c = cc
 row_tells sites.Below same_class kind at d r x y e p c = cc
 row_tells sites.Below parent_class kind at d r x y e p c = cc
 row_tells sites.Below child_class kind at d r x y e p c =
-    subst (λ b. Decides (from_kid kind (is_prev d.form) (child_or_first d.child) y) (ChildRow kind b (child_read r) y)) p
-    (subst (λ k. Decides (from_kid kind (is_prev d.form) (child_or_first d.child) y) (ChildRow kind (is_prev d.form) k y))
-    c (kid_tells kind (is_prev d.form) (child_or_first d.child) y))
+    subst (λ b. Decides (from_kid kind (is_prev d.form) (child_or_zero d.child) y) (ChildRow kind b (child_read r) y)) p
+    (subst (λ k. Decides (from_kid kind (is_prev d.form) (child_or_zero d.child) y) (ChildRow kind (is_prev d.form) k y))
+    c (kid_tells kind (is_prev d.form) (child_or_zero d.child) y))
 
 one_pass_tells : (x y : Spot) → Decides (is_one_pass x y) (IsOnePass x y)
 one_pass_tells x y = Decides-and _ _ (Decides-eqb x.stage y.stage) (Decides-eqb x.pass y.pass)

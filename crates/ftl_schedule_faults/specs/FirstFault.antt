@@ -1,5 +1,5 @@
--- The first fault of a schedule: an attribute with two entries, then one without an entry, then a read whose writer the
--- schedule doesn't have earlier.
+-- The first fault of a schedule: an attribute with two entries, then a computed one without an entry, then a read whose
+-- writer the schedule doesn't have earlier.
 use Rattle.std.specs.Prelude.{ℕ, ◌&&◌, not, if◌then◌else◌, List, [], ◌∷◌, Option, Some, None}
 use Rattle.std.specs.List.{enumerate_from, position, range_with_len}
 use Rattle.ftl_lists.specs.Lists.{is_listed}
@@ -32,7 +32,7 @@ first_twice before (a ∷ later) = if is_listed before a then Some (Twice a) els
 abbrev pub missing_fault : AttributeGrammar → List ℕ → (attribute : ℕ) → Option VerifyFault
 missing_fault g listed a = if not (is_input (g.sort a)) && not (is_listed listed a) then Some (Missing a) else None
 
--- the first attribute without an entry, by number
+-- the first computed attribute without an entry, by number
 abbrev pub first_missing : AttributeGrammar → List ℕ → Option VerifyFault
 first_missing g listed = first_along (missing_fault g listed) (range_with_len 0 g.attribute_count)
 

@@ -35,10 +35,10 @@ is_prev forms.Prev = true
 is_prev forms.Last = false
 is_prev forms.Each = false
 
--- the child that is read; 0 where the node itself is
-abbrev pub child_or_first : Option ℕ → ℕ
-child_or_first None = 0
-child_or_first (Some c) = c
+-- the child that is read, or 0 where the node itself is
+abbrev pub child_or_zero : Option ℕ → ℕ
+child_or_zero None = 0
+child_or_zero (Some c) = c
 
 -- in one pass, x writes and y reads, and both rules run at one node
 abbrev pub in_same_visit : PassKind → Placing → (by_prev : Bool) → VisitPlace → VisitPlace → Bool
@@ -59,12 +59,12 @@ from_kid topdown by_prev c y = false
 from_kid bottomup by_prev c y = true
 from_kid inorder by_prev c y = y.block == 2 || (y.block == 1 && (nat_lt c y.child || by_prev))
 
--- in one pass, by the site of what is read; an input needs no writer
+-- in one pass, by the site of what is read; an input has no writer, so that its line is never asked
 abbrev pub in_pass_by : Site → PassKind → Placing → DepRead → VisitPlace → VisitPlace → Bool
 in_pass_by sites.Input kind at d x y = true
 in_pass_by sites.SameVisit kind at d x y = in_same_visit kind at (is_prev d.form) x y
 in_pass_by sites.Above kind at d x y = from_parent kind
-in_pass_by sites.Below kind at d x y = from_kid kind (is_prev d.form) (child_or_first d.child) y
+in_pass_by sites.Below kind at d x y = from_kid kind (is_prev d.form) (child_or_zero d.child) y
 
 -- in one stage and in one pass of it
 abbrev pub is_one_pass : Spot → Spot → Bool

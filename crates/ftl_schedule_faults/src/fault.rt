@@ -7,7 +7,8 @@ pub enum VerifyFault {
     Twice { attr: u32 },
     /// The attribute is computed and has no entry.
     Missing { attr: u32 },
-    /// A rule reads what another rule writes, and the schedule doesn't have the writer earlier.
+    /// One rule reads what the other writes, or itself does, and the schedule doesn't have the
+    /// writer earlier.
     Unordered { reader: u32, writer: u32 },
     /// No memory was left to look for a fault.
     OutOfMemory,

@@ -7,7 +7,7 @@ use Rattle.ftl_schedule_syntax.specs.declared.types.WrittenPass.{WrittenPass}
 use Rattle.ftl_schedule_syntax.specs.declared.types.WrittenStage.{WrittenStage}
 use Rattle.ftl_schedule_syntax.specs.declared.types.WrittenSchedule.{WrittenSchedule}
 
--- a name, by its characters in UTF-8
+-- a name, by its bytes in UTF-8
 abbrev pub NameText : Type 0
 NameText = List ℕ
 
