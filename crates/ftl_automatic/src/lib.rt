@@ -6,4 +6,4 @@
 
 mod laws;
 
-pub use laws::lists_that_fit;
+pub use laws::{exactly_one_automatic_schedule, lists_that_fit};

@@ -1,5 +1,6 @@
+use Rattle.ftl_automatic.proofs.Joined.{joined_fit}
 use Rattle.ftl_automatic.proofs.Ones.{one_list}
 use Rattle.ftl_automatic.proofs.laws.lists_that_fit.Goals as goal
 
 pub returns : goal.returns
-returns c = record { one = one_list }
+returns c = record { joined = joined_fit; one = one_list }
