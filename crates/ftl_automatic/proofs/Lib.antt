@@ -4,3 +4,8 @@ pub mod Needs
 pub mod Joined
 pub mod Ones
 pub mod ChainOrder
+pub mod Targets
+pub mod Ordered
+pub mod Choices
+pub mod Decided
+pub mod Largest

@@ -54,7 +54,7 @@ OneOfBoth =
 
 -- the automatic schedule is ordered
 abbrev pub AutomaticIsOrdered : Type 0
-AutomaticIsOrdered = (g : AttributeGrammar) (s : Schedule) → IsAutomatic g s → IsOrdered g s
+AutomaticIsOrdered = (g : AttributeGrammar) (s : Schedule) → IsLawful g → IsAutomatic g s → IsOrdered g s
 
 -- there is an automatic schedule exactly where some schedule is ordered
 abbrev pub FoundWhereOneIsOrdered : Type 0

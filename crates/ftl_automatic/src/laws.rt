@@ -1,13 +1,14 @@
 //! Laws on lists that fit, and on the automatic schedule.
 
-ghost use Rattle.ftl_automatic.specs.AutomaticLaws.{JoinedListsFit, ListsOfKindsAreOne};
+ghost use Rattle.ftl_automatic.specs.AutomaticLaws.{JoinedListsFit, ListsOfKindsAreOne, ListsOfKindsExist};
 ghost use Rattle.ftl_automatic.specs.AutomaticLaws.{ChainsAreOne, AutomaticIsOne, LeftIsOne};
-ghost use Rattle.ftl_automatic.specs.AutomaticLaws.{NotBoth};
+ghost use Rattle.ftl_automatic.specs.AutomaticLaws.{NotBoth, AutomaticIsOrdered};
 
 /// A law: lists of one kind that fit, joined, fit; and the largest set has one least list.
 pub fn lists_that_fit()
     ensures joined { JoinedListsFit }
     ensures one { ListsOfKindsAreOne }
+    ensures exists { ListsOfKindsExist }
 {}
 
 /// A law: a grammar has one automatic schedule, or is stuck with one set of attributes left.
@@ -16,4 +17,9 @@ pub fn exactly_one_automatic_schedule()
     ensures schedule { AutomaticIsOne }
     ensures left { LeftIsOne }
     ensures not_both { NotBoth }
+{}
+
+/// A law: the automatic schedule is ordered.
+pub fn automatic_schedule_is_ordered()
+    ensures ordered { AutomaticIsOrdered }
 {}

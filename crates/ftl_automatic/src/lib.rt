@@ -6,4 +6,4 @@
 
 mod laws;
 
-pub use laws::{exactly_one_automatic_schedule, lists_that_fit};
+pub use laws::{automatic_schedule_is_ordered, exactly_one_automatic_schedule, lists_that_fit};
