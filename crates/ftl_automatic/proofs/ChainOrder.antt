@@ -1,5 +1,5 @@
 -- A chain that takes each computed attribute is an ordered schedule.
-use Rattle.std.proofs.Common.{◌≡◌, ◌≢◌, ◌⊎◌, ℕ, zero, suc, ◌+◌, ◌<◌, Bool, true, false, if◌then◌else◌, refl, sym, ◌∙◌, ap, subst}
+use Rattle.std.proofs.Common.{◌≡◌, ◌⊎◌, ℕ, suc, true, false, if◌then◌else◌, sym, ◌∙◌, ap, subst}
 use Rattle.std.proofs.Common.{inl, inr, ⊎_elim, arith, List, [], ◌∷◌, ◌++◌, get_or, Contains}
 use Rattle.std.proofs.lemmas.Bool.{false_from_ne_true}
 use Rattle.std.proofs.lemmas.List.Elements.{Contains-append_cases, Contains-append_left, Contains-append_right}
@@ -7,14 +7,12 @@ use Rattle.ftl_lists.specs.Lists.{AreDistinct, is_listed, place_in}
 use Rattle.ftl_lists.proofs.Elements.{distinct-append, nothing_in}
 use Rattle.ftl_lists.proofs.Listed.{is_there, listed}
 use Rattle.ftl_model.specs.AttributeGrammar.{AttributeGrammar, Read}
-use Rattle.ftl_order.specs.Lawful.{IsLawful}
-use Rattle.ftl_order.specs.Ordered.{IsOrdered, IsOrderedPair, IsOrderedRead, KeyBelow, Row, VisitPlace, visit_place}
+use Rattle.ftl_order.specs.Ordered.{IsOrderedPair, IsOrderedRead, Row, VisitPlace, visit_place}
 use Rattle.ftl_order.specs.Pairs.{IsPair, Pair, Where}
-use Rattle.ftl_order.specs.Schedule.{Pass, PassKind, Placing, Schedule, Spot, empty_pass, entries, has_entry, pass_at}
+use Rattle.ftl_order.specs.Schedule.{Pass, Schedule, Spot, entries, pass_at}
 use Rattle.ftl_order.specs.Schedule.{pass_of, spot_of, stage_of}
-use Rattle.ftl_automatic.specs.Automatic.{IsAutomatic, IsChainAfter}
+use Rattle.ftl_automatic.specs.Automatic.{IsChainAfter}
 use Rattle.ftl_automatic.specs.Fitting.{Fits, IsComputed, defined_by_reader, placing_after, written}
-use Rattle.ftl_automatic.proofs.Lists.{count_once}
 use Rattle.ftl_automatic.proofs.Needs.{Met, in_pass, is_done, met, row_moves}
 use Rattle.ftl_automatic.proofs.Ones.{next_fits}
 use Rattle.ftl_automatic.proofs.Turns.{cases_in}

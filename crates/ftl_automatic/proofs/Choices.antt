@@ -1,6 +1,6 @@
 -- A best one of finitely many, and the lists of numbers below a bound.
-use Rattle.std.proofs.Common.{◌≡◌, ◌≢◌, ◌⊎◌, ℕ, zero, suc, ◌+◌, ◌<◌, ◌≤◌, ◌==◌, Bool, true, false, if◌then◌else◌, refl, sym, ◌∙◌, ap}
-use Rattle.std.proofs.Common.{subst, inl, inr, ⊎_elim, arith, eqb-true, eq-eqb, ne_eqb, List, [], ◌∷◌, length, flat_map, map, Contains}
+use Rattle.std.proofs.Common.{◌≡◌, ◌≢◌, ◌⊎◌, ℕ, zero, suc, ◌<◌, ◌≤◌, ◌==◌, Bool, true, false, if◌then◌else◌, refl, sym, ◌∙◌, ap}
+use Rattle.std.proofs.Common.{subst, inl, inr, ⊎_elim, arith, eqb-true, eq-eqb, List, [], ◌∷◌, length, flat_map, map, Contains}
 use Rattle.std.specs.List.{range_with_len}
 use Rattle.std.proofs.lemmas.Bool.{cases_order}
 use Rattle.ftl_lists.specs.Lists.{AreDistinct, Before}

@@ -1,5 +1,5 @@
 -- Whether a list fits is decided, in a lawful grammar.
-use Rattle.std.proofs.Common.{◌≡◌, ◌≢◌, ◌⊎◌, ℕ, ◌<◌, ◌≤◌, refl, sym, subst, inl, inr, ⊎_elim, arith, List, [], ◌∷◌, Contains}
+use Rattle.std.proofs.Common.{◌≡◌, ◌≢◌, ℕ, ◌<◌, refl, sym, subst, inl, inr, ⊎_elim, arith, List, [], ◌∷◌, Contains}
 use Rattle.std.proofs.Common.{Option, Some, None}
 use Rattle.std.proofs.lemmas.Bool.{cases_lt}
 use Rattle.ftl_lists.specs.Lists.{AreDistinct}

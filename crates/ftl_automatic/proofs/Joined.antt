@@ -1,19 +1,18 @@
 -- Two lists of one kind that fit, joined, fit.
-use Rattle.std.proofs.Common.{◌≡◌, ◌⊎◌, ℕ, ◌+◌, ◌<◌, Bool, true, false, not, refl, sym, ◌∙◌, ap, inl, inr, ⊎_elim, arith}
-use Rattle.std.proofs.Common.{List, [], ◌∷◌, ◌++◌, length, filter, Contains}
+use Rattle.std.proofs.Common.{ℕ, ◌<◌, not, sym, ◌∙◌, ap, inl, inr, ⊎_elim, arith}
+use Rattle.std.proofs.Common.{List, ◌++◌, Contains}
 use Rattle.std.proofs.lemmas.Bool.{not_from_false, false_from_ne_true, true≢false}
 use Rattle.std.proofs.lemmas.List.Elements.{Contains-append_cases, Contains-append_left, Contains-append_right}
 use Rattle.ftl_lists.specs.Lists.{AreDistinct, is_listed, place_in}
 use Rattle.ftl_lists.proofs.Elements.{distinct-append, distinct-filter, filter_has, in_filter}
 use Rattle.ftl_lists.proofs.Listed.{is_there, listed}
 use Rattle.ftl_lists.proofs.Places.{place_within}
-use Rattle.ftl_lists.proofs.Rising.{Rising}
 use Rattle.ftl_model.specs.AttributeGrammar.{AttributeGrammar, Read}
-use Rattle.ftl_order.specs.Ordered.{IsOrderedPair, KeyBelow, Row, VisitPlace, visit_place}
-use Rattle.ftl_order.specs.Pairs.{IsPair, Pair, Where}
-use Rattle.ftl_order.specs.Schedule.{PassKind, Placing}
+use Rattle.ftl_order.specs.Ordered.{KeyBelow, VisitPlace, visit_place}
+use Rattle.ftl_order.specs.Pairs.{Where}
+use Rattle.ftl_order.specs.Schedule.{PassKind}
 use Rattle.ftl_automatic.specs.AutomaticLaws.{without}
-use Rattle.ftl_automatic.specs.Fitting.{Fits, defined_by_reader, placing_after}
+use Rattle.ftl_automatic.specs.Fitting.{Fits, placing_after}
 use Rattle.ftl_automatic.proofs.Needs.{Met, in_pass, is_done, met, of_met, row_moves, row_with_key}
 use Rattle.ftl_automatic.proofs.Turns.{cases_in, place_left, place_right, places_rise, rising-filter, rising_place, same_place}
 

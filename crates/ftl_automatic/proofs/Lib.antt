@@ -9,3 +9,6 @@ pub mod Ordered
 pub mod Choices
 pub mod Decided
 pub mod Largest
+pub mod Chains
+pub mod Missed
+pub mod Found

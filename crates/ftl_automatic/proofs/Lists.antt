@@ -1,8 +1,8 @@
 -- Lists of numbers: at most one another, with the same entries, and how often an entry stands in one.
-use Rattle.std.proofs.Common.{◌≡◌, ◌≢◌, ◌⊎◌, ℕ, zero, suc, ◌+◌, ◌<◌, ◌≤◌, ◌==◌, cond, refl, sym, ◌∙◌, ap, ap₂, subst, inl, inr}
+use Rattle.std.proofs.Common.{◌≡◌, ◌≢◌, ℕ, zero, suc, ◌+◌, ◌≤◌, ◌==◌, cond, refl, sym, ◌∙◌, ap, ap₂, subst}
 use Rattle.std.proofs.Common.{⊎_elim, arith, eq-eqb, ne_eqb, List, [], ◌∷◌, count_by, Contains}
 use Rattle.std.proofs.lemmas.List.Sums.{sum_by-cons}
-use Rattle.ftl_lists.specs.Lists.{AreDistinct, Before, NoneFalls}
+use Rattle.ftl_lists.specs.Lists.{AreDistinct, NoneFalls}
 use Rattle.ftl_lists.proofs.Elements.{here_in, in_cases, later_in, nothing_in}
 use Rattle.ftl_lists.proofs.Listed.{counted_in}
 use Rattle.ftl_lists.proofs.Rising.{before_once}

@@ -1,13 +1,13 @@
 -- What a pair needs whose reader stands in the next pass: its writer is done, or stands in the pass too and the row of
 -- the table holds.
-use Rattle.std.proofs.Common.{◌≡◌, ◌⊎◌, ℕ, ◌<◌, Bool, true, false, if◌then◌else◌, refl, sym, ◌∙◌, ap₂, inl, inr, ⊎_elim}
-use Rattle.std.proofs.Common.{arith, List, [], ◌∷◌, Contains, IsTrue}
+use Rattle.std.proofs.Common.{◌≡◌, ℕ, ◌<◌, Bool, true, false, if◌then◌else◌, refl, sym, ◌∙◌, ap₂, inl, inr, ⊎_elim}
+use Rattle.std.proofs.Common.{arith, List, Contains}
 use Rattle.std.proofs.lemmas.Bool.{false_from_ne_true}
-use Rattle.ftl_lists.specs.Lists.{is_listed, place_in}
+use Rattle.ftl_lists.specs.Lists.{is_listed}
 use Rattle.ftl_lists.proofs.Listed.{is_there, listed}
-use Rattle.ftl_model.specs.AttributeGrammar.{AttributeGrammar, Read}
+use Rattle.ftl_model.specs.AttributeGrammar.{Read}
 use Rattle.ftl_order.specs.Ordered.{IsOrderedRead, KeyBelow, Row, VisitPlace}
-use Rattle.ftl_order.specs.Pairs.{Where, child_class, is_by_prev, parent_class, same_class}
+use Rattle.ftl_order.specs.Pairs.{Where, child_class, parent_class, same_class}
 use Rattle.ftl_order.specs.Schedule.{PassKind, Placing, bottomup, inorder, topdown}
 use Rattle.ftl_automatic.specs.Fitting.{placing_after, stage_after}
 use Rattle.ftl_automatic.proofs.Turns.{cases_in}

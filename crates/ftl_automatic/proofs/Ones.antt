@@ -1,12 +1,12 @@
 -- One list of a kind, one chain, and one list of attributes that are left.
-use Rattle.std.proofs.Common.{◌≡◌, ◌≢◌, ◌⊎◌, ℕ, ◌<◌, ◌≤◌, Bool, true, false, leb, if◌then◌else◌, refl, sym, ◌∙◌, ap, ap₂, subst}
+use Rattle.std.proofs.Common.{◌≡◌, ℕ, Bool, true, false, leb, if◌then◌else◌, refl, sym, ◌∙◌, ap, ap₂, subst}
 use Rattle.std.proofs.Common.{⊎_elim, arith, leb-false, List, [], ◌∷◌, ◌++◌, length, Contains}
 use Rattle.ftl_lists.proofs.Elements.{here_in}
 use Rattle.ftl_model.specs.AttributeGrammar.{AttributeGrammar}
 use Rattle.ftl_order.specs.Schedule.{Pass, PassKind, Schedule, bottomup, entries, inorder, topdown}
 use Rattle.ftl_automatic.specs.Automatic.{IsAutomatic, IsChain, IsChainAfter, IsLeft, IsNext, IsStuck, chosen, pass_of_kind}
 use Rattle.ftl_automatic.specs.Fitting.{Fits, HasAll, IsListOf}
-use Rattle.ftl_automatic.proofs.Lists.{Ascends, at_most_both, same_numbers}
+use Rattle.ftl_automatic.proofs.Lists.{at_most_both, same_numbers}
 
 pub one_list : (g : AttributeGrammar) (kind : PassKind) (done xs ys : List ℕ) → IsListOf g kind done xs
     → IsListOf g kind done ys → xs ≡ ys

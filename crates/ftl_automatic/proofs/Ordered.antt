@@ -1,5 +1,5 @@
 -- The automatic schedule is ordered.
-use Rattle.std.proofs.Common.{ℕ, ⊎_elim, List, [], Contains}
+use Rattle.std.proofs.Common.{⊎_elim, []}
 use Rattle.ftl_lists.proofs.Elements.{nothing_in}
 use Rattle.ftl_model.specs.AttributeGrammar.{AttributeGrammar}
 use Rattle.ftl_order.specs.Lawful.{IsLawful}
@@ -7,7 +7,7 @@ use Rattle.ftl_order.specs.Ordered.{IsOrdered}
 use Rattle.ftl_order.specs.Schedule.{Schedule, entries}
 use Rattle.ftl_automatic.specs.Automatic.{IsAutomatic}
 use Rattle.ftl_automatic.specs.Fitting.{defined_by_reader, written}
-use Rattle.ftl_automatic.proofs.ChainOrder.{AreNew, entries_new, reads_met}
+use Rattle.ftl_automatic.proofs.ChainOrder.{entries_new, reads_met}
 use Rattle.ftl_automatic.proofs.Lists.{count_once}
 use Rattle.ftl_automatic.proofs.Targets.{reader_computed}
 

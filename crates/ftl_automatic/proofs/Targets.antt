@@ -1,5 +1,5 @@
 -- The attributes that rules of a lawful grammar define are computed.
-use Rattle.std.proofs.Common.{◌≡◌, ◌≢◌, ◌⊎◌, ℕ, ◌<◌, sym, ◌∙◌, ⊎_elim, arith, Contains}
+use Rattle.std.proofs.Common.{◌≢◌, ⊎_elim, arith}
 use Rattle.std.proofs.lemmas.List.Elements.{Contains-append_cases}
 use Rattle.ftl_model.specs.AttributeGrammar.{AttributeGrammar, RuleName, Sort, for_child, for_self, inherited, input}
 use Rattle.ftl_model.specs.AttributeGrammar.{local, synthesized}

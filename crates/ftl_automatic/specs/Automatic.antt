@@ -1,6 +1,6 @@
 -- The automatic schedule: one pass in each stage, each the one that takes the most of what is left. It is found, or it
 -- is stuck with what is left.
-use Rattle.std.specs.Prelude.{◌≡◌, ◌≢◌, ◌⊎◌, ℕ, ◌<◌, ◌≤◌, nat_le, if◌then◌else◌, List, [], ◌∷◌, ◌++◌, length, Contains}
+use Rattle.std.specs.Prelude.{◌≡◌, ◌≢◌, ◌⊎◌, ℕ, nat_le, if◌then◌else◌, List, [], ◌∷◌, ◌++◌, length, Contains}
 use Rattle.ftl_lists.specs.Lists.{AreDistinct, NoneFalls}
 use Rattle.ftl_model.specs.AttributeGrammar.{AttributeGrammar}
 use Rattle.ftl_order.specs.Ordered.{IsOrdered}

@@ -6,7 +6,7 @@ use Rattle.ftl_order.specs.Lawful.{IsLawful}
 use Rattle.ftl_order.specs.Ordered.{IsOrdered}
 use Rattle.ftl_order.specs.Schedule.{PassKind, Schedule}
 use Rattle.ftl_automatic.specs.Automatic.{IsAutomatic, IsChain, IsStuck, SomeScheduleIsOrdered}
-use Rattle.ftl_automatic.specs.Fitting.{Fits, HasAll, IsListOf}
+use Rattle.ftl_automatic.specs.Fitting.{Fits, IsListOf}
 
 -- a list without the entries of another
 abbrev pub without : (taken list : List ℕ) → List ℕ

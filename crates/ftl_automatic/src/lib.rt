@@ -6,4 +6,7 @@
 
 mod laws;
 
-pub use laws::{automatic_schedule_is_ordered, exactly_one_automatic_schedule, lists_that_fit};
+pub use laws::{
+    automatic_schedule_is_ordered, exactly_one_automatic_schedule, found_where_one_exists,
+    lists_that_fit,
+};
