@@ -12,3 +12,7 @@ pub mod Largest
 pub mod Chains
 pub mod Missed
 pub mod Found
+pub mod ByHand
+pub mod FitTests
+pub mod WorkedStack
+pub mod WorkedSmall

@@ -18,7 +18,7 @@ pub record Ascends (xs : List ℕ) : Type 0 where
   pub distinct : AreDistinct xs
   pub ascending : NoneFalls (λ a. a) xs
 
-tail_has : (x : ℕ) (xs ys : List ℕ) → (Contains ys x → ⊥) → HasAll (x ∷ xs) (x ∷ ys) → HasAll xs ys
+pub tail_has : (x : ℕ) (xs ys : List ℕ) → (Contains ys x → ⊥) → HasAll (x ∷ xs) (x ∷ ys) → HasAll xs ys
 tail_has x xs ys new h a in_a =
     ⊎_elim (λ same. absurd (new (subst (Contains ys) (sym same) in_a))) (λ later. later)
     (in_cases x a xs (h a (later_in x a ys in_a)))
