@@ -1,5 +1,5 @@
 -- Tests by which a list fits, for lists that are written out.
-use Rattle.std.proofs.Common.{◌≡◌, ◌≢◌, ℕ, ◌<◌, ◌≤◌, ◌&&◌, Bool, true, false, ltb, leb, not, if◌then◌else◌, refl, sym, ◌∙◌, ap, subst}
+use Rattle.std.proofs.Common.{◌≡◌, ℕ, ◌&&◌, Bool, true, false, ltb, leb, not, if◌then◌else◌, refl, sym, ◌∙◌, ap, subst}
 use Rattle.std.proofs.Common.{⊎_elim, arith, leb-true, ltb-true, List, [], ◌∷◌, Option, Some, None, Contains}
 use Rattle.std.proofs.lemmas.Bool.{and_parts, true≢false}
 use Rattle.ftl_lists.specs.Lists.{AreDistinct, NoneFalls, is_listed}
@@ -7,8 +7,7 @@ use Rattle.ftl_lists.proofs.Elements.{in_cases, nothing_in}
 use Rattle.ftl_lists.proofs.Listed.{listed}
 use Rattle.ftl_model.specs.AttributeGrammar.{AttributeGrammar, RuleName}
 use Rattle.ftl_order.specs.Lawful.{IsLawful}
-use Rattle.ftl_order.specs.Ordered.{IsOrderedPair, visit_place}
-use Rattle.ftl_order.specs.Pairs.{IsPair, Pair}
+use Rattle.ftl_order.specs.Ordered.{visit_place}
 use Rattle.ftl_order.specs.Schedule.{PassKind, Placing}
 use Rattle.ftl_order.proofs.LegalOrders.{is_computed, not_input}
 use Rattle.ftl_schedule_faults.specs.FirstFault.{reads_fault}
@@ -82,12 +81,12 @@ entry_fits g done later a e =
       not_later = out_of later a out.1;
     }
 
-record EntriesFit (g : AttributeGrammar) (done list : List ℕ) : Type 0 where
-  distinct : AreDistinct list
-  each : (a : ℕ) → Contains list a → IsComputed g a
-  out : (a : ℕ) → Contains list a → Contains done a → ⊥
+pub record EntriesFit (g : AttributeGrammar) (done list : List ℕ) : Type 0 where
+  pub distinct : AreDistinct list
+  pub each : (a : ℕ) → Contains list a → IsComputed g a
+  pub out : (a : ℕ) → Contains list a → Contains done a → ⊥
 
-entries_fit : (g : AttributeGrammar) (done list : List ℕ) → entries_test g done list ≡ true → EntriesFit g done list
+pub entries_fit : (g : AttributeGrammar) (done list : List ℕ) → entries_test g done list ≡ true → EntriesFit g done list
 entries_fit g done [] e =
     record {
       distinct = tt;

@@ -1,5 +1,5 @@
 -- The automatic schedule of the stack grammar.
-use Rattle.std.proofs.Common.{◌≡◌, ◌≢◌, ◌⊎◌, ℕ, false, refl, sym, ◌∙◌, ⊎_elim, lit<, arith, List, [], ◌∷◌, Contains}
+use Rattle.std.proofs.Common.{◌≡◌, ◌≢◌, ℕ, false, refl, sym, ◌∙◌, lit<, arith, List, [], ◌∷◌, Contains}
 use Rattle.ftl_lists.proofs.Elements.{nothing_in}
 use Rattle.ftl_model.specs.AttributeGrammar.{for_child, for_self, input}
 use Rattle.ftl_model.specs.Stack.{box_h, box_w, box_x, box_y, column, only_child, page_h, sheet, stack}
@@ -7,7 +7,7 @@ use Rattle.ftl_lists.specs.Lists.{is_listed}
 use Rattle.ftl_lists.proofs.Listed.{listed}
 use Rattle.std.proofs.lemmas.Bool.{true≢false}
 use Rattle.ftl_order.specs.Ordered.{Row, visit_place}
-use Rattle.ftl_order.specs.Pairs.{IsPair, Pair}
+use Rattle.ftl_order.specs.Pairs.{Pair}
 use Rattle.ftl_order.specs.Schedule.{PassKind, bottomup, entries, inorder, topdown}
 use Rattle.ftl_order.proofs.Bounded.{each_below}
 use Rattle.ftl_order_worked.specs.WorkedSchedules.{column_reads_height, column_reads_width, kids_read_prev_h, kids_read_x}
@@ -174,7 +174,7 @@ last_next =
       is = refl;
     }
 
-some_entry : (a : ℕ) (xs : List ℕ) → a ∷ xs ≢ []
+pub some_entry : (a : ℕ) (xs : List ℕ) → a ∷ xs ≢ []
 some_entry a xs e = let z : ⊥ = grind (arith, e) in z
 
 pub stack_automatic : IsAutomatic stack sizes_then_places

@@ -1,5 +1,5 @@
 -- Small grammars, to hold the automatic schedule against.
-use Rattle.std.specs.Prelude.{ℕ, ◌==◌, if◌then◌else◌, false, List, [], ◌∷◌, pos}
+use Rattle.std.specs.Prelude.{ℕ, ◌==◌, if◌then◌else◌, false, [], ◌∷◌, pos}
 use Rattle.ftl_model.specs.AttributeGrammar.{AttributeGrammar, Rule, for_self, inherited, local, own, self_read}
 use Rattle.ftl_model.specs.Stack.{plain_rule}
 use Rattle.ftl_model.specs.Values.{narrow, number}

@@ -5,8 +5,10 @@
 #![tactic(auto)]
 
 mod laws;
+mod worked;
 
 pub use laws::{
     automatic_schedule_is_ordered, exactly_one_automatic_schedule, found_where_one_exists,
     lists_that_fit,
 };
+pub use worked::{automatic_schedules_of_grammars, circle_is_stuck};
