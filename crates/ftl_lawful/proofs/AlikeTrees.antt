@@ -15,6 +15,7 @@ use Rattle.ftl_order.proofs.Owners.{attribute_known}
 use Rattle.ftl_order.proofs.TreeEquations.{kid_rule, own_rule, root_inherits_nothing}
 use Rattle.ftl_meaning.specs.Alike.{IsAlike}
 
+-- two tests that agree on a list filter it alike
 filter_same : {X : Type 0} (p q : X → Bool) (xs : List X) → ((x : X) → Contains xs x → p x ≡ q x)
     → filter p xs ≡ filter q xs
 filter_same p q [] h = refl
@@ -33,6 +34,7 @@ record Agree (g h : AttributeGrammar) : Type 0 where
   is_list : (k c : ℕ) → k < g.class_count → c < g.child_count k → g.is_list k c ≡ h.is_list k c
   inputs : (k : ℕ) → k < g.class_count → class_inputs g k ≡ class_inputs h k
 
+-- agreement goes both ways
 turned : (g h : AttributeGrammar) → Agree g h → Agree h g
 turned g h agree =
     record {
@@ -53,6 +55,7 @@ turned g h agree =
     down_to k c known below = subst (λ n. c < n) (sym (agree.children k (back k known))) below
 
 module _ (g h : AttributeGrammar) (agree : Agree g h) where
+  -- a node of a class of one is a node of that class in the other
   fits_class : (k : ℕ) (inputs : List ℤ) (below : Forest) → FitsClass g k inputs below → FitsClass h k inputs below
   fits_class k inputs below fits =
       record {
@@ -65,6 +68,7 @@ module _ (g h : AttributeGrammar) (agree : Agree g h) where
             fits.singles c there (agree.is_list k c fits.known there ∙ one);
       }
 
+  -- and so are the trees below it
   fit_below : (above : ℕ) → above < g.class_count → (f : Forest) → FitBelow g above f → FitBelow h above f
   fit_below above known none fits = tt
   fit_below above known (tree class child inputs below beside) fits = (
@@ -80,6 +84,7 @@ module _ (g h : AttributeGrammar) (agree : Agree g h) where
     fit_below above known beside fits.4,
   )
 
+  -- a tree of one is a tree of the other
   tree_in : (t : Forest) → IsTreeOf g t → IsTreeOf h t
   tree_in none fits = fits
   tree_in (tree class child inputs below beside) fits = (
@@ -91,12 +96,14 @@ module _ (g h : AttributeGrammar) (agree : Agree g h) where
   )
 
 module _ (g h : AttributeGrammar) (law : IsLawful g) (alike : IsAlike g h) where
+  -- each class has the same attributes in both
   same_attributes : (k : ℕ) → k < g.class_count → attributes_of g k ≡ attributes_of h k
   same_attributes k known =
       ap₂ (λ (ns ms : List ℕ). ns ++ ms)
       (alike.shared (g.interface k) (law.interfaces_known k known) ∙ ap h.shared (alike.interface k known))
       (alike.private k known)
 
+  -- of the same kinds
   same_sort : (k a : ℕ) → k < g.class_count → OfClass g k a → g.sort a ≡ h.sort a
   same_sort k a known of =
       alike.sort a
@@ -105,6 +112,7 @@ module _ (g h : AttributeGrammar) (law : IsLawful g) (alike : IsAlike g h) where
       (λ own. attribute_known g law (class_owner k) a (known, own))
       (Contains-append_cases (g.shared (g.interface k)) (g.private k) a of))
 
+  -- and the same inputs
   same_inputs : (k : ℕ) → k < g.class_count → class_inputs g k ≡ class_inputs h k
   same_inputs k known =
       filter_same (λ a. is_input (g.sort a)) (λ a. is_input (h.sort a)) (attributes_of g k)
@@ -124,6 +132,7 @@ module _ (g h : AttributeGrammar) (law : IsLawful g) (alike : IsAlike g h) where
         inputs = same_inputs;
       }
 
+  -- both have the same trees
   pub same_trees : (t : Forest) → IsTreeOf g t ↔ IsTreeOf h t
   same_trees t = (tree_in g h agree t, tree_in h g (turned g h agree) t)
 

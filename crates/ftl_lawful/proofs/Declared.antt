@@ -10,6 +10,7 @@ use Rattle.ftl_checked.specs.Numbering.{class_at, interface_at, own_count, share
 use Rattle.ftl_meaning.specs.GrammarOf.{grammar_of}
 use Rattle.ftl_lawful.proofs.Numbers.{map-numbered}
 
+-- a range and the one that goes on where it ends
 range-append : (a m n : ℕ) → range_with_len a m ++ range_with_len (a + m) n ≡ range_with_len a (m + n)
 range-append a zero n =
     ap₂ range_with_len (let z : a + 0 ≡ a = omega arith in z) (let z : n ≡ 0 + n = omega arith in z)
@@ -39,6 +40,7 @@ pieces f d (x ∷ xs) base from h each =
     ∙ range-append base (length (f x)) (length (flat_map f xs))
     ∙ ap (range_with_len base) (sym (length-append (f x) (flat_map f xs)))
 
+-- the attributes that are declared, in order, are the numbers below their count
 pub declared_in_order : (w : ℕ) (g : Grammar)
     → declared (grammar_of w g) ≡ range_with_len 0 (grammar_of w g).attribute_count
 declared_in_order w g =

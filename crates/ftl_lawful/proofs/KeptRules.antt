@@ -20,6 +20,7 @@ module _ (g : Grammar) (none : first_fault g ≡ None) (k : ℕ) (known : k < le
   abbrev rules : List Rule
   rules = (class_at g k).rules
 
+  -- the rule at a place has no fault
   right : (n : ℕ) (r : Rule) → StandsAt g k n r → IsRight g k (slots_of g k (take n rules)) r
   right n r at = right_at g k [] rules (rules_right g none k known) n r at
 
@@ -33,6 +34,7 @@ module _ (g : Grammar) (none : first_fault g ≡ None) (k : ℕ) (known : k < le
       (subst (λ s. list_any (same_slot s) (slots_of g k (take n rules)) ≡ true) same
       (slot_among slot (slots_of g k (take n rules)) (earlier_slot g k rules m n q slot before at_m for_q)))
 
+  -- two rules for one thing stand at one place
   alone : (m n : ℕ) (q r : Rule) (slot : Slot) → StandsAt g k m q → StandsAt g k n r
       → slot_of g k q.target ≡ Some slot → slot_of g k r.target ≡ Some slot → m ≡ n
   alone m n q r slot at_m at_n for_q for_r =
@@ -42,11 +44,13 @@ module _ (g : Grammar) (none : first_fault g ≡ None) (k : ℕ) (known : k < le
       (λ after. absurd (not_before n m r q slot at_n at_m for_r for_q after)) other)
       (cases_order m n)
 
+  -- the rule of the grammar for a slot, by its name
   named : (greatest : ℕ) (slot : Slot)
       → rule_named (grammar_of greatest g) (name_of_rule k slot) ≡ rule_for greatest g k slot
   named greatest (own_slot a) = refl
   named greatest (kid_slot c a) = refl
 
+  -- the rule at a place is the one that is found for its slot
   found : (n : ℕ) (r : Rule) (slot : Slot) → StandsAt g k n r → slot_of g k r.target ≡ Some slot
       → find (is_for g k slot) rules ≡ Some r
   found n r slot at stands =
@@ -55,6 +59,7 @@ module _ (g : Grammar) (none : first_fault g ≡ None) (k : ℕ) (known : k < le
       false_from_ne_true (is_for g k slot q)
       (λ passes. not_before m n q r slot at_m at (is_slot slot (slot_of g k q.target) passes) stands before))
 
+  -- each rule is kept
   pub rule_kept : (n : ℕ) (r : Rule) → StandsAt g k n r → IsKept g k n r
   rule_kept n r at =
       let it = right n r at in

@@ -38,24 +38,28 @@ use Rattle.ftl_lawful.proofs.SlotRules.{slot_rule}
 
 -- ---- sorts
 
+-- an attribute that an interface may declare is no local
 not_local : (kind : AttrKind) → IsSharedKind kind → sort_of kind ≢ model.local
 not_local kinds.Inh h e = grind (arith, e)
 not_local kinds.Syn h e = grind (arith, e)
 not_local kinds.Input h e = grind (arith, e)
 not_local kinds.Local h e = h
 
+-- one that a class may declare is an input or a local
 own_sorts : (kind : AttrKind) → IsOwnKind kind → (sort_of kind ≡ model.input) ⊎ (sort_of kind ≡ model.local)
 own_sorts kinds.Inh h = absurd h
 own_sorts kinds.Syn h = absurd h
 own_sorts kinds.Input h = inl refl
 own_sorts kinds.Local h = inr refl
 
+-- a kind that is not inherited has no inherited sort
 not_inherited : (kind : AttrKind) → is_inherited kind ≡ false → sort_of kind ≢ model.inherited
 not_inherited kinds.Inh h e = both_ways true h refl
 not_inherited kinds.Syn h e = grind (arith, e)
 not_inherited kinds.Input h e = grind (arith, e)
 not_inherited kinds.Local h e = grind (arith, e)
 
+-- where no entry passes, each one fails
 none_passes : {X : Type 0} (p : X → Bool) (xs : List X) → list_any p xs ≡ false → (x : X) → Contains xs x → p x ≡ false
 none_passes p [] h x in_it = absurd (nothing_in x in_it)
 none_passes p (y ∷ ys) h x in_it =
@@ -82,6 +86,7 @@ module _ (w : ℕ) (g : Grammar) where
       (subst (λ (d : AttrDecl). P (sort_of d.kind)) (sym at.1)
       (each m.from.1 at.0 (listed (shared_count (take i g.interfaces)) (interface_at g i).attrs m.from m.there)))
 
+  -- what holds of each attribute that a class adds holds of its sort
   own_sort : (P : Sort → Type 0) (k a : ℕ) → Contains (meant.private k) a
       → ((d : AttrDecl) → k < length g.classes → Contains (class_at g k).attrs d → P (sort_of d.kind)) → P (meant.sort a)
   own_sort P k a h each =
@@ -94,6 +99,7 @@ module _ (w : ℕ) (g : Grammar) where
 
   -- ---- rules
 
+  -- a name of a rule is that of a slot
   named_slot : (k : ℕ) (o : Option Slot) (name : RuleName) → Contains (option_to_list (option_map (name_of_rule k) o)) name
       → (slot : Slot) × (o ≡ Some slot) × (name_of_rule k slot ≡ name)
   named_slot k None name h = absurd (nothing_in name h)
@@ -107,12 +113,14 @@ module _ (w : ℕ) (g : Grammar) where
   class_of_name k (own_slot a) = refl
   class_of_name k (kid_slot c a) = refl
 
+  -- the rules of a class are of that class
   of_class : (k : ℕ) (name : RuleName) → Contains (rules_of_class g k) name → class_of_rule name ≡ k
   of_class k name h =
       let i = in_flat_map (λ (r : Rule). option_to_list (option_map (name_of_rule k) (slot_of g k r.target))) (class_at g k).rules name h in
       let s = named_slot k (slot_of g k i.0.target) name i.2 in
       ap class_of_rule (sym s.2) ∙ class_of_name k s.0
 
+  -- each rule of the list is a rule
   rule_is : (name : RuleName) → Contains meant.rules name → IsRule meant name
   rule_is name h =
       let i = in_flat_map (λ (k : ℕ × Class). rules_of_class g k.0) (numbered 0 g.classes) name h in
@@ -188,9 +196,11 @@ module _ (w : ℕ) (g : Grammar) where
           child_range = λ k c a rule n. slot_range w g k (kid_slot c a) n;
         }
 
+-- a width is one of the two
 width_is : (width : Width) → (greatest_of_width width ≡ narrow) ⊎ (greatest_of_width width ≡ wide)
 width_is widths.Narrow = inl refl
 width_is widths.Wide = inr refl
 
+-- a grammar without a fault is lawful, in each width
 pub faultless_lawful : (g : Grammar) (width : Width) → IsFaultless g → IsLawful (grammar_of (greatest_of_width width) g)
 faultless_lawful g width h = lawful_by (greatest_of_width width) g h.faults (width_is width) h.kinds

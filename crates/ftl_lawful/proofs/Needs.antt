@@ -38,6 +38,7 @@ each_left : {X : Type 0} (P : X → Type 0) (xs ys : List X) → AllByRecursion 
 each_left P [] ys h = tt
 each_left P (x ∷ xs) ys h = (h.0, each_left P xs ys h.1)
 
+-- an attribute that the rules of its own class define, by its kind
 own_kind : (kind : AttrKind) → IsOwnSort (sort_of kind) → is_synthesized_or_local kind ≡ true
 own_kind kinds.Inh (inl h) = absurd (let z : ⊥ = grind (arith, h) in z)
 own_kind kinds.Inh (inr h) = absurd (let z : ⊥ = grind (arith, h) in z)
@@ -46,6 +47,7 @@ own_kind kinds.Input (inl h) = absurd (let z : ⊥ = grind (arith, h) in z)
 own_kind kinds.Input (inr h) = absurd (let z : ⊥ = grind (arith, h) in z)
 own_kind kinds.Local h = refl
 
+-- one that the rules of the class above define, by its kind
 inherited_kind : (kind : AttrKind) → sort_of kind ≡ model.inherited → is_inherited kind ≡ true
 inherited_kind kinds.Inh h = refl
 inherited_kind kinds.Syn h = absurd (let z : ⊥ = grind (arith, h) in z)
@@ -72,12 +74,14 @@ module _ (g : Grammar) (none : first_fault g ≡ None) where
   each_name : AllByRecursion (λ x. x ≡ None) name_faults
   each_name = none_in name_faults names
 
+  -- a name that is among the interfaces has a number below their count
   known_name : (name : NameText) → is_among (interface_names g) name ≡ true
       → interface_number g name < length g.interfaces
   known_name name h =
       let within = position_within (bytes_eq name) (interface_names g) h in
       omega (arith, within, length-map g.interfaces (λ x. x.name))
 
+  -- the root is an interface
   pub root_known : interface_number g g.root < length g.interfaces
   root_known =
       known_name g.root
@@ -95,11 +99,13 @@ module _ (g : Grammar) (none : first_fault g ≡ None) where
       (none_of (λ x. unknown_among (interface_names g) (interfaces_named x)) g.classes each_name.1.1.1.0 (class_at g k)
       (Contains-get_or g.classes k (trees.class [] [] [] [] []) known)) name named)))
 
+  -- the interface of each class is one
   pub interface_known : (k : ℕ) → k < length g.classes → interface_of g k < length g.interfaces
   interface_known k known =
       named_known k known (class_at g k).interface
       (here_in (class_at g k).interface (map (λ c. c.interface) (class_at g k).children))
 
+  -- and so is that of each child
   pub child_known : (k c : ℕ) → k < length g.classes → c < length (class_at g k).children
       → interface_number g (child_at g k c).interface < length g.interfaces
   child_known k c known declared =
@@ -108,11 +114,13 @@ module _ (g : Grammar) (none : first_fault g ≡ None) where
       (map_has (λ (c : Child). c.interface) (class_at g k).children (child_at g k c)
       (Contains-get_or (class_at g k).children c (trees.child [] [] false) declared)))
 
+  -- the root inherits nothing
   pub root_has_none : root_inherits g ≡ false
   root_has_none = no_fault (root_inherits g) (fault.RootInherits g.root) each_name.1.1.1.1.1.1.0
 
   -- ---- a class
 
+  -- no class has a fault
   class_right : (k : ℕ) → k < length g.classes → class_fault g k ≡ None
   class_right k known =
       subst (λ m. class_fault g m ≡ None) (let z : 0 + k ≡ k = omega arith in z)
@@ -120,12 +128,14 @@ module _ (g : Grammar) (none : first_fault g ≡ None) where
       (none_in (limit_fault g ∷ name_fault g ∷ first_of (λ k. class_fault g k.0) (numbered 0 g.classes) ∷ []) none).1.1.0
       (0 + k, class_at g k) (numbered_has 0 g.classes k (trees.class [] [] [] [] []) known))
 
+  -- nor has any of its rules
   pub rules_right : (k : ℕ) → k < length g.classes
       → AllByRecursion (λ x. x ≡ None) (rule_faults g k [] (class_at g k).rules)
   rules_right k known =
       each_left (λ x. x ≡ None) (rule_faults g k [] (class_at g k).rules) (missing_rule g k ∷ [])
       (none_in (rule_faults g k [] (class_at g k).rules ++ (missing_rule g k ∷ [])) (class_right k known))
 
+  -- and no rule is missing
   none_missing : (k : ℕ) → k < length g.classes → missing_rule g k ≡ None
   none_missing k known =
       each_in (λ x. x ≡ None) (rule_faults g k [] (class_at g k).rules ++ (missing_rule g k ∷ []))
@@ -144,6 +154,7 @@ module _ (g : Grammar) (none : first_fault g ≡ None) where
   Ruled k slot =
       (n : ℕ) × (r : Rule) × StandsAt g k n r × (slot_of g k r.target ≡ Some slot)
 
+  -- what a class needs a rule for has one
   needed : (k : ℕ) → k < length g.classes → (need : Slot × Target)
       → Contains (own_needs g k ++ flat_map (kid_needs g) (children_of g k)) need → Ruled k need.0
   needed k known need in_it =
@@ -154,6 +165,7 @@ module _ (g : Grammar) (none : first_fault g ≡ None) where
       (λ need. fault_if (not (is_ruled g k need.0)) (fault.MissingRule (rule_name (class_at g k) need.1)))
       (own_needs g k ++ flat_map (kid_needs g) (children_of g k)) (none_missing k known) need in_it)))
 
+  -- an attribute of the node itself has a rule
   own_ruled : (k : ℕ) → k < length g.classes → (p : ℕ × AttrDecl) → Contains (class_attributes g k) p
       → is_synthesized_or_local p.1.kind ≡ true → Ruled k (own_slot p.0)
   own_ruled k known p there passes =
@@ -163,6 +175,7 @@ module _ (g : Grammar) (none : first_fault g ≡ None) where
       (filter (λ a. is_synthesized_or_local a.1.kind) (class_attributes g k)) p
       (filter_has (λ a. is_synthesized_or_local a.1.kind) (class_attributes g k) p there passes)))
 
+  -- and so has one of the kids in a child
   kid_ruled : (k : ℕ) → k < length g.classes → (child : ℕ × Child) → Contains (children_of g k) child
       → (p : ℕ × AttrDecl) → Contains (child_attributes g child.1) p
       → is_inherited p.1.kind ≡ true → Ruled k (kid_slot child.0 p.0)

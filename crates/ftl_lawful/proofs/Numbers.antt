@@ -15,6 +15,7 @@ use Rattle.ftl_syntax.specs.declared.rules.Interface.{Interface}
 use Rattle.ftl_checked.specs.Numbering.{class_at, interface_at, numbered, own_attributes, own_count, shared_attributes, shared_count}
 use Rattle.ftl_meaning.specs.GrammarOf.{attribute_at}
 
+-- the numbers of a numbered list are a range
 pub map-numbered : {X : Type 0} (n : ℕ) (xs : List X) → map (λ a. a.0) (numbered n xs) ≡ range_with_len n (length xs)
 map-numbered n [] = refl
 map-numbered n (x ∷ xs) =
@@ -28,6 +29,7 @@ pub record Stands {X : Type 0} (n : ℕ) (xs : List X) (p : ℕ × X) : Type 0 w
   pub number : p.0 ≡ n + place
   pub is : (d : X) → get_or xs place d ≡ p.1
 
+-- each entry of a numbered list stands so
 pub in_numbered : {X : Type 0} (n : ℕ) (xs : List X) (p : ℕ × X) → Contains (numbered n xs) p → Stands n xs p
 in_numbered n [] p h = absurd (nothing_in p h)
 in_numbered n (x ∷ xs) p h =
@@ -50,6 +52,7 @@ in_numbered n (x ∷ xs) p h =
     })
     (in_cases (n, x) p (numbered (suc n) xs) h)
 
+-- and each entry of the list is there with its number
 pub numbered_has : {X : Type 0} (n : ℕ) (xs : List X) (i : ℕ) (d : X) → i < length xs
     → Contains (numbered n xs) (n + i, get_or xs i d)
 numbered_has n [] i d below = absurd (let z : ⊥ = omega (arith, below) in z)

@@ -197,20 +197,25 @@ module _ (w : ℕ) (g : Grammar) (k : ℕ) where
       let i = in_flat_map (λ name. option_to_list (option_and_then read_of (leaf_of g k at name))) (reads_of (formula_of e)) r h in
       may i.0 r (read_is (leaf_of g k at i.0) r i.2)
 
+  -- the reads of an expression of a rule for the node itself
   pub self_reads : (e : Expr) → EachMay (MayReadForSelf meant k) (expression_reads g k for_self e)
   self_reads e = each_may (MayReadForSelf meant k) for_self e self_may
 
+  -- of the step of a fold
   pub step_reads : (c : ℕ) (e : Expr) → EachMay (MayReadInStep meant k c) (expression_reads g k (in_step c) e)
   step_reads c e = each_may (MayReadInStep meant k c) (in_step c) e (step_may c)
 
+  -- of a rule for a single child
   pub single_reads : (c : ℕ) → IsSingle meant k c → (e : Expr)
       → EachMay (MayReadForChild meant k c) (expression_reads g k for_single e)
   single_reads c one e = each_may (MayReadForChild meant k c) for_single e (single_may c one)
 
+  -- of a rule for the kids of a list, or for the first
   pub kids_reads : (c : ℕ) → IsListChild meant k c → (e : Expr)
       → EachMay (MayReadForChild meant k c) (expression_reads g k (for_kids c) e)
   kids_reads c many e = each_may (MayReadForChild meant k c) (for_kids c) e (kids_may c many)
 
+  -- of the part for the later ones
   pub later_reads : (c : ℕ) → IsListChild meant k c → (e : Expr)
       → EachMay (MayReadLater meant k c) (expression_reads g k (for_later c) e)
   later_reads c many e = each_may (MayReadLater meant k c) (for_later c) e (later_may c many)

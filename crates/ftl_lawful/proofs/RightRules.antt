@@ -25,6 +25,7 @@ use Rattle.ftl_lawful.proofs.NoFault.{no_fault, none_in, none_of}
 
 -- ---- slots
 
+-- slots that are the same by the test are equal
 pub slot_is : (x y : Slot) → same_slot x y ≡ true → x ≡ y
 slot_is (own_slot a) (own_slot b) h = ap own_slot (eqb-true a b h)
 slot_is (own_slot a) (kid_slot d b) h = absurd (false≢true h)
@@ -32,10 +33,12 @@ slot_is (kid_slot c a) (own_slot b) h = absurd (false≢true h)
 slot_is (kid_slot c a) (kid_slot d b) h =
     let parts = and_parts (c == d) (a == b) h in ap₂ kid_slot (eqb-true c d parts.0) (eqb-true a b parts.1)
 
+-- and a slot passes the test with itself
 pub slot_itself : (x : Slot) → same_slot x x ≡ true
 slot_itself (own_slot a) = eq-eqb a a refl
 slot_itself (kid_slot c a) = and_from (c == c) (a == a) (eq-eqb c c refl) (eq-eqb a a refl)
 
+-- and with one among those that have it
 pub slot_among : (x : Slot) (xs : List Slot) → Contains xs x → list_any (same_slot x) xs ≡ true
 slot_among x [] h = absurd (nothing_in x h)
 slot_among x (y ∷ ys) h =
@@ -51,11 +54,13 @@ is_slot slot (Some x) h =
     ⊎_elim (λ same. ap Some (sym (slot_is slot x same))) (λ none. absurd (false≢true none))
     (or_cases (same_slot slot x) false h)
 
+-- what stands for a slot is for it
 pub for_slot : (slot : Slot) (o : Option Slot) → o ≡ Some slot → list_any (same_slot slot) (option_to_list o) ≡ true
 for_slot slot o h =
     subst (λ (o : Option Slot). list_any (same_slot slot) (option_to_list o) ≡ true) (sym h)
     (or_left (same_slot slot slot) false (slot_itself slot))
 
+-- two slots with one name are one
 pub one_name : (k : ℕ) (x y : Slot) → name_of_rule k x ≡ name_of_rule k y → x ≡ y
 one_name k (own_slot a) (own_slot b) h = cc
 one_name k (own_slot a) (kid_slot d b) h = absurd (let z : ⊥ = grind (arith, h) in z)
@@ -97,6 +102,7 @@ module _ (g : Grammar) (k : ℕ) where
       (none_of (λ read. fault_if (is_none (leaf_of g k part.0 read)) (fault.BadRead rule read)) (reads_of (formula_of part.1))
       (none_of (bad_read g k rule) (parts_of form) h part in_it) name read))))
 
+  -- a rule without a fault is right
   pub right_rule : (rule : by_name.RuleName) (earlier : List Slot) (r : Rule)
       → rule_fault g k rule earlier r.body (slot_of g k r.target) ≡ None → IsRight g k earlier r
   right_rule rule earlier r h = go (slot_of g k r.target) refl h
@@ -184,6 +190,7 @@ module _ (g : Grammar) (k : ℕ) where
             (in_cases (name_of_rule k right.slot) (name_of_rule k slot) names d)),
       )
 
+  -- the names of rules without a fault differ
   pub names_differ : (earlier : List Slot) (rs : List Rule)
       → AllByRecursion (λ x. x ≡ None) (rule_faults g k earlier rs) → Differ earlier (names_of_rules rs)
   names_differ earlier [] h = (tt, (λ slot c d. nothing_in (name_of_rule k slot) d))

@@ -8,6 +8,7 @@ use Rattle.ftl_order.specs.Lawful.{class_of_rule}
 use Rattle.ftl_checked.specs.Numbering.{numbered}
 use Rattle.ftl_lawful.proofs.Numbers.{in_numbered}
 
+-- two lists of which no entry of the first is greater than one of the second
 none_falls-append : {X : Type 0} (f : X → ℕ) (xs ys : List X) → NoneFalls f xs → NoneFalls f ys
     → ((x y : X) → Contains xs x → Contains ys y → f x ≤ f y) → NoneFalls f (xs ++ ys)
 none_falls-append f [] ys hx hy across = hy
@@ -41,6 +42,7 @@ module _ {X : Type 0} (rules : ℕ → List RuleName)
       let class = of_class i.0.0 w i.2 in
       omega (arith, number, class)
 
+  -- the rules stand class by class
   pub by_class : (n : ℕ) (xs : List X) → NoneFalls class_of_rule (from n xs)
   by_class n [] = tt
   by_class n (x ∷ xs) =
@@ -51,6 +53,7 @@ module _ {X : Type 0} (rules : ℕ → List RuleName)
       let high = class_from (suc n) xs w there in
       omega (arith, low, high))
 
+  -- and each stands once
   pub once : (n : ℕ) (xs : List X) → ((k : ℕ) → n ≤ k → k < n + length xs → AreDistinct (rules k))
       → AreDistinct (from n xs)
   once n [] distinct = tt

@@ -65,6 +65,7 @@ module _ (w : ℕ) (g : Grammar) (k : ℕ) where
           option_and_then_some (λ (r : written.Rule). form_of g k (own_slot a) r.body)
           (find (is_for g k (own_slot a)) (class_at g k).rules) form is (λ r found has. self_form a r.body form has)
 
+  -- the rule for the kids of a child, whether there is one or not
   pub child_parts : (c a : ℕ) → c < length (class_at g k).children
       → PartsForChild meant k c (rule_for w g k (kid_slot c a)).parts
   child_parts c a known = go (form_for g k (kid_slot c a)) refl
@@ -84,8 +85,10 @@ module _ (w : ℕ) (g : Grammar) (k : ℕ) where
   range_by None n = λ kids s h. tt
   range_by (Some form) n = form_range w g k form n
 
+  -- its value depends on what it reads alone
   pub slot_alone : (slot : Slot) (n : ℕ) → IsAlone (rule_for w g k slot) n
   slot_alone slot n = alone_by (form_for g k slot) n
 
+  -- and keeps to the range
   pub slot_range : (slot : Slot) (n : ℕ) → KeepsRange w (rule_for w g k slot) n
   slot_range slot n = range_by (form_for g k slot) n

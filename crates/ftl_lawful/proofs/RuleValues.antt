@@ -109,6 +109,7 @@ module _ (w : ℕ) (g : Grammar) (k : ℕ) where
       (λ m below so_far. expression_same (in_step c) f kids m s t so_far
       (λ o there. h o (in_fold start step kids n c m o below there)))
 
+  -- and its value is in the range where what it reads is
   pub form_range : (form : Form) (n : ℕ) → KeepsRange w (rule_of_form w g k form) n
   form_range (one_form at e) n kids s h = expression_in at e kids n s overflow tt h
   form_range (first_form c e f) zero kids s h = expression_in (for_kids c) e kids 0 s overflow tt h

@@ -24,12 +24,14 @@ use Rattle.ftl_lawful.proofs.Found.{find_is}
 use Rattle.ftl_lawful.proofs.Numbers.{own_at, shared_at}
 use Rattle.ftl_lawful.proofs.ReadsAllowed.{child_found, of_class}
 
+-- a kind that a rule of the own class defines has such a sort
 own_sort : (kind : AttrKind) → is_synthesized_or_local kind ≡ true → IsOwnSort (sort_of kind)
 own_sort kinds.Inh h = absurd (false≢true h)
 own_sort kinds.Syn h = inl refl
 own_sort kinds.Input h = absurd (false≢true h)
 own_sort kinds.Local h = inr refl
 
+-- an inherited kind has the inherited sort
 inherited_sort : (kind : AttrKind) → is_inherited kind ≡ true → sort_of kind ≡ model.inherited
 inherited_sort kinds.Inh h = refl
 inherited_sort kinds.Syn h = absurd (false≢true h)
@@ -74,6 +76,7 @@ module _ (w : ℕ) (g : Grammar) (k : ℕ) where
             ∙ inherited_sort p.1.kind c.0,
       )
 
+  -- what a target stands for is a rule
   pub slot_rule : k < length g.classes → (target : Target) (slot : Slot) → slot_of g k target ≡ Some slot
       → IsRule meant (name_of_rule k slot)
   slot_rule known (targets.Own a) slot h =

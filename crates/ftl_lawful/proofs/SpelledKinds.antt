@@ -63,6 +63,7 @@ of_declarations no_declarations = (tt, tt)
 of_declarations (interface_declared x more) = let rest = of_declarations more in ((of_interface x, rest.0), rest.1)
 of_declarations (class_declared y more) = let rest = of_declarations more in (rest.0, (of_class y, rest.1))
 
+-- each attribute of a grammar that is spelled is declared by a word that may stand there
 pub spelled_kinds : {ts : Tokens} {g : Grammar} → SpellsGrammar ts g → HasKinds g
 spelled_kinds (grammar_of {xs = xs} {ys = ys} declarations) =
     let both = of_declarations declarations in

@@ -13,6 +13,7 @@ use Rattle.ftl_lawful.specs.Kept.{IsKept}
 use Rattle.ftl_lawful.specs.TextOrder.{text_reads}
 
 module _ (g : Grammar) (k : ℕ) where
+  -- of each form
   form_reads : (form : Form) → reads_of_parts (form_parts g k form) ≡ text_reads g k form
   form_reads (one_form at e) = sym (append-nil (expression_reads g k at e))
   form_reads (first_form c e f) =
@@ -20,6 +21,7 @@ module _ (g : Grammar) (k : ℕ) where
   form_reads (fold_form c e f) =
       ap (λ (rs : List Read). expression_reads g k for_self e ++ rs) (sym (append-nil (expression_reads g k (in_step c) f)))
 
+  -- of each rule that is kept
   pub in_text_order : (greatest n : ℕ) (r : written.Rule) (kept : IsKept g k n r)
       → rule_reads (grammar_of greatest g) (name_of_rule k kept.slot)
       ≡ map (dep_read (grammar_of greatest g)) (text_reads g k kept.form)

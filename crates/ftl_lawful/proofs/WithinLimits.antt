@@ -35,6 +35,7 @@ use Rattle.ftl_lawful.proofs.Found.{find_is}
 use Rattle.ftl_lawful.proofs.NoFault.{no_fault, none_in, none_of}
 use Rattle.ftl_lawful.proofs.Numbers.{map-numbered}
 
+-- a count that is no fault is within its limit
 within : (kind : What) (limit count : ℕ) → too_many kind limit count ≡ None → count ≤ limit
 within kind limit count h = ltb-false limit count (no_fault (nat_lt limit count) (fault.TooMany kind count) h)
 
@@ -68,6 +69,7 @@ filter_one p x xs =
     (λ b. length (cond b (x ∷ filter p xs) (filter p xs)) ≡ length (cond b (x ∷ []) []) + length (filter p xs))
     [ true ↦ omega arith | false ↦ omega arith ]
 
+-- some names give no more reads than are counted
 few_names : (g : Grammar) (k : ℕ) (at : Position) (ns : List ReadName)
     → length (flat_map (λ name. option_to_list (option_and_then read_of (leaf_of g k at name))) ns)
     ≤ length (filter is_counted ns)
@@ -79,6 +81,7 @@ few_names g k at (n ∷ ns) =
     omega (arith, first, later, all, length-append (option_to_list (option_and_then read_of (leaf_of g k at n))) (flat_map (λ name. option_to_list (option_and_then read_of (leaf_of g k at name))) ns))
 
 module _ (g : Grammar) (k : ℕ) where
+  -- an expression has few reads
   few : (at : Position) (e : Expr) → read_count e ≤ 256 → length (expression_reads g k at e) ≤ 256
   few at e h = let less = few_names g k at (reads_of (formula_of e)) in omega (arith, h, less)
 
@@ -109,6 +112,7 @@ module _ (g : Grammar) (k : ℕ) where
   abbrev Few : Form → Type 0
   Few form = (part : Part) → length (reads_in (form_parts g k form) part) ≤ 256
 
+  -- each part of a form has few reads
   few_in_form : (slot : Slot) (body : Body) (form : Form)
       → ((e : Expr) → Contains (expressions_of body) e → read_count e ≤ 256)
       → form_of g k slot body ≡ Some form → Few form
@@ -131,6 +135,7 @@ module _ (g : Grammar) (k : ℕ) where
 -- ---- the limits, one by one
 
 module _ (g : Grammar) (none : first_fault g ≡ None) where
+  -- the conditions on limits, one by one
   each_limit : AllByRecursion (λ x. x ≡ None)
       (too_many what.Interfaces 128 (length g.interfaces)
       ∷ too_many what.Classes 128 (length g.classes)
@@ -161,6 +166,7 @@ module _ (g : Grammar) (none : first_fault g ≡ None) where
       (too_many what.Attributes 64 (length (class_at g k).attrs) ∷ too_many what.Children 16 (length (class_at g k).children) ∷ [])
       (none_of class_limits g.classes each_limit.1.1.1.0 (class_at g k) (class_there k known))
 
+  -- each part of the rule for a slot has few reads
   few_in_rule : (k : ℕ) → k < length g.classes → (slot : Slot) (part : Part)
       → length (reads_in (rule_for 0 g k slot).parts part) ≤ 256
   few_in_rule k known slot part = go (form_for g k slot) refl
@@ -201,6 +207,7 @@ module _ (g : Grammar) (none : first_fault g ≡ None) where
       same_parts None h = h
       same_parts (Some form) h = h
 
+  -- all limits hold
   pub within_limits : (w : ℕ) → IsWithinLimits (grammar_of w g)
   within_limits w =
       record {

@@ -5,6 +5,7 @@ use Rattle.ftl_checked.proofs.WorkedFormulas.{of-adding, of-num, of-reading, of-
 use Rattle.ftl_lawful.specs.Faultless.{IsFaultless}
 use Rattle.ftl_lawful.proofs.WorkedKinds.{kinds_by}
 
+-- the stack grammar as it is written
 pub stack_faultless : IsFaultless written.stack
 stack_faultless =
     record {

@@ -7,6 +7,8 @@
 
 mod fault;
 mod laws;
+mod worked;
 
 pub use fault::VerifyFault;
 pub use laws::{faultless_is_ordered, one_writer_tells};
+pub use worked::{accepted_schedules, faults_of_entries, faults_of_pairs};
