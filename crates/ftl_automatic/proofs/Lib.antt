@@ -16,3 +16,4 @@ pub mod ByHand
 pub mod FitTests
 pub mod WorkedStack
 pub mod WorkedSmall
+pub mod WorkedCircle

@@ -1,9 +1,9 @@
--- The automatic schedules of small grammars, and one that is stuck.
+-- The automatic schedules of small grammars: a tie, and an inorder pass.
 use Rattle.std.proofs.Common.{◌≡◌, ◌≢◌, ◌⊎◌, ℕ, ◌<◌, refl, inl, inr, ⊎_elim, lit<, arith, List, [], ◌∷◌, Contains}
 use Rattle.ftl_lists.specs.Lists.{place_in}
 use Rattle.ftl_lists.proofs.Elements.{nothing_in}
-use Rattle.ftl_model.specs.AttributeGrammar.{Part, Read, RuleName, for_child, for_self, plain_part, prev_read, reads_in}
-use Rattle.ftl_model.specs.AttributeGrammar.{self_read, then_part}
+use Rattle.ftl_model.specs.AttributeGrammar.{Part, Read, RuleName, for_child, for_self, prev_read, reads_in}
+use Rattle.ftl_model.specs.AttributeGrammar.{then_part}
 use Rattle.ftl_model.specs.Solves.{rule_named}
 use Rattle.ftl_order.specs.Ordered.{Row, visit_place}
 use Rattle.ftl_order.specs.Pairs.{same_class}
@@ -13,22 +13,22 @@ use Rattle.ftl_order.proofs.PartReads.{plain_reads}
 use Rattle.ftl_order_worked.specs.Chain.{a_reads_b, chain, chain_inorder}
 use Rattle.ftl_order_worked.specs.WorkedSchedules.{pair_of}
 use Rattle.ftl_order_worked.proofs.ChainLaws.{chain_lawful}
-use Rattle.ftl_automatic.specs.Automatic.{IsAutomatic, IsNext, IsStuck, pass_of_kind}
+use Rattle.ftl_automatic.specs.Automatic.{IsAutomatic, IsNext, pass_of_kind}
 use Rattle.ftl_automatic.specs.Fitting.{Fits, HasAll, IsListOf, placing_after}
-use Rattle.ftl_automatic.specs.WorkedGrammars.{both_topdown, circle, free}
+use Rattle.ftl_automatic.specs.WorkedGrammars.{both_topdown, free}
 use Rattle.ftl_automatic.proofs.ByHand.{fits_nothing, key_less, list_by, needed, nothing_left}
 use Rattle.ftl_automatic.proofs.FitTests.{ascends, entries_fit, fits_by_test}
 use Rattle.ftl_automatic.proofs.WorkedStack.{some_entry}
 
-abbrev both : List ℕ
+abbrev pub both : List ℕ
 both = 0 ∷ (1 ∷ [])
 
 -- by the number: 0 and 1
-each_of_two : (P : ℕ → Type 0) → P 0 → P 1 → (a : ℕ) → a < 2 → P a
+pub each_of_two : (P : ℕ → Type 0) → P 0 → P 1 → (a : ℕ) → a < 2 → P a
 each_of_two P p q a known = each_below P 2 (q, (p, tt)) a known
 
 -- each has its writer earlier in the list, so neither is in it
-neither_in : (list : List ℕ) → (Contains list 0 → Contains list 1 × (place_in list 1 < place_in list 0))
+pub neither_in : (list : List ℕ) → (Contains list 0 → Contains list 1 × (place_in list 1 < place_in list 0))
     → (Contains list 1 → Contains list 0 × (place_in list 0 < place_in list 1)) → (a : ℕ) → a < 2
     → Contains list a → Contains [] a
 neither_in list f s a known =
@@ -37,83 +37,14 @@ neither_in list f s a known =
     (λ h. let y = s h in let x = f y.0 in let p = x.1 in let q = y.1 in absurd (let z : ⊥ = omega (arith, p, q) in z))
     a known
 
--- ---- two that read each other
-
-circle_less : (kind : PassKind) (list : List ℕ) (a b : ℕ) → a ≢ b
-    → Row same_class kind (placing_after [] kind list) (self_read a) (visit_place circle (for_self 0 a))
-    (visit_place circle (for_self 0 b))
-    → place_in list a < place_in list b
-circle_less topdown list a b other h =
-    ⊎_elim
-    (λ key. key_less [] topdown list (visit_place circle (for_self 0 a)) (visit_place circle (for_self 0 b)) refl key)
-    (λ rest. absurd (other rest.1.0)) h
-circle_less bottomup list a b other h =
-    ⊎_elim
-    (λ key. key_less [] bottomup list (visit_place circle (for_self 0 a)) (visit_place circle (for_self 0 b)) refl key)
-    (λ rest. absurd (other rest.1.0)) h
-circle_less inorder list a b other h =
-    ⊎_elim
-    (λ block.
-    ⊎_elim (λ less. absurd (let z : ⊥ = omega (arith, less) in z))
-    (λ same. let less = same.1 in absurd (let z : ⊥ = omega (arith, less) in z)) block)
-    (λ rest.
-    ⊎_elim
-    (λ key. key_less [] inorder list (visit_place circle (for_self 0 a)) (visit_place circle (for_self 0 b)) refl key)
-    (λ prev. absurd (let z : ⊥ = grind (arith, prev) in z)) rest.1)
-    h
-
-abbrev Differ : ℕ → ℕ → Type 0
+abbrev pub Differ : ℕ → ℕ → Type 0
 Differ a b = a ≢ b
 
-zero_other : Differ 0 1
+pub zero_other : Differ 0 1
 zero_other e = let z : ⊥ = omega (arith, e) in z
 
-one_other : Differ 1 0
+pub one_other : Differ 1 0
 one_other e = let z : ⊥ = omega (arith, e) in z
-
-circle_none : (kind : PassKind) (other : List ℕ) → Fits circle kind [] other → HasAll [] other
-circle_none kind other f a h =
-    neither_in other
-    (λ there.
-    let n = needed circle kind [] other f (pair_of (for_self 0 0) plain_part (self_read 1) same_class (for_self 0 1))
-    (((lit< tt, (0, lit< tt, refl), inr refl), (0, lit< tt, refl)), (refl, refl)) (λ none. nothing_in 1 none) there in
-    (n.there, circle_less kind other 1 0 one_other n.row))
-    (λ there.
-    let n = needed circle kind [] other f (pair_of (for_self 0 1) plain_part (self_read 0) same_class (for_self 0 0))
-    (((lit< tt, (1, lit< tt, refl), inr refl), (0, lit< tt, refl)), (refl, refl)) (λ none. nothing_in 0 none) there in
-    (n.there, circle_less kind other 0 1 zero_other n.row))
-    a (f.computed a h).0 h
-
-circle_list : (kind : PassKind) → IsListOf circle kind [] []
-circle_list kind = list_by circle kind [] [] (fits_nothing circle kind []) tt (circle_none kind)
-
-circle_next : IsNext circle [] (pass_of_kind inorder [])
-circle_next =
-    record {
-      down = [];
-      up = [];
-      in_order = [];
-      is_down = circle_list topdown;
-      is_up = circle_list bottomup;
-      is_in_order = circle_list inorder;
-      is = refl;
-    }
-
-pub circle_stuck : IsStuck circle both
-circle_stuck =
-    let given = entries_fit circle [] both refl in
-    record {
-      passes = [];
-      chain = (pass_of_kind inorder [], circle_next, refl);
-      is_left = record {
-        distinct = given.distinct;
-        ascending = ascends both refl;
-        computed = given.each;
-        left_out = given.out;
-        whole = λ a c. inr (each_of_two (Contains both) (0, lit< tt, refl) (1, lit< tt, refl) a c.0);
-      };
-      some = some_entry 0 (1 ∷ []);
-    }
 
 -- ---- a tie
 

@@ -14,8 +14,8 @@ constant = plain_rule [] (λ kids k s. number (pos 1))
 abbrev pub copy : ℕ → Rule
 copy a = plain_rule (self_read a ∷ []) (λ kids k s. s (own a))
 
--- Two attributes that read each other, a 0 and b 1.
--- root R; interface R { } class C : R { local a, b; self.a := self.b; self.b := self.a; }
+-- Two attributes that read each other, a 0 and b 1, beside c 2, which reads nothing. root R; interface R { }
+-- class C : R { local a, b, c; self.a := self.b; self.b := self.a; self.c := 1; }
 abbrev pub circle : AttributeGrammar
 circle =
     record {
@@ -23,16 +23,16 @@ circle =
       root = 0;
       interface_count = 1;
       class_count = 1;
-      attribute_count = 2;
+      attribute_count = 3;
       interface = λ class. 0;
       child_count = λ class. 0;
       child_interface = λ class child. 0;
       is_list = λ class child. false;
       shared = λ interface. [];
-      private = λ class. 0 ∷ (1 ∷ []);
+      private = λ class. 0 ∷ (1 ∷ (2 ∷ []));
       sort = λ a. local;
-      rules = for_self 0 0 ∷ (for_self 0 1 ∷ []);
-      self_rule = λ class a. if a == 0 then copy 1 else copy 0;
+      rules = for_self 0 0 ∷ (for_self 0 1 ∷ (for_self 0 2 ∷ []));
+      self_rule = λ class a. if a == 0 then copy 1 else (if a == 1 then copy 0 else constant);
       child_rule = λ class child a. constant;
     }
 

@@ -16,7 +16,8 @@ pub fn automatic_schedules_of_grammars()
     ensures tie { IsAutomatic free both_topdown }
 {}
 
-/// A law: a grammar with two attributes that read each other is stuck at both.
+/// A law: a grammar with two attributes that read each other is stuck at both, after a pass for the
+/// third one.
 pub fn circle_is_stuck()
     ensures stuck { IsStuck circle (0 ∷ 1 ∷ []) }
 {}

@@ -1,4 +1,4 @@
-use Rattle.ftl_automatic.proofs.WorkedSmall.{circle_stuck}
+use Rattle.ftl_automatic.proofs.WorkedCircle.{circle_stuck}
 use Rattle.ftl_automatic.proofs.worked.circle_is_stuck.Goals as goal
 
 pub returns : goal.returns
