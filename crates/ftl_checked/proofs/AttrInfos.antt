@@ -1,5 +1,5 @@
 -- What is told of all attributes, owner by owner.
-use Rattle.std.proofs.Common.{◌≡◌, ℕ, suc, ◌+◌, ◌<◌, Bool, true, false, List, [], ◌∷◌, ◌++◌, length, map, flat_map, drop, get_or, refl, sym, ◌∙◌, ap, ap₂, add-one, append_assoc}
+use Rattle.std.proofs.Common.{◌≡◌, ℕ, suc, ◌+◌, ◌<◌, Bool, true, false, List, [], ◌∷◌, ◌++◌, length, map, flat_map, drop, refl, sym, ◌∙◌, ap, ap₂, add-one, append_assoc}
 use Rattle.std.proofs.lemmas.List.{map-append, length-map}
 use Rattle.std.proofs.Math.ListN.{length-append}
 use Rattle.ftl_syntax.specs.declared.rules.AttrDecl.{AttrDecl}
@@ -9,7 +9,7 @@ use Rattle.ftl_syntax.specs.declared.rules.Grammar.{Grammar}
 use Rattle.ftl_syntax.specs.declared.rules.Rule.{Rule}
 use Rattle.ftl_syntax.specs.Trees as trees
 use Rattle.ftl_checked.specs.declared.info.AttrInfo.{AttrInfo}
-use Rattle.ftl_checked.specs.Checked.{Declared, all_attributes, all_rules, attribute_info, declared}
+use Rattle.ftl_checked.specs.Checked.{all_attributes, all_rules, attribute_info, declared}
 use Rattle.ftl_checked.specs.Numbering.{class_at, interface_at, numbered, own_count, shared_count}
 use Rattle.ftl_checked.specs.Told.{own_told, shared_told}
 use Rattle.ftl_checked.proofs.Counting.{left_is}
@@ -40,7 +40,7 @@ pub attributes_are : (g : Grammar) → map (attribute_info g) (all_attributes g)
     ≡ flat_map (shared_told g) (numbered 0 g.interfaces) ++ flat_map (own_told g) (numbered 0 g.classes)
 attributes_are g =
     map-append (attribute_info g) (flat_map (λ x. map (declared false x.0) x.1.attrs) (numbered 0 g.interfaces))
-      (flat_map (λ k. map (declared true k.0) k.1.attrs) (numbered 0 g.classes))
+    (flat_map (λ k. map (declared true k.0) k.1.attrs) (numbered 0 g.classes))
     ∙ ap₂ (λ a b. a ++ b) (shared_all g (numbered 0 g.interfaces)) (own_all g (numbered 0 g.classes))
 
 -- one interface more
@@ -83,9 +83,15 @@ counted f h s (x ∷ xs) =
 pub attribute_count_is : (g : Grammar) → length (all_attributes g) ≡ shared_count g.interfaces + own_count g.classes
 attribute_count_is g =
     length-append (flat_map (λ x. map (declared false x.0) x.1.attrs) (numbered 0 g.interfaces))
-      (flat_map (λ k. map (declared true k.0) k.1.attrs) (numbered 0 g.classes))
+    (flat_map (λ k. map (declared true k.0) k.1.attrs) (numbered 0 g.classes))
     ∙ ap₂ (λ a b. a + b) (counted (λ (x : Interface). x.attrs) (declared false) 0 g.interfaces)
-      (counted (λ (k : Class). k.attrs) (declared true) 0 g.classes)
+    (counted (λ (k : Class). k.attrs) (declared true) 0 g.classes)
 
 pub rule_count_is : (g : Grammar) → length (all_rules g) ≡ length (flat_map (λ (k : Class). k.rules) g.classes)
 rule_count_is g = counted (λ (k : Class). k.rules) (λ n r. (let p : ℕ × Rule = (n, r) in p)) 0 g.classes
+
+-- the steps of a loop over interfaces
+pub ruleset shared_steps = (shared_more, shared_end)
+
+-- the steps of a loop over classes
+pub ruleset own_steps = (own_more, own_end)

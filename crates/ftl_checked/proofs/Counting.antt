@@ -1,5 +1,5 @@
 -- How many entries lists have together, counted from the front.
-use Rattle.std.proofs.Common.{◌≡◌, ℕ, ◌+◌, ◌<◌, Bool, true, false, List, [], ◌∷◌, ◌++◌, length, map, filter, flat_map, drop, get_or, refl, sym, ◌∙◌, ap, arith, add-one, cond}
+use Rattle.std.proofs.Common.{◌≡◌, ℕ, ◌+◌, ◌<◌, Bool, true, false, List, [], ◌∷◌, length, filter, flat_map, drop, get_or, refl, sym, ◌∙◌, ap, arith, add-one, cond}
 use Rattle.std.proofs.Math.Seq.{drop-cons}
 use Rattle.std.proofs.Math.ListN.{length-append}
 
@@ -39,3 +39,9 @@ passing_ends p (x ∷ xs) = passing_ends p xs
 pub left_by : {X : Type 0} (xs : List X) (i : ℕ) (x : X) → i < length xs → x ≡ get_or xs i x
     → drop i xs ≡ x ∷ drop (i + 1) xs
 left_by xs i x within is = left_is xs i x within ∙ ap (λ y. y ∷ drop (i + 1) xs) (sym is)
+
+-- the steps of a count
+pub ruleset count_steps = (count_passes, count_ends)
+
+-- the steps of a count of what passes
+pub ruleset passing_steps = (passing_one, passing_ends)

@@ -1,7 +1,7 @@
 -- Look-ups by name in numbered lists, by the first place of the name.
-use Rattle.std.proofs.Common.{◌≡◌, ℕ, suc, zero, ◌+◌, ◌<◌, Bool, true, false, not, cond, if◌then◌else◌, nat_lt, List, [], ◌∷◌, ◌++◌, length, map, take, get_or, Option, Some, None, refl, sym, ◌∙◌, ap, ap₂, subst, arith, add-one, add-zero}
+use Rattle.std.proofs.Common.{◌≡◌, ℕ, suc, zero, ◌+◌, ◌<◌, Bool, true, false, not, cond, nat_lt, List, [], ◌∷◌, length, map, take, get_or, Option, Some, None, refl, sym, ◌∙◌, ap, subst, arith, add-zero}
 use Rattle.std.specs.List.{find, position, position_or_len}
-use Rattle.std.specs.Option.{option_map, is_some, option_and_then, option_map_or, option_or}
+use Rattle.std.specs.Option.{option_map, option_or}
 use Rattle.std.specs.Str.{bytes_eq}
 use Rattle.std.proofs.lemmas.Bool.Decides.{nat_tests}
 use Rattle.std.proofs.lemmas.Grind.{common_steps}
@@ -20,7 +20,7 @@ use Rattle.ftl_checked.specs.Checked.{child_info}
 use Rattle.ftl_checked.specs.Counts.{HasSmallCounts, IsSmall}
 use Rattle.ftl_checked.specs.FirstFault.{attribute_names}
 use Rattle.ftl_checked.specs.Found.{found_attribute, found_child}
-use Rattle.ftl_checked.specs.Numbering.{numbered, find_attribute, find_child, class_at, child_at, interface_at, interface_of, shared_count, own_count, shared_attributes, own_attributes, class_attributes}
+use Rattle.ftl_checked.specs.Numbering.{numbered, find_attribute, find_child, class_at, interface_at, interface_of, shared_count, own_count, shared_attributes, own_attributes, class_attributes}
 use Rattle.ftl_checked.proofs.Numbered.{count_within}
 use Rattle.std.proofs.lemmas.List.Folds.{find-append}
 
@@ -37,7 +37,7 @@ pub position_next : {X : Type 0} (p : X → Bool) (x : X) (xs : List X) → p x 
 position_next p x xs e =
     let place : position_or_len p (x ∷ xs) ≡ suc (position_or_len p xs) = ap (λ b. cond (not b) (1 + position_or_len p xs) 0) e ∙ one_more (position_or_len p xs) in
     let test : nat_lt (suc (position_or_len p xs)) (suc (length xs)) ≡ nat_lt (position_or_len p xs) (length xs) =
-        grind (arith, nat_tests) in
+    grind (arith, nat_tests) in
     ap (λ l. cond (nat_lt l (suc (length xs))) (Some l) None) place
     ∙ ap (λ b. cond b (Some (suc (position_or_len p xs))) None) test
     ∙ pushed (nat_lt (position_or_len p xs) (length xs)) (position_or_len p xs)
@@ -64,6 +64,7 @@ find_place {X = X} f name start (x ∷ xs) d = by_test (bytes_eq name (f x)) ref
         ≡ option_map (entry_at start (x ∷ xs) d) (option_map suc o)
     shifted None = refl
     shifted (Some n) = let e : suc start + n ≡ start + suc n = omega arith in (let P : ℕ → Option (ℕ × X) = λ m. Some (m, get_or xs n d) in ap P e)
+
     by_test : (b : Bool) → bytes_eq name (f x) ≡ b
         → find (λ a. bytes_eq name (f a.1)) (numbered (suc start) xs)
         ≡ option_map (entry_at (suc start) xs d) (position (bytes_eq name) (map f xs))
@@ -129,11 +130,11 @@ child_found_here g k name names infos d o n named told placed is =
     let xs = (class_at g k).children in
     let e = trees.child [] [] false in
     let here : position (bytes_eq name) (map (λ c. c.name) xs) ≡ Some n =
-        ap (position (bytes_eq name)) (sym named) ∙ sym placed ∙ is in
+    ap (position (bytes_eq name)) (sym named) ∙ sym placed ∙ is in
     let counted : length (map (λ (c : Child). c.name) xs) ≡ length xs = length-map xs (λ (c : Child). c.name) in
     let within : n < length xs = subst (λ m. n < m) counted (position_within (bytes_eq name) (map (λ c. c.name) xs) n here) in
     let info : get_or infos n d ≡ child_info g (get_or xs n e) =
-        ap (λ is. get_or is n d) told ∙ made_at (child_info g) xs n d e within in
+    ap (λ is. get_or is n d) told ∙ made_at (child_info g) xs n d e within in
     let zeroed : 0 + n ≡ n = omega arith in
     ap (λ i. Some (record { number = n; info = i })) info
     ∙ (let P : ℕ → Option FoundChild = λ m. Some (found_child g (m, get_or xs n e)) in ap P (sym zeroed))
@@ -148,7 +149,7 @@ child_found_none g k name names o named placed is =
     let xs = (class_at g k).children in
     let e = trees.child [] [] false in
     let gone : position (bytes_eq name) (map (λ c. c.name) xs) ≡ None =
-        ap (position (bytes_eq name)) (sym named) ∙ sym placed ∙ is in
+    ap (position (bytes_eq name)) (sym named) ∙ sym placed ∙ is in
     ap (λ o. option_map (found_child g) (option_map (entry_at 0 xs e) o)) (sym gone)
     ∙ ap (option_map (found_child g)) (sym (find_place (λ (c : Child). c.name) name 0 xs e))
 
@@ -202,5 +203,5 @@ pub child_place_within : (g : Grammar) (k : ℕ) (name : NameText) (names : List
     → n < length (class_at g k).children
 child_place_within g k name names o n named placed is =
     let counted : length (map (λ (c : Child). c.name) (class_at g k).children) ≡ length (class_at g k).children =
-        length-map (class_at g k).children (λ (c : Child). c.name) in
+    length-map (class_at g k).children (λ (c : Child). c.name) in
     subst (λ m. n < m) (ap length named ∙ counted) (position_within (bytes_eq name) names n (sym placed ∙ is))

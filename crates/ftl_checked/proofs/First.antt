@@ -1,5 +1,5 @@
 -- The first fault of a list, entry by entry.
-use Rattle.std.proofs.Common.{◌≡◌, ℕ, ◌+◌, ◌<◌, List, [], ◌∷◌, ◌++◌, length, map, drop, get_or, Option, Some, None, refl, sym, ◌∙◌, ap, arith, add-one}
+use Rattle.std.proofs.Common.{◌≡◌, ℕ, ◌+◌, ◌<◌, List, [], ◌∷◌, length, map, drop, get_or, Option, Some, None, refl, ◌∙◌, ap, add-one}
 use Rattle.std.proofs.Math.Seq.{drop-cons}
 use Rattle.ftl_checked.specs.FirstFault.{first_there, first_of}
 use Rattle.ftl_checked.specs.declared.fault.GrammarFault.{GrammarFault}
@@ -24,3 +24,6 @@ first_of_stops f xs i d e within here =
 pub first_of_ends : {X : Type 0} (f : X → Option GrammarFault) (xs : List X) → first_of f (drop (length xs) xs) ≡ None
 first_of_ends f [] = refl
 first_of_ends f (x ∷ xs) = first_of_ends f xs
+
+-- the steps of a loop over entries
+pub ruleset first_steps = (first_of_passes, first_of_stops, first_of_ends)

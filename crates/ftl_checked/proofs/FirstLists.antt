@@ -1,5 +1,5 @@
 -- The first fault of lists that are joined, picked or made of others.
-use Rattle.std.proofs.Common.{◌≡◌, ℕ, Bool, true, false, cond, if◌then◌else◌, List, [], ◌∷◌, ◌++◌, map, filter, flat_map, Option, Some, None, refl, sym, ◌∙◌, ap}
+use Rattle.std.proofs.Common.{◌≡◌, Bool, true, false, cond, if◌then◌else◌, List, [], ◌∷◌, ◌++◌, map, filter, flat_map, Option, Some, None, refl, sym, ◌∙◌, ap}
 use Rattle.ftl_checked.specs.FirstFault.{first_there, first_of}
 use Rattle.ftl_checked.specs.declared.fault.GrammarFault.{GrammarFault}
 

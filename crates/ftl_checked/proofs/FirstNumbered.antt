@@ -1,5 +1,5 @@
 -- The first fault of numbered entries, entry by entry.
-use Rattle.std.proofs.Common.{◌≡◌, ℕ, suc, ◌+◌, ◌<◌, List, [], ◌∷◌, ◌++◌, length, map, drop, get_or, Option, Some, None, refl, sym, ◌∙◌, ap, arith, add-one}
+use Rattle.std.proofs.Common.{◌≡◌, ℕ, suc, ◌+◌, ◌<◌, List, [], ◌∷◌, length, map, drop, get_or, Option, Some, None, refl, sym, ◌∙◌, ap, arith, add-one}
 use Rattle.ftl_checked.specs.FirstFault.{first_there, first_of}
 use Rattle.ftl_checked.specs.Numbering.{numbered}
 use Rattle.ftl_checked.specs.declared.fault.GrammarFault.{GrammarFault}
@@ -46,3 +46,9 @@ pub placed_first_stops : {X : Type 0} (f : ℕ × X → Option GrammarFault) (xs
 placed_first_stops f xs i d e within here =
     ap (λ ys. first_of f (numbered i ys)) (left_is xs i d within)
     ∙ ap (λ o. first_there (o ∷ map f (numbered (suc i) (drop (i + 1) xs)))) here
+
+-- the steps of a loop over numbered entries
+pub ruleset numbered_steps = (numbered_first_passes, numbered_first_stops, numbered_first_ends)
+
+-- those where the numbers are places
+pub ruleset placed_steps = (placed_first_passes, placed_first_stops, numbered_first_ends)

@@ -1,9 +1,8 @@
 -- The conditions on names, list by list.
-use Rattle.std.proofs.Common.{◌≡◌, ℕ, zero, suc, ◌+◌, ◌<◌, Bool, true, false, not, nat_lt, drop, List, [], ◌∷◌, ◌++◌, length, map, get_or, Option, Some, None, Result, Ok, Err, refl, sym, ◌∙◌, ap, ap₂, subst, arith}
+use Rattle.std.proofs.Common.{◌≡◌, ℕ, zero, suc, ◌+◌, ◌<◌, Bool, true, false, not, nat_lt, drop, List, [], ◌∷◌, ◌++◌, length, map, get_or, Option, Some, None, Result, Ok, Err, refl, sym, ◌∙◌, ap, ap₂, arith}
 use Rattle.std.specs.Option.{option_map}
 use Rattle.std.specs.Result.{IsErrAnd}
 use Rattle.std.specs.Str.{bytes_eq}
-use Rattle.std.proofs.lemmas.Bool.{false≢true}
 use Rattle.std.proofs.lemmas.Bool.Decides.{nat_tests}
 use Rattle.std.proofs.lemmas.List.{append-nil, length-map, map-append}
 use Rattle.ftl_syntax.specs.Trees.{NameText}
@@ -76,13 +75,13 @@ name_fault_is g =
     let f = of_same (λ k. twice_in_class g k.0) (λ k. class_once_fault g k.0) (class_once_is g) (numbered 0 g.classes) in
     let r = fault_if (root_inherits g) (fault.RootInherits g.root) in
     ap (λ o. first_there (a ∷ b ∷ o ∷ first_of (λ x. unknown_among (interface_names g) (interfaces_named x)) g.classes
-        ∷ first_of twice_in_interface g.interfaces ∷ first_of (λ k. twice_in_class g k.0) (numbered 0 g.classes) ∷ r ∷ [])) c
+    ∷ first_of twice_in_interface g.interfaces ∷ first_of (λ k. twice_in_class g k.0) (numbered 0 g.classes) ∷ r ∷ [])) c
     ∙ ap (λ o. first_there (a ∷ b ∷ first_of shown_fault g.interfaces ∷ o
-        ∷ first_of twice_in_interface g.interfaces ∷ first_of (λ k. twice_in_class g k.0) (numbered 0 g.classes) ∷ r ∷ [])) d
+    ∷ first_of twice_in_interface g.interfaces ∷ first_of (λ k. twice_in_class g k.0) (numbered 0 g.classes) ∷ r ∷ [])) d
     ∙ ap (λ o. first_there (a ∷ b ∷ first_of shown_fault g.interfaces ∷ first_of (interfaces_fault g) g.classes
-        ∷ o ∷ first_of (λ k. twice_in_class g k.0) (numbered 0 g.classes) ∷ r ∷ [])) e
+    ∷ o ∷ first_of (λ k. twice_in_class g k.0) (numbered 0 g.classes) ∷ r ∷ [])) e
     ∙ ap (λ o. first_there (a ∷ b ∷ first_of shown_fault g.interfaces ∷ first_of (interfaces_fault g) g.classes
-        ∷ first_of once_fault g.interfaces ∷ o ∷ r ∷ [])) f
+    ∷ first_of once_fault g.interfaces ∷ o ∷ r ∷ [])) f
 
 -- ---- one class
 
@@ -116,8 +115,8 @@ class_interface_within g k none within =
     let here : interfaces_fault g (class_at g k) ≡ None = none_at (interfaces_fault g) g.classes k (trees.class [] [] [] [] []) none within in
     let head = head_none (unknown_fault (interface_names g) (class_at g k).interface) (first_of (kid_interface_fault g) (class_at g k).children) here in
     let known : nat_lt (interface_of g k) (length g.interfaces) ≡ true =
-        sym (known_is g (class_at g k).interface)
-        ∙ no_cause (is_among (interface_names g) (class_at g k).interface) (fault.UnknownName (class_at g k).interface) head in
+    sym (known_is g (class_at g k).interface)
+    ∙ no_cause (is_among (interface_names g) (class_at g k).interface) (fault.UnknownName (class_at g k).interface) head in
     grind (arith, nat_tests)
 
 -- nothing twice
@@ -147,9 +146,9 @@ class_names_are : (g : Grammar) (k : ℕ)
 class_names_are g k =
     let N : ℕ × AttrDecl → NameText = λ a. a.1.name in
     let attrs : map N (class_attributes g k) ≡ attribute_names (interface_at g (interface_of g k)).attrs ++ attribute_names (class_at g k).attrs =
-        map-append N (shared_attributes g (interface_of g k)) (own_attributes g k)
-        ∙ ap₂ (λ a b. a ++ b) (made_of_numbered (λ (a : AttrDecl). a.name) _ (interface_at g (interface_of g k)).attrs)
-          (made_of_numbered (λ (a : AttrDecl). a.name) _ (class_at g k).attrs) in
+    map-append N (shared_attributes g (interface_of g k)) (own_attributes g k)
+    ∙ ap₂ (λ a b. a ++ b) (made_of_numbered (λ (a : AttrDecl). a.name) _ (interface_at g (interface_of g k)).attrs)
+    (made_of_numbered (λ (a : AttrDecl). a.name) _ (class_at g k).attrs) in
     ap₂ (λ a b. a ++ b) attrs (made_of_numbered (λ (c : Child). c.name) 0 (class_at g k).children)
 
 pub class_once_by : (g : Grammar) (k : ℕ) → class_once_fault g k
@@ -166,11 +165,12 @@ fields_are s own kids none empty once =
     let own_is : second_name [] (s ++ own) ≡ second_name s own = second_in_then [] s own once in
     by_own (second_name s own) own_is
     ∙ ap (λ ns. first_there (option_map fault.TwiceNamed (second_name ns own) ∷ option_map fault.TwiceNamed (second_name (s ++ own) kids) ∷ []))
-      (sym (ap (λ n. s ++ n) empty ∙ append-nil s))
+    (sym (ap (λ n. s ++ n) empty ∙ append-nil s))
   where
     alone : (o : Option NameText) → option_map fault.TwiceNamed o ≡ first_there (option_map fault.TwiceNamed o ∷ [])
     alone None = refl
     alone (Some n) = refl
+
     by_own : (o : Option NameText) → second_name [] (s ++ own) ≡ o → twice_among ((s ++ own) ++ kids)
         ≡ first_there (option_map fault.TwiceNamed o ∷ option_map fault.TwiceNamed (second_name (s ++ own) kids) ∷ [])
     by_own (Some n) e = ap (option_map fault.TwiceNamed) (second_in_first [] (s ++ own) kids n e)
@@ -201,3 +201,6 @@ once_ends g n = numbered_first_ends (λ k. class_once_fault g k.0) g.classes n
 pub err_is : (r : Result (Unit {0}) GrammarFault) (x : GrammarFault) → IsErrAnd r (λ e. e ≡ x) → r ≡ Err x
 err_is (Ok u) x h = absurd h
 err_is (Err e) x h = ap (λ y. Err y) h
+
+-- the steps of a loop over classes
+pub ruleset once_steps = (once_passes, once_stops, once_ends)

@@ -1,5 +1,5 @@
 -- What a class needs rules for, list by list.
-use Rattle.std.proofs.Common.{◌≡◌, ℕ, Bool, true, false, ◌||◌, List, [], ◌∷◌, ◌++◌, map, filter, flat_map, Option, Some, None, refl, sym, ◌∙◌, ap, ap₂}
+use Rattle.std.proofs.Common.{◌≡◌, ℕ, Bool, true, false, ◌||◌, List, [], ◌∷◌, ◌++◌, flat_map, Option, Some, None, refl, sym, ◌∙◌, ap, ap₂}
 use Rattle.std.specs.List.{list_any}
 use Rattle.std.specs.Option.{option_to_list}
 use Rattle.ftl_syntax.specs.declared.rules.AttrDecl.{AttrDecl}
@@ -14,7 +14,7 @@ use Rattle.ftl_checked.specs.Needs.{kid_need, need_fault, need_of}
 use Rattle.ftl_checked.specs.Numbering.{child_attributes, children_of, class_at, class_attributes, interface_of, own_attributes, shared_attributes}
 use Rattle.ftl_checked.specs.RuleForms.{Slot, is_inherited, is_synthesized_or_local, kid_slot, own_slot, slot_of}
 use Rattle.ftl_checked.specs.Slots.{slots_of}
-use Rattle.ftl_checked.proofs.FirstLists.{of_append, of_joined, of_picked, of_same, there_cons}
+use Rattle.ftl_checked.proofs.FirstLists.{of_append, of_joined, of_picked, of_same}
 
 -- whether any of two lists has it
 any_append : (p : Slot → Bool) (xs ys : List Slot) → list_any p (xs ++ ys) ≡ list_any p xs || list_any p ys
@@ -51,17 +51,17 @@ missing_parts g k =
     let OwnOf : ℕ × AttrDecl → Slot × Target = λ a. (own_slot a.0, targets.Own a.1.name) in
     let KidOf : ℕ × Child → ℕ × AttrDecl → Slot × Target = λ c a. (kid_slot c.0 a.0, targets.Of c.1.name a.1.name) in
     let own : first_of F (own_needs g k) ≡ first_there (first_of (need_of g k None) (shared_attributes g (interface_of g k))
-        ∷ first_of (need_of g k None) (own_attributes g k) ∷ []) =
-        of_picked F OwnOf (λ a. is_synthesized_or_local a.1.kind) (class_attributes g k)
-        ∙ of_append (need_of g k None) (shared_attributes g (interface_of g k)) (own_attributes g k) in
+    ∷ first_of (need_of g k None) (own_attributes g k) ∷ []) =
+    of_picked F OwnOf (λ a. is_synthesized_or_local a.1.kind) (class_attributes g k)
+    ∙ of_append (need_of g k None) (shared_attributes g (interface_of g k)) (own_attributes g k) in
     let kids : first_of F (flat_map (kid_needs g) (children_of g k)) ≡ first_of (kid_need g k) (children_of g k) =
-        of_joined F (kid_needs g) (children_of g k)
-        ∙ of_same (λ c. first_of F (kid_needs g c)) (kid_need g k)
-          (λ c. of_picked F (KidOf c) (λ a. is_inherited a.1.kind) (child_attributes g c.1)) (children_of g k) in
+    of_joined F (kid_needs g) (children_of g k)
+    ∙ of_same (λ c. first_of F (kid_needs g c)) (kid_need g k)
+    (λ c. of_picked F (KidOf c) (λ a. is_inherited a.1.kind) (child_attributes g c.1)) (children_of g k) in
     of_append F (own_needs g k) (flat_map (kid_needs g) (children_of g k))
     ∙ ap₂ (λ a b. first_there (a ∷ b ∷ [])) own kids
     ∙ by_first (first_of (need_of g k None) (shared_attributes g (interface_of g k))) (first_of (need_of g k None) (own_attributes g k))
-      (first_of (kid_need g k) (children_of g k))
+    (first_of (kid_need g k) (children_of g k))
   where
     by_first : (a b c : Option GrammarFault) → first_there (first_there (a ∷ b ∷ []) ∷ c ∷ []) ≡ first_there (a ∷ b ∷ c ∷ [])
     by_first (Some x) b c = refl

@@ -1,5 +1,5 @@
 -- Entries with their numbers, from the front.
-use Rattle.std.proofs.Common.{◌≡◌, ℕ, suc, ◌+◌, ◌<◌, ◌≤◌, List, [], ◌∷◌, ◌++◌, length, map, flat_map, take, drop, get_or, refl, sym, ◌∙◌, ap, arith, add-one}
+use Rattle.std.proofs.Common.{◌≡◌, ℕ, ◌+◌, ◌<◌, ◌≤◌, List, [], ◌∷◌, ◌++◌, length, map, flat_map, take, drop, get_or, refl, sym, ◌∙◌, ap, add-one}
 use Rattle.std.proofs.Math.ListN.{length-append}
 use Rattle.std.proofs.lemmas.List.{take_more}
 use Rattle.std.proofs.lemmas.Grind.{flat_map-append}
@@ -33,3 +33,6 @@ count_more f xs i d within =
 pub count_within : {X Y : Type 0} (f : X → List Y) (xs : List X) (i : ℕ) (d : X) → i < length xs
     → length (flat_map f (take i xs)) + length (f (get_or xs i d)) ≤ length (flat_map f xs)
 count_within f xs i d within = length-flat_map-take f xs i d within
+
+-- the steps of a loop that builds numbered entries
+pub ruleset numbered_steps = (numbered_passes, numbered_ends, count_more, count_within)

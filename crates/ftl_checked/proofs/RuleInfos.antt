@@ -1,5 +1,5 @@
 -- What is told of all rules, class by class.
-use Rattle.std.proofs.Common.{◌≡◌, ℕ, suc, ◌+◌, ◌<◌, List, [], ◌∷◌, ◌++◌, length, map, flat_map, drop, get_or, Option, Some, None, refl, sym, ◌∙◌, ap, ap₂, add-one, append_assoc}
+use Rattle.std.proofs.Common.{◌≡◌, ℕ, ◌+◌, ◌<◌, List, [], ◌∷◌, ◌++◌, length, map, flat_map, drop, Option, Some, None, refl, sym, ◌∙◌, ap, ap₂, add-one, append_assoc}
 use Rattle.std.proofs.lemmas.List.{map-append}
 use Rattle.ftl_syntax.specs.declared.rules.Class.{Class}
 use Rattle.ftl_syntax.specs.declared.rules.Grammar.{Grammar}
@@ -8,11 +8,12 @@ use Rattle.ftl_syntax.specs.Trees as trees
 use Rattle.ftl_checked.specs.declared.fault.GrammarFault.{GrammarFault}
 use Rattle.ftl_checked.specs.declared.info.RuleInfo.{RuleInfo}
 use Rattle.ftl_checked.specs.Checked.{all_rules, rule_info}
-use Rattle.ftl_checked.specs.FirstFault.{class_fault, first_there, missing_rule, rule_faults, first_of}
+use Rattle.ftl_checked.specs.FirstFault.{class_fault, first_there, missing_rule, rule_faults}
 use Rattle.ftl_checked.specs.Needs.{infos_of}
 use Rattle.ftl_checked.specs.Numbering.{class_at, numbered}
 use Rattle.ftl_checked.proofs.Counting.{left_is}
 use Rattle.ftl_checked.proofs.FirstLists.{there_append}
+use Rattle.ftl_checked.proofs.FirstNumbered.{placed_first_passes, placed_first_stops, numbered_first_ends}
 
 -- the rules of one class
 of_class : (g : Grammar) (k : ℕ) (rs : List Rule)
@@ -57,3 +58,6 @@ class_fault_is g k =
     by_missing (Some x) b = refl
     by_missing None (Some x) = refl
     by_missing None None = refl
+
+-- the steps of a loop over all classes
+pub ruleset class_steps = (placed_first_passes, placed_first_stops, numbered_first_ends, infos_more, infos_end)

@@ -1,10 +1,8 @@
 -- The first name that stands before, name by name.
-use Rattle.std.proofs.Common.{◌≡◌, ℕ, zero, suc, ◌+◌, ◌<◌, ◌≤◌, Bool, true, false, not, cond, ◌||◌, if◌then◌else◌, nat_lt, List, [], ◌∷◌, ◌++◌, length, take, drop, get_or, Option, Some, None, refl, sym, ◌∙◌, ap, subst, arith, append_assoc}
+use Rattle.std.proofs.Common.{◌≡◌, ℕ, zero, suc, ◌+◌, ◌<◌, Bool, true, false, cond, ◌||◌, if◌then◌else◌, nat_lt, List, [], ◌∷◌, ◌++◌, length, take, drop, get_or, Option, Some, None, refl, sym, ◌∙◌, ap, arith, append_assoc}
 use Rattle.std.specs.List.{list_any, position, position_or_len}
 use Rattle.std.specs.Option.{option_map, option_map_or}
-use Rattle.std.specs.Str.{bytes_eq}
 use Rattle.std.proofs.lemmas.Bool.Decides.{nat_tests}
-use Rattle.std.proofs.lemmas.Grind.{common_steps}
 use Rattle.std.proofs.lemmas.List.{append-nil, take_more}
 use Rattle.std.proofs.Math.Seq.{take-length}
 use Rattle.ftl_syntax.specs.Trees.{NameText}
@@ -31,7 +29,7 @@ after_passes before xs i d within new =
     ap (second_name (before ++ take i xs)) (left_is xs i d within)
     ∙ ap (λ b. if b then Some (get_or xs i d) else second_name ((before ++ take i xs) ++ (get_or xs i d ∷ [])) (drop (i + 1) xs)) new
     ∙ ap (λ bs. second_name bs (drop (i + 1) xs))
-      (append_assoc before (take i xs) (get_or xs i d ∷ []) ∙ ap (λ ys. before ++ ys) (sym (take_more xs i d within)))
+    (append_assoc before (take i xs) (get_or xs i d ∷ []) ∙ ap (λ ys. before ++ ys) (sym (take_more xs i d within)))
 
 -- one that is among them
 pub after_stops : (before xs : List NameText) (i : ℕ) (d : NameText) → i < length xs
@@ -123,3 +121,9 @@ second_in_then before (x ∷ xs) ys e =
         → (if b then Some x else second_name (before ++ (x ∷ [])) (xs ++ ys)) ≡ second_name ((before ++ (x ∷ [])) ++ xs) ys
     by_test true e rest = absurd (cc e)
     by_test false e rest = rest e
+
+-- the steps of a loop over names
+pub ruleset second_steps = (second_passes, second_stops, second_ends)
+
+-- the steps of one over names after others
+pub ruleset after_steps = (after_passes, after_stops, after_ends)

@@ -1,6 +1,6 @@
 -- A lawful grammar with its width, and what its numbers stand for.
-use Rattle.std.specs.Prelude.{◌≡◌, ℕ, ◌+◌, ◌<◌, ◌&&◌, Bool, true, false, not, if◌then◌else◌, List, [], ◌∷◌, ◌++◌, length, map, flat_map, slice_index_or, Option, Some, None, Result, Ok, Err}
-use Rattle.std.specs.List.{position, All}
+use Rattle.std.specs.Prelude.{ℕ, ◌&&◌, Bool, true, false, not, if◌then◌else◌, List, [], ◌++◌, map, flat_map, slice_index_or, Option, Some, None, Result, Ok, Err}
+use Rattle.std.specs.List.{position}
 use Rattle.std.specs.Option.{option_map}
 use Rattle.std.specs.Str.{bytes_eq}
 use Rattle.ftl_base.specs.declared.width.Width.{Width}
@@ -10,18 +10,15 @@ use Rattle.ftl_syntax.specs.declared.rules.AttrDecl.{AttrDecl}
 use Rattle.ftl_syntax.specs.declared.rules.AttrKind.{AttrKind}
 use Rattle.ftl_syntax.specs.declared.rules.AttrKind.TheVariants as kinds
 use Rattle.ftl_syntax.specs.declared.rules.Child.{Child}
-use Rattle.ftl_syntax.specs.declared.rules.Class.{Class}
 use Rattle.ftl_syntax.specs.declared.rules.Grammar.{Grammar}
-use Rattle.ftl_syntax.specs.declared.rules.Interface.{Interface}
 use Rattle.ftl_syntax.specs.declared.rules.Rule.{Rule}
-use Rattle.ftl_syntax.specs.declared.rules.Target.TheVariants as targets
 use Rattle.ftl_checked.specs.declared.fault.GrammarFault.{GrammarFault}
 use Rattle.ftl_checked.specs.declared.info.AttrInfo.{AttrInfo}
 use Rattle.ftl_checked.specs.declared.info.ChildInfo.{ChildInfo}
 use Rattle.ftl_checked.specs.declared.info.RuleInfo.{RuleInfo}
 use Rattle.ftl_checked.specs.declared.info.Field.{Field}
 use Rattle.ftl_checked.specs.declared.info.Field.TheVariants as field
-use Rattle.ftl_checked.specs.Numbering.{child_at, class_at, class_attributes, class_names, find_attribute, find_child, interface_at, interface_number, is_among, numbered, own_count, shared_count}
+use Rattle.ftl_checked.specs.Numbering.{class_at, class_attributes, class_names, find_attribute, find_child, interface_at, interface_number, is_among, numbered}
 use Rattle.ftl_checked.specs.RuleForms.{Slot, own_slot, kid_slot, slot_of}
 use Rattle.ftl_checked.specs.FirstFault.{first_fault}
 

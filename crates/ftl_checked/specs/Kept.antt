@@ -11,10 +11,11 @@ use Rattle.ftl_checked.specs.Numbering.{interface_number}
 use Rattle.ftl_checked.specs.Tables.{tables_of}
 
 -- the grammar is lawful, and what is kept says what its numbers stand for
-pub record IsKept (g : Grammar) (kept : Tables) (told : List AttrInfo) (ruled : List RuleInfo) (first : ℕ) : Type 0 where
-  pub lawful : first_fault g ≡ None
-  pub small : HasSmallCounts g
-  pub tables : kept ≡ tables_of g
-  pub attrs : told ≡ map (attribute_info g) (all_attributes g)
-  pub rules : ruled ≡ map (rule_info g) (all_rules g)
-  pub root : first ≡ interface_number g g.root
+pub record IsKept (g : Grammar) (kept : Tables) (told : List AttrInfo) (ruled : List RuleInfo) (first : ℕ) : Type 0
+  where
+    pub lawful : first_fault g ≡ None
+    pub small : HasSmallCounts g
+    pub tables : kept ≡ tables_of g
+    pub attrs : told ≡ map (attribute_info g) (all_attributes g)
+    pub rules : ruled ≡ map (rule_info g) (all_rules g)
+    pub root : first ≡ interface_number g g.root

@@ -24,7 +24,8 @@ kid_interface_fault g c = unknown_fault (interface_names g) c.interface
 
 -- a class whose interface is none, or a child's
 unfoldable pub interfaces_fault : Grammar → Class → Option GrammarFault
-interfaces_fault g x = first_there (unknown_fault (interface_names g) x.interface ∷ first_of (kid_interface_fault g) x.children ∷ [])
+interfaces_fault g x =
+    first_there (unknown_fault (interface_names g) x.interface ∷ first_of (kid_interface_fault g) x.children ∷ [])
 
 -- a name that stands twice in an interface
 unfoldable pub once_fault : Interface → Option GrammarFault

@@ -1,11 +1,9 @@
 -- What a class needs rules for, attribute by attribute.
-use Rattle.std.specs.Prelude.{ℕ, not, if◌then◌else◌, List, [], ◌∷◌, map, flat_map, Option, Some, None}
-use Rattle.ftl_syntax.specs.Trees.{NameText}
+use Rattle.std.specs.Prelude.{ℕ, not, if◌then◌else◌, List, map, Option, Some, None}
 use Rattle.ftl_syntax.specs.declared.rules.AttrDecl.{AttrDecl}
 use Rattle.ftl_syntax.specs.declared.rules.Child.{Child}
 use Rattle.ftl_syntax.specs.declared.rules.Class.{Class}
 use Rattle.ftl_syntax.specs.declared.rules.Grammar.{Grammar}
-use Rattle.ftl_syntax.specs.declared.rules.Rule.{Rule}
 use Rattle.ftl_syntax.specs.declared.rules.Target.{Target}
 use Rattle.ftl_syntax.specs.declared.rules.Target.TheVariants as targets
 use Rattle.ftl_checked.specs.declared.fault.GrammarFault.{GrammarFault}
@@ -13,8 +11,8 @@ use Rattle.ftl_checked.specs.declared.fault.GrammarFault.TheVariants as fault
 use Rattle.ftl_checked.specs.declared.info.RuleInfo.{RuleInfo}
 use Rattle.ftl_checked.specs.declared.needs.KidOf.{KidOf}
 use Rattle.ftl_checked.specs.Checked.{info_by}
-use Rattle.ftl_checked.specs.FirstFault.{fault_if, first_of, first_there, is_ruled, rule_name}
-use Rattle.ftl_checked.specs.Numbering.{child_attributes, children_of, class_at, interface_of, own_attributes, shared_attributes}
+use Rattle.ftl_checked.specs.FirstFault.{fault_if, first_of, is_ruled, rule_name}
+use Rattle.ftl_checked.specs.Numbering.{child_attributes, class_at}
 use Rattle.ftl_checked.specs.RuleForms.{Slot, is_inherited, is_synthesized_or_local, kid_slot, own_slot, slot_of}
 
 -- a slot that has no rule

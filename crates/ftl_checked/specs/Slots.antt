@@ -1,5 +1,5 @@
 -- Slots and forms of rules, as code has them.
-use Rattle.std.specs.Prelude.{ℕ, ◌<◌, List, [], ◌∷◌, ◌++◌, length, map, Option, Some, None, IfSome}
+use Rattle.std.specs.Prelude.{ℕ, ◌<◌, List, [], ◌∷◌, ◌++◌, length, map, IfSome}
 use Rattle.std.specs.Option.{option_to_list}
 use Rattle.ftl_syntax.specs.declared.expression.Expr.{Expr}
 use Rattle.ftl_syntax.specs.declared.rules.Grammar.{Grammar}

@@ -1,5 +1,5 @@
 -- The tables that stand beside a grammar, by what they hold.
-use Rattle.std.specs.Prelude.{ℕ, ◌+◌, List, ◌++◌, map, take}
+use Rattle.std.specs.Prelude.{ℕ, ◌+◌, ◌++◌, map, take}
 use Rattle.ftl_syntax.specs.declared.rules.Class.{Class}
 use Rattle.ftl_syntax.specs.declared.rules.Grammar.{Grammar}
 use Rattle.ftl_syntax.specs.declared.rules.Interface.{Interface}
@@ -36,6 +36,7 @@ class_entry g k = class_table g (shared_count g.interfaces + own_count (take k.0
 abbrev pub tables_of : Grammar → Tables
 tables_of g = record {
   names = interface_names g ++ class_names g;
+  class_names = class_names g;
   interfaces = map (interface_entry g) (numbered 0 g.interfaces);
   classes = map (class_entry g) (numbered 0 g.classes);
 }

@@ -25,7 +25,7 @@ pub(crate) fn attr_infos(alloc: Global, grammar: &Grammar) -> Result<Items<AttrI
     Ok(infos)
 }
 
-#[tactic(auto, using(crate::proofs::AttrInfos::shared_more, crate::proofs::AttrInfos::shared_end))]
+#[tactic(auto, using(crate::proofs::AttrInfos::shared_steps))]
 fn all_shared(
     alloc: Global,
     grammar: &Grammar,
@@ -66,7 +66,7 @@ fn one_shared(
     Ok(())
 }
 
-#[tactic(auto, using(crate::proofs::AttrInfos::own_more, crate::proofs::AttrInfos::own_end))]
+#[tactic(auto, using(crate::proofs::AttrInfos::own_steps))]
 fn all_own(grammar: &Grammar, infos: &mut Items<AttrInfo>) -> Result<(), AllocError>
     requires small { HasSmallCounts grammar.now }
     ensures infos { OnOk result (infos.new ≡ infos.old
@@ -79,11 +79,7 @@ fn all_own(grammar: &Grammar, infos: &mut Items<AttrInfo>) -> Result<(), AllocEr
 }
 
 #[tactic(auto, unfolding(crate::specs::Told::own_told))]
-fn one_own(
-    grammar: &Grammar,
-    number: u32,
-    infos: &mut Items<AttrInfo>,
-) -> Result<(), AllocError>
+fn one_own(grammar: &Grammar, number: u32, infos: &mut Items<AttrInfo>) -> Result<(), AllocError>
     requires within { number < length grammar.now.classes }
     ensures infos { OnOk result (infos.new ≡ infos.old
         ++ own_told grammar.now (number, class_at grammar.now number)) }

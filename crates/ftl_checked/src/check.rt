@@ -22,11 +22,7 @@ use sqlite_items::Items;
 use std::alloc::Global;
 
 /// A lawful grammar with its numbers, or the first fault of the grammar.
-pub fn check_grammar(
-    alloc: Global,
-    grammar: Grammar,
-    width: Width,
-) -> Result<Checked, GrammarFault>
+pub fn check_grammar(alloc: Global, grammar: Grammar, width: Width) -> Result<Checked, GrammarFault>
     requires small { HasSmallCounts grammar }
     ensures exact { Gives OutOfMemory (λ c. c) result (checked_as grammar width) }
 {
@@ -38,10 +34,7 @@ pub fn check_grammar(
 }
 
 /// Looks at all conditions in order.
-fn conditions(
-    alloc: Global,
-    grammar: &Grammar,
-) -> Result<(Tables, Vec<RuleInfo>), GrammarFault>
+fn conditions(alloc: Global, grammar: &Grammar) -> Result<(Tables, Vec<RuleInfo>), GrammarFault>
     requires small { HasSmallCounts grammar.now }
     ensures finds { FindsInfos (first_fault grammar.now) result }
     ensures tables { IfOk result (λ r. r.0 ≡ tables_of grammar.now) }

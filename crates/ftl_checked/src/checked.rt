@@ -1,14 +1,16 @@
 //! A lawful grammar, with its numbers.
 ghost use Rattle.std.specs.Prelude.{◌≡◌, ◌<◌, None, length};
-ghost use Rattle.ftl_checked.specs.Checked.{all_attributes, all_rules, attribute_at, attribute_info};
-ghost use Rattle.ftl_checked.specs.Checked.{child_info};
+ghost use Rattle.ftl_checked.specs.Checked.{all_attributes, all_rules, attribute_at};
+ghost use Rattle.ftl_checked.specs.Checked.{attribute_info};
+ghost use Rattle.ftl_checked.specs.Checked.{child_info, class_named, field_named};
 ghost use Rattle.ftl_checked.specs.Checked.{rule_told};
 ghost use Rattle.ftl_checked.specs.FirstFault.{first_fault};
 ghost use Rattle.ftl_checked.specs.Kept.{IsKept};
 ghost use Rattle.ftl_checked.specs.Numbering.{class_at, child_at, interface_number, interface_of};
 
+use crate::fields::field_in;
 use crate::find::{child_of, class_table};
-use crate::info::{AttrInfo, ChildInfo, RuleInfo};
+use crate::info::{AttrInfo, ChildInfo, Field, RuleInfo};
 use crate::tables::Tables;
 use ftl_base::Width;
 use ftl_syntax::Grammar;
@@ -136,7 +138,9 @@ impl Checked {
         requires within { class < length self.now.grammar.classes }
         ensures count { result ≡ length (class_at self.now.grammar class).children }
     {
-        self.grammar.classes.as_slice()[class as usize].children.len() as u32
+        self.grammar.classes.as_slice()[class as usize]
+            .children
+            .len() as u32
     }
 
     pub fn child(&self, class: u32, child: u32) -> ChildInfo
@@ -153,5 +157,20 @@ impl Checked {
         ensures info { result ≡ rule_told self.now.grammar rule }
     {
         self.rules.as_slice()[rule as usize]
+    }
+
+    /// The class of this name.
+    pub fn find_class(&self, name: &str) -> Option<u32>
+        ensures class { result ≡ class_named self.now.grammar name.now }
+    {
+        self.tables.class_names.place(name)
+    }
+
+    /// The input or child that a field of this name is, of a node of this class.
+    pub fn find_field(&self, class: u32, name: &str) -> Option<Field>
+        requires within { class < length self.now.grammar.classes }
+        ensures field { result ≡ field_named self.now.grammar class name.now }
+    {
+        field_in(&self.grammar, &self.tables, class, name)
     }
 }

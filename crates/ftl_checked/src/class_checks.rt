@@ -35,7 +35,7 @@ pub(crate) fn rule_infos(
     Ok(infos)
 }
 
-#[tactic(auto, using(crate::proofs::FirstNumbered::placed_first_passes, crate::proofs::FirstNumbered::placed_first_stops, crate::proofs::FirstNumbered::numbered_first_ends, crate::proofs::RuleInfos::infos_more, crate::proofs::RuleInfos::infos_end))]
+#[tactic(auto, using(crate::proofs::RuleInfos::class_steps))]
 fn all_classes(
     alloc: Global,
     grammar: &Grammar,

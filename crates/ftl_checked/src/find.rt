@@ -56,11 +56,7 @@ pub(crate) fn interface_table<'a>(
     &tables.interfaces.as_slice()[interface as usize]
 }
 
-pub(crate) fn class_table<'a>(
-    grammar: &Grammar,
-    tables: &'a Tables,
-    class: u32,
-) -> &'a ClassTable
+pub(crate) fn class_table<'a>(grammar: &Grammar, tables: &'a Tables, class: u32) -> &'a ClassTable
     requires tables { tables.now ≡ tables_of grammar.now }
     requires within { class < length grammar.now.classes }
     ensures table { result.now ≡ class_entry grammar.now (class, class_at grammar.now class) }
@@ -167,12 +163,7 @@ pub(crate) fn child(
 }
 
 /// What is told of a child.
-pub(crate) fn child_of(
-    grammar: &Grammar,
-    tables: &Tables,
-    number: u32,
-    child: u32,
-) -> ChildInfo
+pub(crate) fn child_of(grammar: &Grammar, tables: &Tables, number: u32, child: u32) -> ChildInfo
     requires tables { tables.now ≡ tables_of grammar.now }
     requires within { number < length grammar.now.classes }
     requires child { child < length (class_at grammar.now number).children }

@@ -73,13 +73,7 @@ fn own(grammar: &Grammar, tables: &Tables, class: u32, attr: &str) -> Option<Rul
     }
 }
 
-fn kid(
-    grammar: &Grammar,
-    tables: &Tables,
-    class: u32,
-    name: &str,
-    attr: &str,
-) -> Option<RuleSlot>
+fn kid(grammar: &Grammar, tables: &Tables, class: u32, name: &str, attr: &str) -> Option<RuleSlot>
     requires small { HasSmallCounts grammar.now }
     requires tables { tables.now ≡ tables_of grammar.now }
     requires within { class < length grammar.now.classes }

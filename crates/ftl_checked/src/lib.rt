@@ -1,8 +1,8 @@
-//! What a grammar as it is written has to meet, and what its names stand for. Goes in: the syntax
-//! trees of `ftl_syntax` and the formulas of `ftl_formula`. Comes out: `specs/Numbering.antt`, the
-//! numbers that names stand for; `specs/Allowed.antt`, what a read by name is;
-//! `specs/RuleForms.antt`, what a rule defines; and `specs/FirstFault.antt`, the first fault of a
-//! grammar. There is no code here but the types of faults, and laws.
+//! The check of grammars. Goes in: a grammar as it is written, and the width of its numbers. Comes
+//! out: `Checked`, the lawful grammar with what its numbers stand for, or the first fault, which
+//! `specs/FirstFault.antt` defines. `specs/Numbering.antt` says what names stand for,
+//! `specs/Allowed.antt` what a read by name is, `specs/RuleForms.antt` what a rule defines, and
+//! `specs/Checked.antt` what the calls of `Checked` tell.
 #![tactic(auto)]
 
 mod attrs;
@@ -10,6 +10,7 @@ mod check;
 mod checked;
 mod class_checks;
 mod fault;
+mod fields;
 mod find;
 mod forms;
 mod info;

@@ -42,7 +42,7 @@ fn limit(what: What, most: usize, count: usize) -> Result<(), GrammarFault>
     Ok(())
 }
 
-#[tactic(auto, using(crate::proofs::First::first_of_passes, crate::proofs::First::first_of_stops, crate::proofs::First::first_of_ends))]
+#[tactic(auto, using(crate::proofs::First::first_steps))]
 fn interface_limits(interfaces: &[Interface]) -> Result<(), GrammarFault>
     requires small { All HasSmallInterface interfaces.now }
     ensures finds { Finds (first_of (λ x. too_many what.Attributes 64 (length x.attrs))
@@ -62,7 +62,7 @@ fn one_class_limits(class: &Class) -> Result<(), GrammarFault>
     limit(What::Children, 16, class.children.len())
 }
 
-#[tactic(auto, using(crate::proofs::First::first_of_passes, crate::proofs::First::first_of_stops, crate::proofs::First::first_of_ends))]
+#[tactic(auto, using(crate::proofs::First::first_steps))]
 fn classes_limits(classes: &[Class]) -> Result<(), GrammarFault>
     requires small { All HasSmallClass classes.now }
     ensures finds { Finds (first_of class_limits classes.now) result }
@@ -74,7 +74,7 @@ fn classes_limits(classes: &[Class]) -> Result<(), GrammarFault>
 }
 
 /// How many attributes the interfaces have.
-#[tactic(auto, using(crate::proofs::Counting::count_passes, crate::proofs::Counting::count_ends))]
+#[tactic(auto, using(crate::proofs::Counting::count_steps))]
 pub(crate) fn shared(interfaces: &[Interface]) -> usize
     requires small { IsSmall (shared_count interfaces.now) }
     ensures count { result ≡ shared_count interfaces.now }
@@ -87,7 +87,7 @@ pub(crate) fn shared(interfaces: &[Interface]) -> usize
 }
 
 /// How many attributes of their own the classes have.
-#[tactic(auto, using(crate::proofs::Counting::count_passes, crate::proofs::Counting::count_ends))]
+#[tactic(auto, using(crate::proofs::Counting::count_steps))]
 fn own(classes: &[Class]) -> usize
     requires small { IsSmall (own_count classes.now) }
     ensures count { result ≡ own_count classes.now }
@@ -99,7 +99,7 @@ fn own(classes: &[Class]) -> usize
     count
 }
 
-#[tactic(auto, using(crate::proofs::First::first_of_passes, crate::proofs::First::first_of_stops, crate::proofs::First::first_of_ends))]
+#[tactic(auto, using(crate::proofs::First::first_steps))]
 fn all_read_limits(alloc: Global, classes: &[Class]) -> Result<(), GrammarFault>
     requires small { All HasSmallClass classes.now }
     ensures finds { Finds (first_of (λ x. first_of read_limits x.rules) classes.now) result }
@@ -110,7 +110,7 @@ fn all_read_limits(alloc: Global, classes: &[Class]) -> Result<(), GrammarFault>
     Ok(())
 }
 
-#[tactic(auto, using(crate::proofs::First::first_of_passes, crate::proofs::First::first_of_stops, crate::proofs::First::first_of_ends))]
+#[tactic(auto, using(crate::proofs::First::first_steps))]
 fn rules_limits(alloc: Global, rules: &[Rule]) -> Result<(), GrammarFault>
     requires small { All HasSmallRule rules.now }
     ensures finds { Finds (first_of read_limits rules.now) result }
@@ -147,7 +147,7 @@ fn expr_limit(alloc: Global, expr: &Expr) -> Result<(), GrammarFault>
 }
 
 /// How many reads these are, without `acc`.
-#[tactic(auto, using(crate::proofs::Counting::passing_one, crate::proofs::Counting::passing_ends))]
+#[tactic(auto, using(crate::proofs::Counting::passing_steps))]
 fn counted(reads: &[ReadRef<'_>]) -> usize
     ensures count { result ≡ length (filter is_counted reads.now) }
 {

@@ -44,7 +44,7 @@ fn names_in_turn(alloc: Global, grammar: &Grammar, tables: &Tables) -> Result<()
     ensures finds { Finds (first_there (
         twice_among (interface_names grammar.now ++ class_names grammar.now)
         ∷ fault_if (not (is_among (interface_names grammar.now) grammar.now.root))
-            (fault.RootMissing grammar.now.root)
+        (fault.RootMissing grammar.now.root)
         ∷ first_of shown_fault grammar.now.interfaces
         ∷ first_of (interfaces_fault grammar.now) grammar.now.classes
         ∷ first_of once_fault grammar.now.interfaces
@@ -63,7 +63,7 @@ fn names_in_turn(alloc: Global, grammar: &Grammar, tables: &Tables) -> Result<()
 }
 
 /// Looks for a name that stands before, and gives the first at its second place.
-#[tactic(auto, using(crate::proofs::Seconds::second_passes, crate::proofs::Seconds::second_stops, crate::proofs::Seconds::second_ends))]
+#[tactic(auto, using(crate::proofs::Seconds::second_steps))]
 fn no_twice(table: &NameTable) -> Result<(), GrammarFault>
     ensures finds { Finds (twice_among table.now) result }
 {
@@ -120,7 +120,7 @@ fn is_interface(grammar: &Grammar, tables: &Tables, name: &Name) -> bool
     (interface_number(grammar, &tables.names, name) as usize) < grammar.interfaces.len()
 }
 
-#[tactic(auto, using(crate::proofs::First::first_of_passes, crate::proofs::First::first_of_stops, crate::proofs::First::first_of_ends))]
+#[tactic(auto, using(crate::proofs::First::first_steps))]
 fn all_shown_known(grammar: &Grammar, tables: &Tables) -> Result<(), GrammarFault>
     requires small { HasSmallCounts grammar.now }
     requires tables { tables.now ≡ tables_of grammar.now }
@@ -142,7 +142,7 @@ fn shown_known(grammar: &Grammar, tables: &Tables, number: u32) -> Result<(), Gr
     all_known(names, interface(grammar, number).shown.as_slice())
 }
 
-#[tactic(auto, using(crate::proofs::First::first_of_passes, crate::proofs::First::first_of_stops, crate::proofs::First::first_of_ends))]
+#[tactic(auto, using(crate::proofs::First::first_steps))]
 fn all_known(table: &NameTable, names: &[Name]) -> Result<(), GrammarFault>
     ensures finds { Finds (first_of (unknown_fault table.now) names.now) result }
 {
@@ -162,7 +162,7 @@ fn known(table: &NameTable, name: &Name) -> Result<(), GrammarFault>
     Ok(())
 }
 
-#[tactic(auto, using(crate::proofs::First::first_of_passes, crate::proofs::First::first_of_stops, crate::proofs::First::first_of_ends))]
+#[tactic(auto, using(crate::proofs::First::first_steps))]
 fn all_interfaces_known(grammar: &Grammar, tables: &Tables) -> Result<(), GrammarFault>
     requires small { HasSmallCounts grammar.now }
     requires tables { tables.now ≡ tables_of grammar.now }
@@ -175,11 +175,7 @@ fn all_interfaces_known(grammar: &Grammar, tables: &Tables) -> Result<(), Gramma
 }
 
 #[tactic(auto, unfolding(crate::specs::NameFaults::interfaces_fault))]
-fn interfaces_known(
-    grammar: &Grammar,
-    tables: &Tables,
-    class: &Class,
-) -> Result<(), GrammarFault>
+fn interfaces_known(grammar: &Grammar, tables: &Tables, class: &Class) -> Result<(), GrammarFault>
     requires small { HasSmallCounts grammar.now }
     requires tables { tables.now ≡ tables_of grammar.now }
     ensures finds { Finds (interfaces_fault grammar.now class.now) result }
@@ -188,7 +184,7 @@ fn interfaces_known(
     kid_interfaces_known(grammar, tables, class.children.as_slice())
 }
 
-#[tactic(auto, using(crate::proofs::First::first_of_passes, crate::proofs::First::first_of_stops, crate::proofs::First::first_of_ends))]
+#[tactic(auto, using(crate::proofs::First::first_steps))]
 fn kid_interfaces_known(
     grammar: &Grammar,
     tables: &Tables,
@@ -229,7 +225,7 @@ fn interface_known(grammar: &Grammar, tables: &Tables, name: &Name) -> Result<()
     Ok(())
 }
 
-#[tactic(auto, using(crate::proofs::First::first_of_passes, crate::proofs::First::first_of_stops, crate::proofs::First::first_of_ends))]
+#[tactic(auto, using(crate::proofs::First::first_steps))]
 fn interfaces_once(alloc: Global, grammar: &Grammar, tables: &Tables) -> Result<(), GrammarFault>
     requires small { HasSmallCounts grammar.now }
     requires tables { tables.now ≡ tables_of grammar.now }
@@ -268,12 +264,8 @@ pub(crate) fn copies(alloc: Global, names: &[Name]) -> Result<Items<Name>, Alloc
     Ok(found)
 }
 
-#[tactic(auto, using(crate::proofs::NameLists::once_passes, crate::proofs::NameLists::once_stops, crate::proofs::NameLists::once_ends))]
-fn classes_once(
-    grammar: &Grammar,
-    tables: &Tables,
-    none: &NameTable,
-) -> Result<(), GrammarFault>
+#[tactic(auto, using(crate::proofs::NameLists::once_steps))]
+fn classes_once(grammar: &Grammar, tables: &Tables, none: &NameTable) -> Result<(), GrammarFault>
     requires small { HasSmallCounts grammar.now }
     requires tables { tables.now ≡ tables_of grammar.now }
     requires none { none.now ≡ [] }
@@ -335,7 +327,7 @@ fn fields_in_turn(
 }
 
 /// Looks for a name that stands before, in one of two other tables or in this one.
-#[tactic(auto, using(crate::proofs::Seconds::after_passes, crate::proofs::Seconds::after_stops, crate::proofs::Seconds::after_ends))]
+#[tactic(auto, using(crate::proofs::Seconds::after_steps))]
 fn once_after(first: &NameTable, then: &NameTable, table: &NameTable) -> Result<(), GrammarFault>
     ensures finds { Finds (option_map fault.TwiceNamed
         (second_name (first.now ++ then.now) table.now)) result }

@@ -45,12 +45,7 @@ pub(crate) fn missing(
     needs(grammar, tables, number, ruled)
 }
 
-fn needs(
-    grammar: &Grammar,
-    tables: &Tables,
-    number: u32,
-    ruled: &Ruled,
-) -> Result<(), GrammarFault>
+fn needs(grammar: &Grammar, tables: &Tables, number: u32, ruled: &Ruled) -> Result<(), GrammarFault>
     requires small { HasSmallCounts grammar.now }
     requires tables { tables.now ≡ tables_of grammar.now }
     requires within { number < length grammar.now.classes }
@@ -58,7 +53,7 @@ fn needs(
         ≡ slots_of grammar.now number (class_at grammar.now number).rules }
     ensures finds { Finds (first_there (
         first_of (need_of grammar.now number None)
-            (shared_attributes grammar.now (interface_of grammar.now number))
+        (shared_attributes grammar.now (interface_of grammar.now number))
         ∷ first_of (need_of grammar.now number None) (own_attributes grammar.now number)
         ∷ first_of (kid_need grammar.now number) (children_of grammar.now number) ∷ [])) result }
 {
@@ -87,7 +82,7 @@ fn own_needs(
     needs_in(grammar, number, ruled, &None, own, start)
 }
 
-#[tactic(auto, using(crate::proofs::FirstNumbered::placed_first_passes, crate::proofs::FirstNumbered::placed_first_stops, crate::proofs::FirstNumbered::numbered_first_ends))]
+#[tactic(auto, using(crate::proofs::FirstNumbered::placed_steps))]
 fn kids_needs(
     grammar: &Grammar,
     tables: &Tables,
@@ -103,7 +98,12 @@ fn kids_needs(
     ensures finds { Finds (first_of (kid_need grammar.now number)
         (children_of grammar.now number)) result }
 {
-    for (place, child) in class(grammar, number).children.as_slice().iter().enumerate() {
+    for (place, child) in class(grammar, number)
+        .children
+        .as_slice()
+        .iter()
+        .enumerate()
+    {
         one_kid(grammar, tables, number, ruled, place as u32, child)?;
     }
     Ok(())
@@ -159,7 +159,7 @@ fn interface_needs(
 }
 
 /// Looks at attributes that are numbered from `start` on.
-#[tactic(auto, using(crate::proofs::FirstNumbered::numbered_first_passes, crate::proofs::FirstNumbered::numbered_first_stops, crate::proofs::FirstNumbered::numbered_first_ends))]
+#[tactic(auto, using(crate::proofs::FirstNumbered::numbered_steps))]
 fn needs_in(
     grammar: &Grammar,
     number: u32,

@@ -157,7 +157,7 @@ fn form_reads(
     }
 }
 
-#[tactic(auto, using(crate::proofs::First::first_of_passes, crate::proofs::First::first_of_stops, crate::proofs::First::first_of_ends))]
+#[tactic(auto, using(crate::proofs::First::first_steps))]
 fn part_reads(
     alloc: Global,
     grammar: &Grammar,

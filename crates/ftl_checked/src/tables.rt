@@ -43,6 +43,7 @@ pub struct ClassTable {
 pub struct Tables {
     /// The names of the interfaces, and then of the classes.
     pub names: NameTable,
+    pub class_names: NameTable,
     pub interfaces: Items<InterfaceTable>,
     pub classes: Items<ClassTable>,
 }
@@ -53,10 +54,12 @@ pub(crate) fn build_tables(alloc: Global, grammar: &Grammar) -> Result<Tables, A
     ensures tables { IfOk result (λ t. t ≡ tables_of grammar.now) }
 {
     let names = NameTable::new(alloc, grammar_names(alloc, grammar)?)?;
+    let class_names = NameTable::new(alloc, names_of(alloc, grammar.classes.as_slice())?)?;
     let interfaces = interface_tables(alloc, grammar.interfaces.as_slice())?;
     let classes = class_tables(alloc, grammar, &names)?;
     Ok(Tables {
         names,
+        class_names,
         interfaces,
         classes,
     })
@@ -70,6 +73,16 @@ fn grammar_names(alloc: Global, grammar: &Grammar) -> Result<Items<Name>, AllocE
         names.push(interface.name.copy()?)?;
     }
     for class in grammar.classes.as_slice() {
+        names.push(class.name.copy()?)?;
+    }
+    Ok(names)
+}
+
+fn names_of(alloc: Global, classes: &[Class]) -> Result<Items<Name>, AllocError>
+    ensures names { IfOk result (λ n. n ≡ map (λ k. k.name) classes.now) }
+{
+    let mut names = Items::new(alloc);
+    for class in classes {
         names.push(class.name.copy()?)?;
     }
     Ok(names)
@@ -95,7 +108,7 @@ fn child_names(alloc: Global, children: &[Child]) -> Result<Items<Name>, AllocEr
     Ok(names)
 }
 
-#[tactic(auto, using(crate::proofs::Numbered::numbered_passes, crate::proofs::Numbered::numbered_ends, crate::proofs::Numbered::count_more, crate::proofs::Numbered::count_within))]
+#[tactic(auto, using(crate::proofs::Numbered::numbered_steps))]
 fn interface_tables(
     alloc: Global,
     interfaces: &[Interface],
@@ -125,7 +138,7 @@ fn one_interface(
     Ok(InterfaceTable { start, names })
 }
 
-#[tactic(auto, using(crate::proofs::Numbered::numbered_passes, crate::proofs::Numbered::numbered_ends, crate::proofs::Numbered::count_more, crate::proofs::Numbered::count_within))]
+#[tactic(auto, using(crate::proofs::Numbered::numbered_steps))]
 fn class_tables(
     alloc: Global,
     grammar: &Grammar,

@@ -1,7 +1,7 @@
 //! The tokens of a text go in and the grammar that they spell comes out, or the place at which they
 //! go wrong. `specs/Read.antt` says what is answered; which tokens spell which grammar stands in
 //! `ftl_syntax`, in `specs/GrammarSpelling.antt` and `specs/Spelling.antt`, a line of the syntax
-//! each. Expressions are read by `ftl_expression`.
+//! each. Expressions are read by `ftl_expression`, and `ftl_printing` prints grammars.
 #![tactic(auto)]
 
 mod attrs;
@@ -12,10 +12,11 @@ mod read;
 mod rules;
 
 pub use fault::SyntaxFault;
+pub use ftl_printing::print_grammar;
 pub use ftl_syntax::{
     Atom, AttrDecl, AttrDecls, AttrKind, Body, Child, ChildList, Class, ClassList, Cond, Conj,
     ConjList, Expr, Factor, Factors, Grammar, Interface, InterfaceList, NameList, Read, Rule,
     RuleList, SignedTerm, SignedTerms, Sum, Target, Term, Test, TestList, Unary,
 };
-pub use laws::one_answer;
+pub use laws::{one_answer, printed_grammars_are_read};
 pub use read::read_grammar;

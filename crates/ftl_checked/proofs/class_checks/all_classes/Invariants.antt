@@ -1,5 +1,4 @@
 use Rattle.std.proofs.Common.{◌≡◌, ◌++◌, drop, flat_map}
-use Rattle.ftl_syntax.specs.declared.rules.Class.{Class}
 use Rattle.ftl_checked.specs.FirstFault.{class_fault, first_of}
 use Rattle.ftl_checked.specs.Needs.{infos_of}
 use Rattle.ftl_checked.specs.Numbering.{numbered}
@@ -10,5 +9,5 @@ invariant-loop-number l = record {
   faults : first_of (λ k. class_fault l.grammar k.0) (numbered 0 l.grammar.classes)
       ≡ first_of (λ k. class_fault l.grammar k.0) (numbered l.number (drop l.number l.grammar.classes));
   infos : l.infos.items ++ flat_map (infos_of l.grammar) (numbered l.number (drop l.number l.grammar.classes))
-      ≡ l.initial.infos.items ++ flat_map (infos_of l.grammar) (numbered 0 l.grammar.classes)
+      ≡ l.initial.infos.items ++ flat_map (infos_of l.grammar) (numbered 0 l.grammar.classes);
 }

@@ -1,9 +1,7 @@
-use Rattle.std.proofs.Common.{arith, ◌≡◌, ◌+◌, ◌<◌, ℕ, length, Option, Some, None, sym, ◌∙◌, ap, subst}
+use Rattle.std.proofs.Common.{arith}
 use Rattle.std.proofs.lemmas.Grind.{common_steps}
 use Rattle.std.proofs.Common.{[], false}
 use Rattle.ftl_syntax.specs.Trees as trees
-use Rattle.ftl_syntax.specs.declared.rules.AttrKind.TheVariants.{Inh}
-use Rattle.ftl_checked.specs.Tables.{interface_entry, class_entry, tables_of}
 use Rattle.ftl_checked.specs.Numbering.{class_at}
 use Rattle.ftl_checked.specs.Checked.{child_info}
 use Rattle.ftl_checked.proofs.Finding.{made_at}
@@ -12,5 +10,5 @@ use Rattle.ftl_checked.proofs.find.child_of.Goals as goal
 pub returns : goal.returns
 returns c =
     let here = made_at (child_info c.args.grammar.now) (class_at c.args.grammar.now c.args.number).children c.args.child
-        (record { interface = 0; many = false }) (trees.child [] [] false) c.requires.child in
+    (record { interface = 0; many = false }) (trees.child [] [] false) c.requires.child in
     grind (arith, common_steps)

@@ -1,9 +1,8 @@
-use Rattle.std.proofs.Common.{arith, ◌≡◌, ◌+◌, ◌<◌, ℕ, length, Option, Some, None, sym, ◌∙◌, ap, subst}
+use Rattle.std.proofs.Common.{arith, ◌≡◌, ◌+◌}
 use Rattle.std.proofs.lemmas.Grind.{common_steps}
 use Rattle.std.proofs.Common.{[]}
 use Rattle.ftl_syntax.specs.Trees as trees
-use Rattle.ftl_syntax.specs.declared.rules.AttrKind.TheVariants.{Inh}
-use Rattle.ftl_checked.specs.Tables.{interface_entry, class_entry, tables_of}
+use Rattle.ftl_checked.specs.Tables.{class_entry}
 use Rattle.ftl_checked.proofs.Finding.{numbered_length, numbered_at}
 use Rattle.ftl_checked.proofs.find.class_table.Goals as goal
 

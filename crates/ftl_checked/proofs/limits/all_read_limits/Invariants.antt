@@ -1,6 +1,5 @@
-use Rattle.std.proofs.Common.{◌≡◌, drop, length}
-use Rattle.ftl_checked.specs.FirstFault.{first_of, too_many, class_limits, read_limits}
-use Rattle.ftl_checked.specs.declared.fault.What.TheVariants as what
+use Rattle.std.proofs.Common.{◌≡◌, drop}
+use Rattle.ftl_checked.specs.FirstFault.{first_of, read_limits}
 use Rattle.ftl_checked.proofs.limits.all_read_limits.Given as goal
 
 abbrev pub invariant-loop-class : goal.invariant-loop-class

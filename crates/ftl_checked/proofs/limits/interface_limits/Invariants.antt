@@ -1,5 +1,5 @@
 use Rattle.std.proofs.Common.{◌≡◌, drop, length}
-use Rattle.ftl_checked.specs.FirstFault.{first_of, too_many, class_limits, read_limits}
+use Rattle.ftl_checked.specs.FirstFault.{first_of, too_many}
 use Rattle.ftl_checked.specs.declared.fault.What.TheVariants as what
 use Rattle.ftl_checked.proofs.limits.interface_limits.Given as goal
 

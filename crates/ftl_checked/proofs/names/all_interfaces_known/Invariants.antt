@@ -1,7 +1,6 @@
-use Rattle.std.proofs.Common.{◌≡◌, ◌++◌, ◌<◌, [], take, drop, length, false}
-use Rattle.ftl_checked.specs.FirstFault.{first_of, second_name}
-use Rattle.ftl_checked.specs.NameFaults.{class_once_fault, interfaces_fault, kid_interface_fault, once_fault, shown_fault, unknown_fault}
-use Rattle.ftl_checked.specs.Numbering.{numbered}
+use Rattle.std.proofs.Common.{◌≡◌, drop}
+use Rattle.ftl_checked.specs.FirstFault.{first_of}
+use Rattle.ftl_checked.specs.NameFaults.{interfaces_fault}
 use Rattle.ftl_checked.proofs.names.all_interfaces_known.Given as goal
 
 abbrev pub invariant-loop-class : goal.invariant-loop-class

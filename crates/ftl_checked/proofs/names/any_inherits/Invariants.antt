@@ -1,4 +1,4 @@
-use Rattle.std.proofs.Common.{◌≡◌, ◌++◌, ◌<◌, [], take, drop, length, false}
+use Rattle.std.proofs.Common.{◌≡◌, drop}
 use Rattle.std.specs.List.{list_any}
 use Rattle.ftl_syntax.specs.declared.rules.AttrDecl.{AttrDecl}
 use Rattle.ftl_checked.specs.RuleForms.{is_inherited}

@@ -1,8 +1,5 @@
-use Rattle.std.proofs.Common.{arith, ◌≡◌, Option, sym, ◌∙◌, ap, subst, List, [], false, nat_lt}
+use Rattle.std.proofs.Common.{arith}
 use Rattle.std.proofs.lemmas.Grind.{common_steps}
-use Rattle.std.proofs.lemmas.Bool.Decides.{nat_tests}
-use Rattle.ftl_checked.specs.Finds.{Finds}
-use Rattle.ftl_checked.specs.declared.fault.GrammarFault.{GrammarFault}
 use Rattle.ftl_checked.proofs.NameLists.{class_interface_within, shared_once, class_once_by}
 use Rattle.ftl_checked.proofs.names.class_once.Goals as goal
 

@@ -1,5 +1,4 @@
 use Rattle.std.proofs.Common.{arith, ◌≡◌, ℕ, ◌<◌, None, Err, drop, length, sym, subst, ◌∙◌}
-use Rattle.std.proofs.lemmas.Grind.{common_steps}
 use Rattle.ftl_checked.specs.NameFaults.{classes_fault}
 use Rattle.ftl_checked.proofs.NameLists.{err_is, once_ends, once_stops}
 use Rattle.ftl_checked.proofs.names.classes_once.Goals as goal

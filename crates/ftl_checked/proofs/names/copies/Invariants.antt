@@ -1,4 +1,4 @@
-use Rattle.std.proofs.Common.{◌≡◌, ◌++◌, ◌<◌, [], take, drop, length, false}
+use Rattle.std.proofs.Common.{◌≡◌, take}
 use Rattle.ftl_checked.proofs.names.copies.Given as goal
 
 abbrev pub invariant-loop-name : goal.invariant-loop-name

@@ -1,6 +1,4 @@
-use Rattle.std.proofs.Common.{arith, ◌≡◌, Option, sym, ◌∙◌, ap, subst, List, [], false, nat_lt}
-use Rattle.std.proofs.lemmas.Grind.{common_steps}
-use Rattle.std.proofs.lemmas.Bool.Decides.{nat_tests}
+use Rattle.std.proofs.Common.{Option, sym, subst}
 use Rattle.ftl_checked.specs.Finds.{Finds}
 use Rattle.ftl_checked.specs.declared.fault.GrammarFault.{GrammarFault}
 use Rattle.ftl_checked.proofs.NameLists.{fields_are}
@@ -9,5 +7,7 @@ use Rattle.ftl_checked.proofs.names.fields_once.Goals as goal
 pub returns : goal.returns
 returns c =
     let P : Option GrammarFault → Type 0 = λ o. Finds o c.fields_in_turn.result in
-    record { finds = subst P (sym (fields_are c.args.shared.now c.args.own.now c.args.children.now c.args.none.now c.requires.none c.requires.shared))
-        c.fields_in_turn.ensures.finds }
+    record {
+      finds = subst P (sym (fields_are c.args.shared.now c.args.own.now c.args.children.now c.args.none.now c.requires.none c.requires.shared))
+          c.fields_in_turn.ensures.finds;
+    }

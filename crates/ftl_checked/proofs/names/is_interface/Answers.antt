@@ -1,6 +1,5 @@
-use Rattle.std.proofs.Common.{arith, ◌≡◌, Option, sym, ◌∙◌, ap, subst, List, [], false, nat_lt}
+use Rattle.std.proofs.Common.{arith}
 use Rattle.std.proofs.lemmas.Grind.{common_steps}
-use Rattle.std.proofs.lemmas.Bool.Decides.{nat_tests}
 use Rattle.ftl_checked.proofs.NameLists.{known_is}
 use Rattle.ftl_checked.proofs.names.is_interface.Goals as goal
 

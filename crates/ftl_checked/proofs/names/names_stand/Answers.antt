@@ -1,6 +1,4 @@
-use Rattle.std.proofs.Common.{arith, ◌≡◌, Option, sym, ◌∙◌, ap, subst, List, [], false, nat_lt}
-use Rattle.std.proofs.lemmas.Grind.{common_steps}
-use Rattle.std.proofs.lemmas.Bool.Decides.{nat_tests}
+use Rattle.std.proofs.Common.{Option, sym, subst}
 use Rattle.ftl_checked.specs.Finds.{Finds}
 use Rattle.ftl_checked.specs.declared.fault.GrammarFault.{GrammarFault}
 use Rattle.ftl_checked.proofs.NameLists.{name_fault_is}

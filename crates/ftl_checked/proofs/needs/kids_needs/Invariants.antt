@@ -1,4 +1,4 @@
-use Rattle.std.proofs.Common.{◌≡◌, ◌+◌, drop}
+use Rattle.std.proofs.Common.{◌≡◌, drop}
 use Rattle.ftl_checked.specs.FirstFault.{first_of}
 use Rattle.ftl_checked.specs.Needs.{kid_need}
 use Rattle.ftl_checked.specs.Numbering.{children_of, numbered, class_at}

@@ -1,6 +1,5 @@
-use Rattle.std.proofs.Common.{arith, ◌≡◌, ◌<◌, ◌+◌, ◌++◌, ◌∷◌, [], Some, ap, sym, ◌∙◌, length, get_or, drop}
+use Rattle.std.proofs.Common.{arith, ◌≡◌, ◌+◌, ◌∷◌, Some, drop}
 use Rattle.std.proofs.lemmas.Grind.{common_steps}
-use Rattle.ftl_syntax.specs.declared.rules.Rule.{Rule}
 use Rattle.ftl_checked.specs.RuleForms.{slot_of}
 use Rattle.ftl_checked.specs.Slots.{slot_in}
 use Rattle.ftl_checked.proofs.Counting.{left_by}
@@ -22,5 +21,5 @@ loop-rule-preserved c =
     record {
       faults = grind (arith, common_steps);
       slots = grind (arith, common_steps);
-      infos = grind (arith, common_steps)
+      infos = grind (arith, common_steps);
     }

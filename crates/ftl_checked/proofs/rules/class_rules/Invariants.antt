@@ -13,5 +13,5 @@ invariant-loop-rule l = record {
   slots : l.ruled ++ slots_of l.grammar l.number (drop l.rule-index l.rule-items)
       ≡ slots_of l.grammar l.number l.rule-items;
   infos : l.infos.items ++ map (λ (r : Rule). info_by l.number (slot_of l.grammar l.number r.target)) (drop l.rule-index l.rule-items)
-      ≡ l.initial.infos.items ++ map (λ (r : Rule). info_by l.number (slot_of l.grammar l.number r.target)) l.rule-items
+      ≡ l.initial.infos.items ++ map (λ (r : Rule). info_by l.number (slot_of l.grammar l.number r.target)) l.rule-items;
 }

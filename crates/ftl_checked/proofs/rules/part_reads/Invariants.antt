@@ -12,5 +12,5 @@ use Rattle.ftl_checked.proofs.rules.part_reads.Given as goal
 abbrev pub invariant-loop-read : goal.invariant-loop-read
 invariant-loop-read l =
     let F : ReadName → Option GrammarFault = λ r. fault_if (is_none (leaf_of l.grammar l.number (position_of l.part.at) r))
-        (fault.BadRead (rule_name (class_at l.grammar l.number) l.target) r) in
+    (fault.BadRead (rule_name (class_at l.grammar l.number) l.target) r) in
     first_of F l.read-items ≡ first_of F (drop l.read-index l.read-items)

@@ -1,4 +1,4 @@
-use Rattle.std.proofs.Common.{◌≡◌, ◌+◌, ◌++◌, ◌<◌, ◌≤◌, map, take, drop, length, ℕ}
+use Rattle.std.proofs.Common.{◌≡◌, take}
 use Rattle.ftl_checked.specs.FirstFault.{attribute_names}
 use Rattle.ftl_checked.proofs.tables.attr_names.Given as goal
 

@@ -1,4 +1,4 @@
-use Rattle.std.proofs.Common.{◌≡◌, ◌+◌, ◌++◌, ◌<◌, ◌≤◌, map, take, drop, length, ℕ}
+use Rattle.std.proofs.Common.{◌≡◌, map, take}
 use Rattle.ftl_checked.proofs.tables.child_names.Given as goal
 
 abbrev pub invariant-loop-child : goal.invariant-loop-child

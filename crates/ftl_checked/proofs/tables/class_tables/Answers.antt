@@ -1,4 +1,4 @@
-use Rattle.std.proofs.Common.{arith, ◌+◌, length}
+use Rattle.std.proofs.Common.{arith}
 use Rattle.std.proofs.lemmas.Grind.{common_steps}
 use Rattle.ftl_syntax.specs.declared.rules.Class.{Class}
 use Rattle.ftl_checked.proofs.Numbered.{count_within}

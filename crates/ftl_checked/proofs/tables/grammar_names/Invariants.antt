@@ -1,5 +1,5 @@
-use Rattle.std.proofs.Common.{◌≡◌, ◌+◌, ◌++◌, ◌<◌, ◌≤◌, map, take, drop, length, ℕ}
-use Rattle.ftl_checked.specs.Numbering.{class_names, interface_names, numbered, own_count, shared_count}
+use Rattle.std.proofs.Common.{◌≡◌, ◌++◌, map, take}
+use Rattle.ftl_checked.specs.Numbering.{interface_names}
 use Rattle.ftl_checked.proofs.tables.grammar_names.Given as goal
 
 abbrev pub invariant-loop-interface : goal.invariant-loop-interface

@@ -1,4 +1,4 @@
-use Rattle.std.proofs.Common.{refl, sym, ◌∙◌, ap}
+use Rattle.std.proofs.Common.{refl, ◌∙◌, ap}
 use Rattle.std.specs.List.{list_any}
 use Rattle.ftl_checked.specs.FirstFault.{same_slot}
 use Rattle.ftl_checked.specs.Slots.{slot_in}
@@ -7,8 +7,10 @@ use Rattle.ftl_checked.proofs.SlotSets.{any_slot}
 use Rattle.ftl_checked.proofs.slots.Ruled.has.Goals as goal
 
 pub returns : goal.returns
-returns c = record { has =
-    c.contains.ensures
-    ∙ any_slot block.ghosts.eq (record { own_own = λ a b. refl; own_kid = λ a k b. refl; kid_own = λ k a b. refl; kid_kid = λ k a l b. refl })
-        c.args.slot c.self.inside.slots.keys
-    ∙ ap (list_any (same_slot (slot_in c.args.slot))) c.self.view_is }
+returns c = record {
+  has =
+      c.contains.ensures
+      ∙ any_slot block.ghosts.eq (record { own_own = λ a b. refl; own_kid = λ a k b. refl; kid_own = λ k a b. refl; kid_kid = λ k a l b. refl })
+      c.args.slot c.self.inside.slots.keys
+      ∙ ap (list_any (same_slot (slot_in c.args.slot))) c.self.view_is;
+}

@@ -1,0 +1,4 @@
+pub mod Fitting
+pub mod Automatic
+pub mod AutomaticLaws
+pub mod WorkedGrammars

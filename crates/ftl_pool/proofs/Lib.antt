@@ -1,0 +1,5 @@
+pub mod Balances
+pub mod Plays
+pub mod Putting
+pub mod Deques
+pub mod Taking

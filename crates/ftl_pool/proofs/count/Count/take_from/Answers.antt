@@ -1,0 +1,15 @@
+use Rattle.std.proofs.Common.{ap, sym, ◌∙◌}
+use Rattle.ftl_pool.specs.Count.{PoolModel, TallyModel}
+use Rattle.ftl_pool.proofs.Plays.{take_asks}
+use Rattle.ftl_pool.proofs.count.Count.take_from.Goals as goal
+
+pub compare_exchange-requires : goal.compare_exchange-requires
+compare_exchange-requires c =
+    let of = ap (λ (t : TallyModel). t.state.items) c.tally.view_is ∙ c.requires.made.1 in
+    let is = ap (λ (p : PoolModel). p.items) c.self.view_is in
+    let table = ap (λ (t : TallyModel). t.table) c.tally.view_is ∙ c.requires.made.0
+    ∙ sym (ap (λ (p : PoolModel). p.table) c.self.view_is) in
+    let asks = take_asks c.args.self.now.items c.self.inside.table.shared.key c.self.inside.table.shared.table_id
+    c.tally.inside.seat.id c.tally.inside.seat.me of is c.self.invariant.0 c.self.invariant.2
+    c.args.count c.requires.some in
+    (table, asks.0, asks.1)

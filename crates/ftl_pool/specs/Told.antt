@@ -1,0 +1,17 @@
+-- What each step on the count tells the seat that makes it.
+use Rattle.std.specs.Prelude.{◌≡◌, ◌≢◌, ℕ}
+use Rattle.atomic_table.specs.Table.{Step, Me}
+use Rattle.ftl_pool.specs.Count.{Counted, IsMoment, after_load, after_put, after_take}
+
+-- what a seat knows, with the slots that it holds, which are none
+abbrev pub Known : Type 0
+Known = Me ℕ Counted
+
+abbrev pub load_told : Step ℕ → Known → ℕ → Known → Type 0
+load_told st me n new = IsMoment n me.0 × (new ≡ (after_load me.0 n, me.1))
+
+abbrev pub put_told : Step ℕ → Known → ℕ → Known → Type 0
+put_told st me n new = new ≡ (after_put me.0, me.1)
+
+abbrev pub take_told : Step ℕ → Known → ℕ → Known → Type 0
+take_told st me n new = (n ≡ st.first → new ≡ (after_take me.0, me.1)) × (n ≢ st.first → new ≡ me)

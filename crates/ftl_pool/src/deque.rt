@@ -1,0 +1,168 @@
+// A deque of items under its rule: its owner's end, and the way to it from another hold.
+ghost use Rattle.std.specs.Prelude.{◌≡◌, ◌+◌, ◌<◌, ◌≤◌, [], ◌∷◌, ◌++◌, length, IfOk};
+ghost use Rattle.ftl_pool.specs.Deque.{TakesItem, PassTakes, OnePassTakes, new_pass};
+
+use crossbeam_deque::protocol::{Outcome, Protocol};
+use crossbeam_deque::{Pass, Steal, Stealer, Worker};
+use std::alloc::{AllocError, Global};
+use std::marker::Model;
+
+/// What contracts say of a pass. It has no bytes.
+pub(crate) struct Passed {}
+
+impl Model for Passed {
+    ghost use Rattle.ftl_pool.specs.Deque.{PassModel, new_pass};
+
+    ghost Value = { PassModel };
+
+    ghost view = { λ _. new_pass };
+}
+
+/// What was put is what was taken and what is there.
+pub(crate) struct Fair;
+
+impl Protocol<u32, Passed> for Fair {
+    ghost use Rattle.ftl_pool.specs.Deque.{IsFair, new_pass};
+
+    ghost holds = { IsFair };
+
+    ghost first = { new_pass };
+
+    ghost guest = { new_pass };
+}
+
+struct Puts;
+
+impl Outcome<u32, Passed> for Puts {
+    ghost use Rattle.ftl_pool.specs.Deque.{puts_told};
+
+    ghost then = { puts_told };
+}
+
+struct Takes;
+
+impl Outcome<u32, Passed> for Takes {
+    ghost use Rattle.ftl_pool.specs.Deque.{takes_told};
+
+    ghost then = { takes_told };
+}
+
+/// The owner's end.
+#[derive(Drop)]
+pub(crate) struct Own {
+    deque: Worker<u32, Global, Passed, Fair>,
+    room: u32,
+    count: usize,
+}
+
+impl Model for Own {
+    ghost use Rattle.std.specs.Prelude.{◌≡◌, ◌≤◌, length};
+    ghost use Rattle.crossbeam_deque.specs.Handles.{worker_view, worker_flavor};
+    ghost use Rattle.crossbeam_deque.specs.Handles.{worker_capacity, worker_index};
+    ghost use Rattle.ftl_pool.specs.Deque.{OwnModel};
+
+    ghost Value = { OwnModel };
+
+    ghost view = { λ o. record {
+      put = (worker_view o.deque).put;
+      taken = (worker_view o.deque).taken;
+      room = o.room;
+    } };
+
+    ghost invariant = { λ o. (worker_flavor o.deque ≡ 0) × (o.room ≤ worker_capacity o.deque)
+        × (worker_index o.deque ≤ o.count) × (o.count ≡ length (worker_view o.deque).put) };
+}
+
+impl Own {
+    /// An empty deque, with room for all that is ever put.
+    pub(crate) fn new(alloc: Global, room: u32) -> Result<Own, AllocError>
+        ensures { IfOk result (λ o. o ≡ record { put = []; taken = []; room = room }) }
+    {
+        let deque = Worker::fifo_as(alloc, room as usize)?;
+        Ok(Own {
+            deque,
+            room,
+            count: 0,
+        })
+    }
+
+    /// How many items were put.
+    pub(crate) fn count(&self) -> usize
+        ensures { result ≡ length self.now.put }
+    {
+        self.count
+    }
+
+    pub(crate) fn push(&mut self, item: u32)
+        requires { length self.old.put < self.old.room }
+        ensures put { self.new.put ≡ self.old.put ++ item ∷ [] }
+        ensures taken { self.new.taken ≡ self.old.taken }
+        ensures room { self.new.room ≡ self.old.room }
+    {
+        let Ok(()) = self.deque.push_as::<Puts>(item) else {
+            unreachable!()
+        };
+        self.count += 1;
+    }
+
+    /// Takes the first item.
+    pub(crate) fn pop(&mut self) -> Option<u32>
+        ensures put { self.new.put ≡ self.old.put }
+        ensures taken { TakesItem self.old.taken result self.new.taken }
+        ensures room { self.new.room ≡ self.old.room }
+    {
+        self.deque.pop_as::<Takes>()
+    }
+
+    /// A way to this deque, for another hold.
+    pub(crate) fn way(&self) -> Result<Way, AllocError>
+        ensures { IfOk result (λ w. w ≡ new_pass) }
+    {
+        let thief = self.deque.stealer()?;
+        let pass = thief.pass();
+        Ok(Way { thief, pass })
+    }
+}
+
+/// A way to the deque of another hold.
+#[derive(Drop)]
+pub(crate) struct Way {
+    thief: Stealer<u32, Global, Passed, Fair>,
+    pass: Pass<u32, Passed>,
+}
+
+impl Model for Way {
+    ghost use Rattle.crossbeam_deque.specs.Handles.{IsPassOf, stealer_deque};
+    ghost use Rattle.crossbeam_deque.specs.Handles.{view as pass_view};
+    ghost use Rattle.ftl_pool.specs.Deque.{PassModel};
+
+    ghost Value = { PassModel };
+
+    ghost view = { λ w. pass_view w.pass };
+
+    ghost invariant = { λ w. IsPassOf (stealer_deque w.thief) w.pass };
+}
+
+impl Way {
+    /// Takes the first item of the deque, or none where it found none or another took it.
+    pub(crate) fn steal(&mut self) -> Option<u32>
+        ensures { PassTakes self.old result self.new }
+    {
+        match self.thief.steal_as::<Takes>(&mut self.pass) {
+            Steal::Success(item) => Some(item),
+            Steal::Empty | Steal::Retry => None,
+        }
+    }
+}
+
+/// Looks once into each deque.
+pub(crate) fn steal_once(ways: &mut Vec<Way>) -> Option<u32>
+    ensures { OnePassTakes ways.old.items result ways.new.items }
+{
+    for at in 0..ways.len() {
+        if let Some(item) = ways[at].steal() {
+            return Some(item);
+        }
+    }
+    None
+}

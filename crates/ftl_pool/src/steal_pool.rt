@@ -1,0 +1,244 @@
+ghost use Rattle.std.specs.Prelude.{◌≡◌, ◌<◌, ◌≤◌, [], ◌∷◌, ◌++◌, vec_len};
+ghost use Rattle.std.specs.Prelude.{IfOk, IfSome, IfNone, OnOk, OnErr};
+ghost use Rattle.std.specs.List.{All};
+ghost use Rattle.ftl_pool.specs.Count.{IsTallyOf, Takes, first_hold};
+ghost use Rattle.ftl_pool.specs.Pool.{IsHoldOf, IsFreshStealHoldOf};
+ghost use Rattle.ftl_pool.specs.Deque.{TakesFromOne, Joins};
+
+use crate::count::{Count, Tally};
+use crate::deque::{Own, Way, steal_once};
+use crate::ready_pool::ReadyPool;
+use std::alloc::{AllocError, Global};
+use std::marker::Model;
+use std::sync::Wait;
+use std::thread;
+
+/// A pool with a deque for each hold. An item is put on the own deque, and taken from the own one
+/// first.
+#[derive(Drop)]
+pub struct StealPool {
+    count: Count,
+    items: u32,
+}
+
+impl Model for StealPool {
+    ghost use Rattle.std.specs.Prelude.{◌≡◌};
+    ghost use Rattle.ftl_pool.specs.Count.{PoolModel};
+
+    ghost Value = { PoolModel };
+
+    ghost view = { λ p. p.count };
+
+    ghost invariant = { λ p. p.items ≡ p.count.items };
+}
+
+/// What one worker puts and takes through: its own deque, and a way to each other one.
+#[derive(Drop)]
+pub struct StealHold {
+    tally: Tally,
+    own: Own,
+    ways: Vec<Way>,
+}
+
+impl Model for StealHold {
+    ghost use Rattle.std.specs.Prelude.{◌≡◌, ◌∷◌, map};
+    ghost use Rattle.ftl_pool.specs.Pool.{StealHoldModel, ArePut};
+
+    ghost Value = { StealHoldModel };
+
+    ghost view = { λ h. record {
+      hold = record { table = h.tally.table; state = h.tally.state; puts = h.own.put };
+      taken = h.own.taken ∷ map (λ w. w.taken) h.ways.items;
+    } };
+
+    ghost invariant = { λ h. ArePut h.tally.state h.own.put
+        × (h.own.room ≡ h.tally.state.items) };
+}
+
+impl StealPool {
+    /// An empty pool, and a hold for each worker. All memory is taken here.
+    pub fn new(
+        alloc: Global,
+        workers: u32,
+        items: u32,
+    ) -> Result<(StealPool, Vec<StealHold>), AllocError>
+        requires some { 0 < workers }
+        requires few { workers ≤ 64 }
+        ensures items { IfOk result (λ r. r.0.items ≡ items) }
+        ensures holds { IfOk result (λ r. vec_len r.1 ≡ workers) }
+        ensures fresh { IfOk result (λ r. All (IsFreshStealHoldOf r.0) r.1.items) }
+    {
+        let (count, tally) = Count::new(alloc, items)?;
+        let mut holds = make_holds(alloc, &count, tally, workers, items)?;
+        meet_all(&count, &mut holds)?;
+        Ok((StealPool { count, items }, holds))
+    }
+}
+
+impl ReadyPool for StealPool {
+    type Hold = StealHold;
+
+    ghost pool_of = { λ p. p };
+
+    ghost hold_of = { λ h. h.hold };
+
+    fn put<R: Wait>(&self, rt: &R, hold: &mut StealHold, item: u32) {
+        hold.own.push(item);
+        self.count.add(&mut hold.tally, hold.own.count());
+    }
+
+    fn take<R: Wait>(&self, rt: &R, hold: &mut StealHold) -> Option<u32>
+        requires made { IsHoldOf self.now hold.old.hold }
+        ensures made { IsHoldOf self.now hold.new.hold }
+        ensures puts { hold.new.hold.puts ≡ hold.old.hold.puts }
+        ensures item { IfSome result (λ item. item < self.now.items) }
+        ensures counted { Takes hold.old.hold.state result hold.new.hold.state }
+
+        // What comes from which deque.
+        ensures joins { IfSome result
+            (λ item. Joins self.now.items hold.old.taken item hold.new.taken) }
+        ensures stays { IfNone result (hold.new.taken ≡ hold.old.taken) }
+    {
+        if self.count.take(rt, &mut hold.tally) {
+            Some(hold.find(rt, self.items))
+        } else {
+            None
+        }
+    }
+}
+
+impl StealHold {
+    /// Through which nothing was put, with no way to another deque.
+    fn new(alloc: Global, tally: Tally, items: u32, ways: usize) -> Result<StealHold, AllocError>
+        requires items { tally.state.items ≡ items }
+        requires puts { tally.state.puts ≡ 0 }
+        ensures table { IfOk result (λ h. h.hold.table ≡ tally.table) }
+        ensures state { IfOk result (λ h. h.hold.state ≡ tally.state) }
+        ensures puts { IfOk result (λ h. h.hold.puts ≡ []) }
+        ensures taken { IfOk result (λ h. h.taken ≡ [] ∷ []) }
+    {
+        let own = Own::new(alloc, items)?;
+        let ways = Vec::with_capacity(alloc, ways)?;
+        Ok(StealHold { tally, own, ways })
+    }
+
+    /// Adds a way to another deque.
+    fn meet(&mut self, way: Way) -> Result<(), AllocError>
+        ensures hold { self.new.hold ≡ self.old.hold }
+        ensures taken { OnOk result (self.new.taken ≡ self.old.taken ++ way.taken ∷ []) }
+        ensures stays { OnErr result (self.new.taken ≡ self.old.taken) }
+    {
+        self.ways.push(way)?;
+        Ok(())
+    }
+
+    /// Looks once into each deque, the own one first.
+    fn find_once(&mut self) -> Option<u32>
+        ensures hold { self.new.hold ≡ self.old.hold }
+        ensures taken { TakesFromOne self.old.taken result self.new.taken }
+    {
+        if let Some(item) = self.own.pop() {
+            return Some(item);
+        }
+        steal_once(&mut self.ways)
+    }
+
+    #[tactic(auto, using(crate::proofs::Taking::none_skipped))]
+    /// Looks until it has an item below this number.
+    fn find<R: Wait>(&mut self, rt: &R, items: u32) -> u32
+        ensures item { result < items }
+        ensures hold { self.new.hold ≡ self.old.hold }
+        ensures joins { Joins items self.old.taken result self.new.taken }
+    {
+        for _ in rt.forever() {
+            let found = self.find_once();
+            if let Some(item) = found {
+                if item < items {
+                    return item;
+                }
+            } else {
+                thread::yield_now();
+            }
+        }
+        unreachable!()
+    }
+}
+
+/// A hold for each worker, of which the last has the first seat.
+fn make_holds(
+    alloc: Global,
+    count: &Count,
+    mut tally: Tally,
+    workers: u32,
+    items: u32,
+) -> Result<Vec<StealHold>, AllocError>
+    requires items { count.now.items ≡ items }
+    requires made { IsTallyOf count.now tally }
+    requires first { tally.state ≡ first_hold items }
+    requires some { 0 < workers }
+    requires few { workers ≤ 64 }
+    ensures holds { IfOk result (λ holds. vec_len holds ≡ workers) }
+    ensures fresh { IfOk result (λ holds. All (IsFreshStealHoldOf count.now) holds.items) }
+{
+    let ways = workers as usize - 1;
+    let mut holds = Vec::with_capacity(alloc, workers as usize)?;
+    for _ in 1..workers {
+        let other = count.another(&mut tally);
+        holds.push(make_hold(alloc, count, other, items, ways)?)?;
+    }
+    holds.push(make_hold(alloc, count, tally, items, ways)?)?;
+    Ok(holds)
+}
+
+#[tactic(auto, using(crate::proofs::Putting::is_fresh))]
+/// A hold through which nothing was put or taken.
+fn make_hold(
+    alloc: Global,
+    _count: &Count,
+    tally: Tally,
+    items: u32,
+    ways: usize,
+) -> Result<StealHold, AllocError>
+    requires items { _count.now.items ≡ items }
+    requires made { IsTallyOf _count.now tally }
+    requires puts { tally.state.puts ≡ 0 }
+    requires takes { tally.state.takes ≡ 0 }
+    requires loads { tally.state.loads ≡ 0 }
+    ensures fresh { IfOk result (IsFreshStealHoldOf _count.now) }
+{
+    let hold = StealHold::new(alloc, tally, items, ways)?;
+    Ok(hold)
+}
+
+/// Gives each hold a way to each other deque, beginning with that of the next worker.
+fn meet_all(count: &Count, holds: &mut Vec<StealHold>) -> Result<(), AllocError>
+    requires { All (IsFreshStealHoldOf count.now) holds.old.items }
+    ensures holds { vec_len holds.new ≡ vec_len holds.old }
+    ensures fresh { All (IsFreshStealHoldOf count.now) holds.new.items }
+{
+    let workers = holds.len();
+    for worker in 0..workers {
+        for step in 1..workers {
+            meet_one(count, holds, worker, (worker + step) % workers)?;
+        }
+    }
+    Ok(())
+}
+
+/// Gives one hold a way to the deque of another.
+fn meet_one(
+    _count: &Count,
+    holds: &mut Vec<StealHold>,
+    worker: usize,
+    other: usize,
+) -> Result<(), AllocError>
+    requires fresh { All (IsFreshStealHoldOf _count.now) holds.old.items }
+    requires worker { worker < vec_len holds.old }
+    requires other { other < vec_len holds.old }
+    ensures holds { vec_len holds.new ≡ vec_len holds.old }
+    ensures fresh { All (IsFreshStealHoldOf _count.now) holds.new.items }
+{
+    let way = holds[other].own.way()?;
+    holds[worker].meet(way)?;
+    Ok(())
+}

@@ -1,0 +1,13 @@
+//! A grammar goes in and its canonical text comes out. `specs/GrammarTokens.antt` and
+//! `specs/ExpressionTokens.antt` say which tokens the text has, and what stands behind each.
+//! A law leads back: where some text that is not too deep spells the grammar, the canonical
+//! text is not too deep and spells it too.
+#![tactic(auto)]
+
+mod expression;
+mod grammar;
+mod laws;
+mod token;
+
+pub use grammar::print_grammar;
+pub use laws::canonical_texts;

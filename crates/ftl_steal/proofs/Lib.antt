@@ -1,0 +1,3 @@
+pub mod Filling
+pub mod Dealing
+pub mod Totals

@@ -1,0 +1,17 @@
+use Rattle.std.proofs.Common.{◌≡◌, ◌+◌, vec_len}
+use Rattle.std.specs.List.{All}
+use Rattle.ftl_cells.specs.State.{live}
+use Rattle.ftl_cells.specs.Calls.{IsMadeBy}
+use Rattle.ftl_cells.specs.declared.place.HandPlace.TheVariants.{Ended}
+use Rattle.ftl_steal.specs.Workers.{IsEndedMember, steps_of, step_total}
+use Rattle.ftl_steal.proofs.stage.give_up_all.Given as goal
+
+abbrev pub invariant-loop : goal.invariant-loop
+invariant-loop g l = record {
+  made : IsMadeBy (g.W.Meant.meaning l.cells.1) l.cells.0 l.kept;
+  place : l.kept.state.place ≡ live Ended;
+  left : vec_len l.members + l.counter ≡ l.end;
+  all : steps_of l.kept.state + step_total l.members.items + vec_len l.members
+      ≡ steps_of l.fn.hand.state + step_total l.fn.members.items + vec_len l.fn.members;
+  ended : All (IsEndedMember (g.W.Meant.meaning l.cells.1) l.cells.0) l.members.items;
+}

@@ -1,0 +1,64 @@
+-- What each worker of a stage has, before, while and after it works.
+use Rattle.std.specs.Prelude.{◌≡◌, ℕ, zero, suc, ◌+◌, ◌<◌, ◌≤◌, List, [], ◌++◌, length, cond, eqb}
+use Rattle.std.specs.List.{All, sum_by}
+use Rattle.std.specs.Vec.{vec_capacity}
+use Rattle.atomic_table.specs.Seated.{TableId}
+use Rattle.ftl_cells.specs.Work.{Meaning, pred_total}
+use Rattle.ftl_cells.specs.State.{live, HandState}
+use Rattle.ftl_cells.specs.Calls.{IsMadeBy}
+use Rattle.ftl_cells.specs.declared.place.HandPlace.TheVariants.{Idle, Ended}
+use Rattle.ftl_pool.specs.Count.{PoolModel}
+use Rattle.ftl_pool.specs.Pool.{IsHoldOf}
+use Rattle.ftl_steal.specs.declared.member.Member.{Member}
+use Rattle.crossbeam_utils.specs.Padded.{padded_value}
+use Rattle.crossbeam_utils.specs.declared.cache_padded.CachePadded.{CachePadded}
+
+-- the items that a worker put: those that were dealt to it, which wait for none, and those that its hand released
+pub record ArePutBy (m : Meaning) (puts released : List ℕ) : Type 0 where
+  pub dealt : List ℕ
+  pub are : puts ≡ dealt ++ released
+  pub free : All (λ item. pred_total m item ≡ 0) dealt
+
+-- a worker of a stage: a hand of the cells, a hold of the pool, and buffers with room
+pub record IsMember (m : Meaning) (table : TableId) (pool : PoolModel) (worker : Member) : Type 0 where
+  pub hand : IsMadeBy m table worker.hand
+  pub hold : IsHoldOf pool worker.hold.hold
+  pub puts : ArePutBy m worker.hold.hold.puts worker.hand.state.released
+  pub reads : m.max_reads ≤ vec_capacity worker.reads
+  pub stack : m.max_stack ≤ worker.stack.room
+
+-- how many steps a hand made, with those of the hands that it took in
+abbrev pub steps_of : HandState → ℕ
+steps_of hand = hand.count + hand.taken
+
+-- how many of the items below this number wait for none
+abbrev pub free_below : Meaning → ℕ → ℕ
+free_below m zero = 0
+free_below m (suc item) = free_below m item + cond (eqb (pred_total m item) 0) 1 0
+
+-- how many items these workers put
+abbrev pub put_total : List (CachePadded Member) → ℕ
+put_total workers = sum_by (λ (w : CachePadded Member). length (padded_value w).hold.hold.puts) workers
+
+-- how many steps the hands of these workers made
+abbrev pub step_total : List (CachePadded Member) → ℕ
+step_total workers = sum_by (λ (w : CachePadded Member). steps_of (padded_value w).hand.state) workers
+
+-- it is at no item
+pub record IsIdleMember (m : Meaning) (table : TableId) (pool : PoolModel) (worker : CachePadded Member) : Type 0 where
+  pub is : IsMember m table pool (padded_value worker)
+  pub idle : (padded_value worker).hand.state.place ≡ live Idle
+
+-- it has not worked yet, and the items that were dealt to it are below this number
+pub record IsDealtBelow (m : Meaning) (table : TableId) (pool : PoolModel) (item : ℕ) (worker : CachePadded Member)
+    : Type 0 where
+  pub is : IsMember m table pool (padded_value worker)
+  pub idle : (padded_value worker).hand.state.place ≡ live Idle
+  pub none : (padded_value worker).hand.state.released ≡ []
+  pub below : All (λ x. x < item) (padded_value worker).hold.hold.puts
+
+-- its hand is one of these cells, and found the end
+pub record IsEndedMember (m : Meaning) (table : TableId) (worker : CachePadded Member) : Type 0 where
+  pub made : IsMadeBy m table (padded_value worker).hand
+  pub ended : (padded_value worker).hand.state.place ≡ live Ended
+  pub stepped : 0 < (padded_value worker).hand.state.count

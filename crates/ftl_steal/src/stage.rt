@@ -1,0 +1,264 @@
+// A whole stage, by workers in threads of their own.
+ghost use Rattle.std.specs.Prelude.{◌≡◌, ◌<◌, ◌≤◌, ◌+◌, ◌*◌, [], ◌∷◌, ◌++◌, min, max};
+ghost use Rattle.std.specs.Prelude.{length, vec_len, IfOk, OnOk};
+ghost use Rattle.std.specs.List.{All};
+ghost use Rattle.ftl_cells.specs.Work.{item_total, pred_total};
+ghost use Rattle.ftl_cells.specs.State.{live};
+ghost use Rattle.ftl_cells.specs.Calls.{IsMadeBy};
+ghost use Rattle.ftl_cells.specs.declared.place.HandPlace.TheVariants.{Idle, Ended};
+ghost use Rattle.ftl_pool.specs.Pool.{IsFreshStealHoldOf};
+ghost use Rattle.crossbeam_utils.specs.Padded.{padded_value};
+ghost use Rattle.ftl_steal.specs.Workers.{IsIdleMember, IsDealtBelow, IsEndedMember};
+ghost use Rattle.ftl_steal.specs.Workers.{steps_of, free_below, put_total, step_total};
+
+use crate::member::Member;
+use crate::worker::work;
+use crossbeam_utils::CachePadded;
+use ftl_base::CodeStack;
+use ftl_cells::{Cells, Hand, Work};
+use ftl_edge::Gate;
+use ftl_pool::{ReadyPool, StealHold, StealPool};
+use std::alloc::{AllocError, Global};
+use std::sync::Wait;
+use std::thread::{Threads, for_each_mut};
+
+/// Fills the cells of a work by so many workers, or as many as it has items where these are fewer.
+/// All memory is taken before a worker starts, and each thread is joined.
+pub fn run_stage<R: Threads + Wait + Sync, W: Work, G: Gate>(
+    rt: &R,
+    alloc: Global,
+    cells: &Cells<W>,
+    mut hand: Hand,
+    workers: u32,
+    gate: &G,
+) -> Result<Hand, AllocError>
+    requires made { IsMadeBy (W.meaning cells.now.1) cells.now.0 hand }
+    requires idle { hand.state.place ≡ live Idle }
+    requires some { 0 < workers }
+    requires few { workers ≤ 64 }
+    ensures made { IfOk result (IsMadeBy (W.meaning cells.now.1) cells.now.0) }
+    ensures ended { IfOk result (λ h. h.state.place ≡ live Ended) }
+
+    // All hands are given up to the one that comes back: for each worker its hand was made, found
+    // the end and was taken in.
+    ensures given_up { IfOk result (λ h. steps_of hand.state
+        + 3 * min workers (max (item_total (W.meaning cells.now.1)) 1) ≤ steps_of h.state) }
+{
+    let items = cells.work().items();
+    let workers = workers.min(items.max(1));
+    let (pool, holds) = StealPool::new(alloc, workers, items)?;
+    let mut members = gather(alloc, cells, &pool, &mut hand, holds, workers)?;
+    deal_all(rt, cells, &pool, &mut members);
+    run_all(rt, cells, &pool, gate, members.as_mut_slice());
+    Ok(give_up_all(cells, members, hand))
+}
+
+/// A worker for each hold, each with a hand of its own.
+fn gather<W: Work>(
+    alloc: Global,
+    cells: &Cells<W>,
+    pool: &StealPool,
+    hand: &mut Hand,
+    mut holds: Vec<StealHold>,
+    workers: u32,
+) -> Result<Vec<CachePadded<Member>>, AllocError>
+    requires made { IsMadeBy (W.meaning cells.now.1) cells.now.0 hand.old }
+    requires idle { hand.old.state.place ≡ live Idle }
+    requires count { vec_len holds ≡ workers }
+    requires fresh { All (IsFreshStealHoldOf pool.now) holds.items }
+    ensures made { IsMadeBy (W.meaning cells.now.1) cells.now.0 hand.new }
+    ensures idle { hand.new.state.place ≡ live Idle }
+    ensures steps { OnOk result (steps_of hand.new.state ≡ steps_of hand.old.state + workers) }
+    ensures count { IfOk result (λ members. vec_len members ≡ workers) }
+    ensures dealt { IfOk result
+        (λ members. All (IsDealtBelow (W.meaning cells.now.1) cells.now.0 pool.now 0)
+        members.items) }
+{
+    let mut members = Vec::with_capacity(alloc, workers as usize)?;
+    for number in 0..workers {
+        let hold = next_hold(pool, &mut holds);
+        let member = equip(alloc, cells, pool, hand, hold, number)?;
+        members.push(member)?;
+    }
+    Ok(members)
+}
+
+/// The next hold of a list, taken off.
+fn next_hold(_pool: &StealPool, holds: &mut Vec<StealHold>) -> StealHold
+    requires some { 0 < vec_len holds.old }
+    requires fresh { All (IsFreshStealHoldOf _pool.now) holds.old.items }
+    ensures fresh { IsFreshStealHoldOf _pool.now result }
+    ensures count { vec_len holds.new + 1 ≡ vec_len holds.old }
+    ensures rest { All (IsFreshStealHoldOf _pool.now) holds.new.items }
+{
+    holds.pop().unwrap()
+}
+
+/// A worker with a hand of its own, a hold and buffers.
+fn equip<W: Work>(
+    alloc: Global,
+    cells: &Cells<W>,
+    _pool: &StealPool,
+    hand: &mut Hand,
+    hold: StealHold,
+    number: u32,
+) -> Result<CachePadded<Member>, AllocError>
+    requires made { IsMadeBy (W.meaning cells.now.1) cells.now.0 hand.old }
+    requires idle { hand.old.state.place ≡ live Idle }
+    requires fresh { IsFreshStealHoldOf _pool.now hold }
+    ensures made { IsMadeBy (W.meaning cells.now.1) cells.now.0 hand.new }
+    ensures idle { hand.new.state.place ≡ live Idle }
+    ensures steps { OnOk result (steps_of hand.new.state ≡ steps_of hand.old.state + 1) }
+    ensures dealt { IfOk result
+        (IsDealtBelow (W.meaning cells.now.1) cells.now.0 _pool.now 0) }
+{
+    let reads = Vec::with_capacity(alloc, cells.work().max_reads() as usize)?;
+    let stack = CodeStack::new(alloc, cells.work().max_stack())?;
+    Ok(CachePadded::new(Member {
+        number,
+        hand: cells.another(hand),
+        hold,
+        reads,
+        stack,
+    }))
+}
+
+/// Deals the items that wait for none, in order, to one worker after the other.
+fn deal_all<R: Wait, W: Work>(
+    rt: &R,
+    cells: &Cells<W>,
+    pool: &StealPool,
+    members: &mut Vec<CachePadded<Member>>,
+)
+    requires items { pool.now.items ≡ item_total (W.meaning cells.now.1) }
+    requires some { 0 < vec_len members.old }
+    requires dealt { All (IsDealtBelow (W.meaning cells.now.1) cells.now.0 pool.now 0)
+        members.old.items }
+    ensures count { vec_len members.new ≡ vec_len members.old }
+    ensures once { put_total members.new.items
+        ≡ free_below (W.meaning cells.now.1) (item_total (W.meaning cells.now.1)) }
+    ensures idle { All (IsIdleMember (W.meaning cells.now.1) cells.now.0 pool.now)
+        members.new.items }
+{
+    let mut worker = 0;
+    for item in 0..cells.work().items() {
+        worker = deal_next(rt, cells, pool, members, worker, item);
+    }
+}
+
+/// Deals an item to this worker if it waits for none, and answers whose turn is next.
+fn deal_next<R: Wait, W: Work>(
+    rt: &R,
+    cells: &Cells<W>,
+    pool: &StealPool,
+    members: &mut Vec<CachePadded<Member>>,
+    worker: usize,
+    item: u32,
+) -> usize
+    requires items { pool.now.items ≡ item_total (W.meaning cells.now.1) }
+    requires item { item < item_total (W.meaning cells.now.1) }
+    requires worker { worker < vec_len members.old }
+    requires dealt { All (IsDealtBelow (W.meaning cells.now.1) cells.now.0 pool.now item)
+        members.old.items }
+    ensures worker { result < vec_len members.new }
+    ensures count { vec_len members.new ≡ vec_len members.old }
+    ensures once { put_total members.new.items + free_below (W.meaning cells.now.1) item
+        ≡ put_total members.old.items + free_below (W.meaning cells.now.1) (item + 1) }
+    ensures dealt { All (IsDealtBelow (W.meaning cells.now.1) cells.now.0 pool.now (item + 1))
+        members.new.items }
+{
+    if cells.work().pred_count(item) != 0 {
+        return worker;
+    }
+    deal(rt, cells, pool, &mut members[worker], item);
+    (worker + 1) % members.len()
+}
+
+/// Deals one item to one worker.
+fn deal<R: Wait, W: Work>(
+    rt: &R,
+    cells: &Cells<W>,
+    pool: &StealPool,
+    member: &mut CachePadded<Member>,
+    item: u32,
+)
+    requires items { pool.now.items ≡ item_total (W.meaning cells.now.1) }
+    requires item { item < item_total (W.meaning cells.now.1) }
+    requires free { pred_total (W.meaning cells.now.1) item ≡ 0 }
+    requires dealt { IsDealtBelow (W.meaning cells.now.1) cells.now.0 pool.now item member.old }
+    ensures dealt { IsDealtBelow (W.meaning cells.now.1) cells.now.0 pool.now (item + 1)
+        member.new }
+    ensures once { length (padded_value member.new).hold.hold.puts
+        ≡ length (padded_value member.old).hold.hold.puts + 1 }
+{
+    let member: &mut Member = member;
+    pool.put(rt, &mut member.hold, item);
+}
+
+/// Runs all workers, each in a thread of its own where one can be made.
+fn run_all<R: Threads + Wait + Sync, W: Work, G: Gate>(
+    rt: &R,
+    cells: &Cells<W>,
+    pool: &StealPool,
+    gate: &G,
+    members: &mut [CachePadded<Member>],
+)
+    requires items { pool.now.items ≡ item_total (W.meaning cells.now.1) }
+    requires some { 0 < length members.old }
+    requires idle { All (IsIdleMember (W.meaning cells.now.1) cells.now.0 pool.now)
+        members.old }
+    ensures count { length members.new ≡ length members.old }
+    ensures ended { All (IsEndedMember (W.meaning cells.now.1) cells.now.0) members.new }
+{
+    let threads = members.len();
+    for_each_mut(
+        rt,
+        members,
+        threads,
+        &|_: usize, member: &mut CachePadded<Member>|
+            requires idle { IsIdleMember (W.meaning cells.now.1) cells.now.0 pool.now member.now }
+            requires items { pool.now.items ≡ item_total (W.meaning cells.now.1) }
+            ensures ended { IsEndedMember (W.meaning cells.entry.now.1) cells.entry.now.0
+                member.exit.now }
+        { work(rt, cells, pool, gate, member) },
+    );
+}
+
+#[tactic(auto, using(crate::proofs::Totals::push_total))]
+/// The hand of one worker, which takes in those of all others and the caller's.
+fn give_up_all<W: Work>(cells: &Cells<W>, mut members: Vec<CachePadded<Member>>, hand: Hand) -> Hand
+    requires made { IsMadeBy (W.meaning cells.now.1) cells.now.0 hand }
+    requires idle { hand.state.place ≡ live Idle }
+    requires some { 0 < vec_len members }
+    requires ended { All (IsEndedMember (W.meaning cells.now.1) cells.now.0) members.items }
+    ensures made { IsMadeBy (W.meaning cells.now.1) cells.now.0 result }
+    ensures ended { result.state.place ≡ live Ended }
+    ensures all { steps_of result.state
+        ≡ steps_of hand.state + step_total members.items + vec_len members }
+    ensures least { steps_of hand.state + 2 * vec_len members ≤ steps_of result.state }
+{
+    let mut kept = next_member(cells, &mut members).into_inner().hand;
+    cells.give_up(&mut kept, hand);
+    for _ in 0..members.len() {
+        let other = next_member(cells, &mut members).into_inner().hand;
+        cells.give_up(&mut kept, other);
+    }
+    kept
+}
+
+/// The next worker of a list, taken off.
+fn next_member<W: Work>(
+    _cells: &Cells<W>,
+    members: &mut Vec<CachePadded<Member>>,
+) -> CachePadded<Member>
+    requires some { 0 < vec_len members.old }
+    requires ended { All (IsEndedMember (W.meaning _cells.now.1) _cells.now.0)
+        members.old.items }
+    ensures ended { IsEndedMember (W.meaning _cells.now.1) _cells.now.0 result }
+    ensures taken { members.old.items ≡ members.new.items ++ result ∷ [] }
+    ensures count { vec_len members.new + 1 ≡ vec_len members.old }
+    ensures rest { All (IsEndedMember (W.meaning _cells.now.1) _cells.now.0)
+        members.new.items }
+{
+    members.pop().unwrap()
+}

@@ -1,0 +1,2 @@
+pub mod LooseLaws
+pub mod LongLaws

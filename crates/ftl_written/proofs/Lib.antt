@@ -1,0 +1,4 @@
+pub mod FixedTexts
+pub mod ApartLemmas
+pub mod WrittenScan
+pub mod SpacedLemmas

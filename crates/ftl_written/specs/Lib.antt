@@ -1,0 +1,2 @@
+pub mod Written
+pub use Rattle.ftl_tokens.specs.Tokenized

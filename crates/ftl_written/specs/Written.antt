@@ -1,0 +1,138 @@
+-- Texts by the tokens that are written: what each says, and the white space behind it.
+use Rattle.std.specs.Prelude.{◌≡◌, ℕ, ◌≤◌, true, List, [], ◌∷◌, ◌++◌, map, codes, flat_map, Some, None, Ok}
+use Rattle.std.specs.Fmt.{decimal}
+use Rattle.std.specs.List.{list_all}
+use Rattle.std.specs.Str.{chars, IsUtf8}
+use Rattle.ftl_tokens.specs.declared.kind.Kind.{Kind}
+use Rattle.ftl_tokens.specs.declared.kind.Kind.TheVariants.{Name, Number, Root, Interface, Class, Inh, Syn, Input}
+use Rattle.ftl_tokens.specs.declared.kind.Kind.TheVariants.{Local, Show, SelfWord, This, Prev, Last, First, Then}
+use Rattle.ftl_tokens.specs.declared.kind.Kind.TheVariants.{Fold, From, With, Acc, If, Else, Or, Min, Max}
+use Rattle.ftl_tokens.specs.declared.kind.Kind.TheVariants.{LeftBrace, RightBrace, LeftParen, RightParen}
+use Rattle.ftl_tokens.specs.declared.kind.Kind.TheVariants.{LeftBracket, RightBracket, Semicolon, Colon, Comma, Dot}
+use Rattle.ftl_tokens.specs.declared.kind.Kind.TheVariants.{Assign, Equals, Plus, Minus, Star, Slash, Less, LessEq}
+use Rattle.ftl_tokens.specs.declared.kind.Kind.TheVariants.{More, MoreEq, EqualEqual, Unequal, AndAnd, OrOr, Bang}
+use Rattle.ftl_tokens.specs.declared.kind.Token.{Token}
+use Rattle.ftl_tokens.specs.Kinds.{kind_of}
+use Rattle.ftl_tokens.specs.Scan.{is_white_space, scan}
+use Rattle.ftl_tokens.specs.Tokenized.{Symbol, name, number, fixed, symbols_of}
+use Rattle.ftl_reading.specs.Reader.{IsFixed}
+
+-- a token as it is written: what it says, and the white space behind it, if there is any
+pub record Written : Type 0 where
+  pub says : Symbol
+  pub gap : List ℕ
+
+-- a token that says this, with this white space behind it
+abbrev pub written : Symbol → List ℕ → Written
+written says gap = record { says = says; gap = gap }
+
+-- how a reserved word or a mark is written
+abbrev pub fixed_text : Kind → List ℕ
+fixed_text Name = []
+fixed_text Number = []
+fixed_text Root = codes "root"
+fixed_text Interface = codes "interface"
+fixed_text Class = codes "class"
+fixed_text Inh = codes "inh"
+fixed_text Syn = codes "syn"
+fixed_text Input = codes "input"
+fixed_text Local = codes "local"
+fixed_text Show = codes "show"
+fixed_text SelfWord = codes "self"
+fixed_text This = codes "this"
+fixed_text Prev = codes "prev"
+fixed_text Last = codes "last"
+fixed_text First = codes "first"
+fixed_text Then = codes "then"
+fixed_text Fold = codes "fold"
+fixed_text From = codes "from"
+fixed_text With = codes "with"
+fixed_text Acc = codes "acc"
+fixed_text If = codes "if"
+fixed_text Else = codes "else"
+fixed_text Or = codes "or"
+fixed_text Min = codes "min"
+fixed_text Max = codes "max"
+fixed_text LeftBrace = codes "{"
+fixed_text RightBrace = codes "}"
+fixed_text LeftParen = codes "("
+fixed_text RightParen = codes ")"
+fixed_text LeftBracket = codes "["
+fixed_text RightBracket = codes "]"
+fixed_text Semicolon = codes ";"
+fixed_text Colon = codes ":"
+fixed_text Comma = codes ","
+fixed_text Dot = codes "."
+fixed_text Assign = codes ":="
+fixed_text Equals = codes "="
+fixed_text Plus = codes "+"
+fixed_text Minus = codes "-"
+fixed_text Star = codes "*"
+fixed_text Slash = codes "/"
+fixed_text Less = codes "<"
+fixed_text LessEq = codes "<="
+fixed_text More = codes ">"
+fixed_text MoreEq = codes ">="
+fixed_text EqualEqual = codes "=="
+fixed_text Unequal = codes "!="
+fixed_text AndAnd = codes "&&"
+fixed_text OrOr = codes "||"
+fixed_text Bang = codes "!"
+
+-- how a token is written: a name by its characters, a number in decimal
+abbrev pub symbol_text : Symbol → List ℕ
+symbol_text (name text) = text
+symbol_text (number value) = decimal value
+symbol_text (fixed kind) = fixed_text kind
+
+-- a token and the white space behind it
+abbrev pub written_bytes : Written → List ℕ
+written_bytes token = symbol_text token.says ++ token.gap
+
+-- the tokens as a text, in order
+abbrev pub text_of : List Written → List ℕ
+text_of tokens = flat_map written_bytes tokens
+
+-- what a token of a text can say: a name is no reserved word, and no number is above the greatest
+abbrev pub CanBeSaid : ℕ → Symbol → Type 0
+CanBeSaid greatest (name text) = IsUtf8 text × (kind_of (chars text) ≡ Some Name)
+CanBeSaid greatest (number value) = value ≤ greatest
+CanBeSaid greatest (fixed kind) = IsFixed kind
+
+-- the next character, if there is one, does not go on the token
+abbrev pub StandsApart : List ℕ → List ℕ → Type 0
+StandsApart token [] = Unit {0}
+StandsApart token (c ∷ cs) = kind_of (token ++ (c ∷ [])) ≡ None
+
+-- a written token that is read as it was written, before the rest of the text
+pub record IsReadable (greatest : ℕ) (token : Written) (rest : List ℕ) : Type 0 where
+  pub says : CanBeSaid greatest token.says
+  pub gap : list_all is_white_space token.gap ≡ true
+  pub apart : StandsApart (chars (symbol_text token.says)) (chars (token.gap ++ rest))
+
+-- each of the tokens is read as it was written
+abbrev pub AreReadable : ℕ → List Written → Type 0
+AreReadable greatest [] = Unit {0}
+AreReadable greatest (token ∷ tokens) =
+    IsReadable greatest token (text_of tokens) × AreReadable greatest tokens
+
+-- a text whose tokens say this, in order
+pub record Says (greatest : ℕ) (text : List ℕ) (symbols : List Symbol) : Type 0 where
+  pub tokens : List Token
+  pub scanned : scan greatest text ≡ Ok tokens
+  pub said : symbols_of (record { text = text; tokens = tokens }) ≡ symbols
+
+-- what these tokens say, in order
+abbrev pub said_by : List Written → List Symbol
+said_by tokens = map (λ (token : Written). token.says) tokens
+
+-- white space, at least one character of it
+abbrev pub IsSpace : List ℕ → Type 0
+IsSpace [] = ⊥
+IsSpace (c ∷ cs) = list_all is_white_space (c ∷ cs) ≡ true
+
+-- each token has white space behind it
+abbrev pub AreSpaced : ℕ → List Written → Type 0
+AreSpaced greatest [] = Unit {0}
+AreSpaced greatest (token ∷ tokens) =
+    CanBeSaid greatest token.says × IsSpace token.gap × AreSpaced greatest tokens
