@@ -12,7 +12,8 @@ ghost use Rattle.ftl_code.specs.Machine.{Computes};
 /// instruction finds what it needs, from empty stacks and with as many reads as the code takes.
 pub fn code_computes_the_formula()
     ensures value { (greatest : ℕ) (so_far : Value) (is_so_far : ReadName → Bool)
-        (look : ReadName → Option Value) → ((r : ReadName) → is_so_far r ≡ true → look r ≡ Some so_far)
+        (look : ReadName → Option Value)
+        → ((r : ReadName) → is_so_far r ≡ true → look r ≡ Some so_far)
         → (f : Formula ReadName) → HasDivisors f
         → Computes greatest so_far (code_of is_so_far f) (map look (taken_by is_so_far f))
         (value_by greatest look f) }
