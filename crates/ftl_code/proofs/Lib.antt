@@ -1,0 +1,3 @@
+mod DepthLemmas
+mod RowLemmas
+mod RunLemmas

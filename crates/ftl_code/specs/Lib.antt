@@ -1,0 +1,4 @@
+pub mod Code
+pub mod Depth
+pub mod Machine
+pub mod Rows
