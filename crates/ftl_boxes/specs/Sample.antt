@@ -55,7 +55,8 @@ opening Block j = codes "Block { margin = 2 pad = 1 border = 0 kids = [ "
 opening Inline j = codes "Span { kids = [ "
 opening Float j = codes "Group { pad = 2 kids = [ "
 opening Table j = codes "Row { cells = [ "
-opening Flow j = if is_grid j then codes "Grid { margin = 4 rows = [ " else codes "Para { margin = 6 space = 4 items = [ "
+opening Flow j = if is_grid j then codes "Grid { margin = 4 rows = [ "
+    else codes "Para { margin = 6 space = 4 items = [ "
 
 -- what stands between the brackets of group j
 abbrev pub group_pieces : Grammar → ℕ → ℕ → ℕ → ℕ → List ℕ

@@ -3,7 +3,8 @@ use Rattle.std.specs.Prelude.{◌≡◌, ◌≢◌, ℕ, zero, suc, ◌+◌, ◌
 use Rattle.ftl_model.specs.Values.{Value}
 use Rattle.atomic_table.specs.Seated.{TableId}
 use Rattle.ftl_cells.specs.Work.{Meaning, next_total, next_at, step_total, target_of, read_total, read_of, solution_at}
-use Rattle.ftl_cells.specs.State.{Place, live, HandState, after, after_delivery, load_counter, claim, load_cell, store_cell, mark, delivery, end_word, cell_word, state_word, count_word}
+use Rattle.ftl_cells.specs.State.{Place, live, HandState, after, after_delivery, load_counter, claim, load_cell}
+use Rattle.ftl_cells.specs.State.{store_cell, mark, delivery, end_word, cell_word, state_word, count_word}
 use Rattle.ftl_cells.specs.declared.place.HandPlace.TheVariants.{Idle, Looked, Working, Filled, Sending, Ended}
 use Rattle.ftl_cells.specs.declared.answer.Look.{Look}
 use Rattle.ftl_cells.specs.declared.answer.Look.TheVariants.{Ready, NotYet}

@@ -1,6 +1,7 @@
 -- Steps of any hands in any order: what one step of a hand is, what the words tell at any moment, and what stays.
 use Rattle.std.specs.Prelude.{◌≡◌, ◌≢◌, ℕ, ◌<◌, List, length, slice_index}
-use Rattle.ftl_cells.specs.Work.{Meaning, cell_total, kind_at, item_total, step_total, target_of, read_total, read_of, solved_word, IsNext}
+use Rattle.ftl_cells.specs.Work.{Meaning, cell_total, kind_at, item_total, step_total, target_of, read_total, read_of}
+use Rattle.ftl_cells.specs.Work.{solved_word, IsNext}
 use mathlib.Core.Option.{some}
 use lib.ListN.{get_elem?}
 use Rattle.ftl_cells.specs.State.{live, spent, HandState, Makes, Reached, cell_word, state_word, last_word_of}

@@ -1,8 +1,10 @@
 -- What holds between any two steps of any number of hands.
 use Rattle.std.specs.Prelude.{◌≡◌, ◌≢◌, ℕ, ◌<◌, ◌≤◌, ◌⊎◌, List, length, slice_index, slice_index_or}
 use Rattle.ftl_cells.specs.Count.{Counts}
-use Rattle.ftl_cells.specs.Work.{Meaning, cell_total, kind_at, item_total, next_total, next_at, step_total, target_of, read_total, solved_word, IsStepOfItem, IsNext}
-use Rattle.ftl_cells.specs.State.{Place, live, HandState, given_up, Sends, end_word, cell_word, state_word, count_word, word_total}
+use Rattle.ftl_cells.specs.Work.{Meaning, cell_total, kind_at, item_total, next_total, next_at, step_total, target_of}
+use Rattle.ftl_cells.specs.Work.{read_total, solved_word, IsStepOfItem, IsNext}
+use Rattle.ftl_cells.specs.State.{Place, live, HandState, given_up, Sends, end_word, cell_word, state_word, count_word}
+use Rattle.ftl_cells.specs.State.{word_total}
 use Rattle.ftl_cells.specs.declared.kind.CellKind.{CellKind}
 use Rattle.ftl_cells.specs.declared.kind.CellKind.TheVariants.{Given, Target, Later}
 use Rattle.ftl_cells.specs.declared.place.HandPlace.TheVariants.{Looked, Working, Filled, Sending, Ended}

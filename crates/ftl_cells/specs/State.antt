@@ -1,9 +1,11 @@
 -- The state of a stage, on the words of a table and the states of all hands, and its steps.
-use Rattle.std.specs.Prelude.{◌≡◌, ◌≢◌, ℕ, zero, suc, ◌+◌, ◌<◌, List, [], ◌∷◌, ◌++◌, length, map, replicate, slice_index, slice_set, Option, Some, None}
+use Rattle.std.specs.Prelude.{◌≡◌, ◌≢◌, ℕ, zero, suc, ◌+◌, ◌<◌, List, [], ◌∷◌, ◌++◌, length, map, replicate}
+use Rattle.std.specs.Prelude.{slice_index, slice_set, Option, Some, None}
 use Rattle.std.specs.List.{range_with_len}
 use mathlib.Core.Option.{some}
 use lib.ListN.{get_elem?}
-use Rattle.ftl_cells.specs.Work.{Meaning, no_work, cell_total, kind_at, item_total, pred_total, next_total, next_at, step_total, target_of, read_total, read_of, solved_word}
+use Rattle.ftl_cells.specs.Work.{Meaning, no_work, cell_total, kind_at, item_total, pred_total, next_total, next_at}
+use Rattle.ftl_cells.specs.Work.{step_total, target_of, read_total, read_of, solved_word}
 use Rattle.ftl_cells.specs.declared.kind.CellKind.{CellKind}
 use Rattle.ftl_cells.specs.declared.kind.CellKind.TheVariants.{Given, Target, Later}
 use Rattle.ftl_cells.specs.declared.place.HandPlace.{HandPlace}

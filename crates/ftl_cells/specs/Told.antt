@@ -3,7 +3,8 @@ use Rattle.std.specs.Prelude.{◌≡◌, ◌≢◌, ℕ, suc, ◌+◌, ◌≤◌
 use Rattle.ftl_model.specs.Values.{IsValue}
 use Rattle.atomic_table.specs.Table.{Step, Me}
 use Rattle.ftl_cells.specs.Work.{next_at, target_of, read_of, solution_at, solved_word}
-use Rattle.ftl_cells.specs.State.{Place, live, HandState, after, after_delivery, load_counter, claim, load_cell, store_cell, mark, delivery, Sends, end_word, cell_word, state_word, count_word}
+use Rattle.ftl_cells.specs.State.{Place, live, HandState, after, after_delivery, load_counter, claim, load_cell}
+use Rattle.ftl_cells.specs.State.{store_cell, mark, delivery, Sends, end_word, cell_word, state_word, count_word}
 use Rattle.ftl_cells.specs.Interleavings.{IsStepOf}
 use Rattle.ftl_cells.specs.declared.place.HandPlace.TheVariants.{Idle, Looked, Working, Filled, Ended}
 

@@ -37,7 +37,7 @@ impl<W: Meant> Model for Cells<W> {
 
 impl<W: Meant> Cells<W> {
     pub fn work(&self) -> &W
-        ensures { result.now ≡ self.now.1 }
+        ensures work { result.now ≡ self.now.1 }
     {
         &self.work
     }

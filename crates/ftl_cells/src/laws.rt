@@ -18,20 +18,20 @@ ghost use Rattle.ftl_cells.specs.Interleavings.{HoldSolution};
 
 /// A work that is given by functions is lawful where they are.
 pub fn shapes_are_lawful()
-    ensures { (s : WorkShape) → IsLawfulWorkShape s → IsLawfulWork (listed s) }
+    ensures lawful { (s : WorkShape) → IsLawfulWorkShape s → IsLawfulWork (listed s) }
 {}
 
 /// An item in a list of next items has a predecessor, so it is none of those that may be taken at
 /// once.
 pub fn next_items_have_predecessors()
-    ensures { (m : Meaning) (item k : ℕ) → IsLawfulWork m → item < item_total m
+    ensures predecessors { (m : Meaning) (item k : ℕ) → IsLawfulWork m → item < item_total m
         → k < next_total m item → pred_total m (next_at m item k) ≢ 0 }
 {}
 
 /// Between any two steps the rule is kept: the words of the cells and the states of all hands are
 /// always ones that steps lead to, since that is the rule of their table.
 pub fn rule_is_kept()
-    ensures { (m : Meaning) (words : List ℕ) (hands : List HandState) → IsLawfulWork m
+    ensures kept { (m : Meaning) (words : List ℕ) (hands : List HandState) → IsLawfulWork m
         → Reached m words hands → IsKeptBy m words hands }
 {}
 
@@ -40,38 +40,41 @@ pub fn steps_keep_the_rule()
     ensures one { (m : Meaning) (words next : List ℕ) (hands more : List HandState) → IsLawfulWork m
         → IsKeptBy m words hands → Makes m words hands next more → IsKeptBy m next more }
     ensures many { (m : Meaning) (words next : List ℕ) (hands more : List HandState)
-        → IsLawfulWork m → IsKeptBy m words hands → LeadsTo m words hands next more → IsKeptBy m next more }
+        → IsLawfulWork m → IsKeptBy m words hands → LeadsTo m words hands next more
+        → IsKeptBy m next more }
 {}
 
 /// A read never finds its cell empty, but always the solution's word.
 pub fn reads_find_values()
-    ensures { (m : Meaning) (words : List ℕ) (hands : List HandState) → IsLawfulWork m
+    ensures values { (m : Meaning) (words : List ℕ) (hands : List HandState) → IsLawfulWork m
         → IsKeptBy m words hands → ReadsFindValues m words hands }
 {}
 
 /// A fill finds its cell empty.
 pub fn fills_find_empty_cells()
-    ensures { (m : Meaning) (words : List ℕ) (hands : List HandState)
+    ensures empty { (m : Meaning) (words : List ℕ) (hands : List HandState)
         → IsKeptBy m words hands → FillsFindEmpty m words hands }
 {}
 
 /// However many steps follow, an item that was claimed is never free again.
 pub fn claims_stay()
-    ensures { (m : Meaning) (words next : List ℕ) (hands more : List HandState) → IsLawfulWork m
+    ensures stay { (m : Meaning) (words next : List ℕ) (hands more : List HandState)
+        → IsLawfulWork m
         → IsKeptBy m words hands → LeadsTo m words hands next more → ClaimsStay m words next }
 {}
 
 /// After a hand won the claim of an item, no hand wins a claim of it again, whatever steps of any
 /// hands come between: at most one claim of an item is won.
 pub fn claims_win_once()
-    ensures { (m : Meaning) (first next later last : List ℕ) (all more many most : List HandState)
+    ensures once { (m : Meaning) (first next later last : List ℕ)
+        (all more many most : List HandState)
         (h g i : ℕ) → IsLawfulWork m → IsKeptBy m first all → WinsClaim m first all h i next more
         → LeadsTo m next more later many → WinsClaim m later many g i last most → ⊥ }
 {}
 
 /// The step of a claim that answers `Mine` wins the claim of its item.
 pub fn mine_wins_the_claim()
-    ensures { (v w : HandState) (item : ℕ) (step : IsStepOf v w) → v.place ≡ live (Looked item)
+    ensures wins { (v w : HandState) (item : ℕ) (step : IsStepOf v w) → v.place ≡ live (Looked item)
         → ClaimSteps v v.place Mine w
         → WinsClaim v.of step.words step.hands step.hand item step.next step.more }
 {}
@@ -87,7 +90,7 @@ pub fn end_means_all()
 
 /// Where a hand is Ended, the common end's counter is 0.
 pub fn ended_means_the_end()
-    ensures { (m : Meaning) (words : List ℕ) (hands : List HandState) (h : ℕ)
+    ensures end { (m : Meaning) (words : List ℕ) (hands : List HandState) (h : ℕ)
         → IsKeptBy m words hands → HasEnded (hand_at hands h).place
         → slice_index words end_word ≡ 0 }
 {}

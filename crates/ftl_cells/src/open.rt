@@ -1,17 +1,14 @@
 // The first and the last call on the cells of a work, which take memory.
-ghost use Rattle.std.specs.Prelude.{◌≡◌, ℕ, ◌+◌, ◌<◌, ◌++◌, map, slice_index, IfOk, OnOk};
-ghost use Rattle.std.specs.Prelude.{vec_len};
-ghost use Rattle.std.specs.List.{range_with_len};
+ghost use Rattle.std.specs.Prelude.{◌≡◌, ℕ, ◌+◌, ◌<◌, slice_index, vec_len, IfOk};
 ghost use Rattle.std.specs.Slots.{slots_items, slots_len, IsFull};
-ghost use Rattle.ftl_cells.specs.Work.{item_total, pred_total};
 ghost use Rattle.ftl_cells.specs.State.{live, newcomer, first_name, AreFirst, AreLast};
-ghost use Rattle.ftl_cells.specs.State.{opening_words};
 ghost use Rattle.ftl_cells.specs.Calls.{IsMadeBy};
 ghost use Rattle.ftl_cells.specs.declared.place.HandPlace.TheVariants.{Ended};
 
 use crate::cells::Cells;
 use crate::hand::Hand;
 use crate::place::HandPlace;
+use crate::row::open_row;
 use crate::work::Work;
 use atomic_table::{Closed, Table};
 use std::alloc::{AllocError, Global};
@@ -19,12 +16,12 @@ use std::alloc::{AllocError, Global};
 impl<W: Work + Drop> Cells<W> {
     /// Opens the cells of a work, from the words of its Given cells and 0 for all others.
     pub fn open(alloc: Global, work: W, mut words: Vec<u64>) -> Result<(Cells<W>, Hand), AllocError>
-        requires { AreFirst (W.meaning work) words.items }
+        requires first { AreFirst (W.meaning work) words.items }
         ensures work { IfOk result (λ r. r.0.1 ≡ work) }
         ensures made { IfOk result (λ r. IsMadeBy (W.meaning work) r.0.0 r.1) }
         ensures new { IfOk result (λ r. r.1.state ≡ newcomer (W.meaning work) first_name) }
     {
-        build_row(&work, &mut words)?;
+        open_row(&work, &mut words)?;
         let (table, seat) = Table::of_words(alloc, words.as_slice(), &work)?;
         let states = 1 + work.cells() as usize;
         let counters = states + work.items() as usize;
@@ -46,7 +43,7 @@ impl<W: Work + Drop> Cells<W> {
     pub fn close(self, hand: Hand) -> Vec<u64>
         requires made { IsMadeBy (W.meaning self.1) self.0 hand }
         requires ended { hand.state.place ≡ live Ended }
-        ensures { AreLast (W.meaning self.1) result.items }
+        ensures words { AreLast (W.meaning self.1) result.items }
     {
         let Cells {
             table,
@@ -61,32 +58,6 @@ impl<W: Work + Drop> Cells<W> {
         closed.free();
         words
     }
-}
-
-/// Makes the words of the table from those of the cells, in the same vector.
-fn build_row<W: Work>(work: &W, words: &mut Vec<u64>) -> Result<(), AllocError>
-    requires { AreFirst (W.meaning work.now) words.old.items }
-    ensures { OnOk result (words.new.items ≡ opening_words (W.meaning work.now) words.old.items) }
-{
-    let cells = words.len();
-    let items = work.items() as usize;
-    words.reserve(1 + 2 * items)?;
-    words.insert(0, items as u64)?;
-    words.resize(1 + cells + items, 0)?;
-    push_counters(work, words)
-}
-
-fn push_counters<W: Work>(work: &W, row: &mut Vec<u64>) -> Result<(), AllocError>
-    ensures { OnOk result
-        (row.new.items
-        ≡ row.old.items
-        ++ map (pred_total (W.meaning work.now))
-        (range_with_len 0 (item_total (W.meaning work.now)))) }
-{
-    for item in 0..work.items() {
-        row.push(work.pred_count(item) as u64)?;
-    }
-    Ok(())
 }
 
 /// Copies the words of the cells, one for each word that there is.

@@ -26,53 +26,53 @@ pub trait Work: Meant + Sync {
         ensures lawful { IsLawfulWork (Self.meaning self.now) };
 
     fn cells(&self) -> u32
-        ensures { result ≡ cell_total (Self.meaning self.now) };
+        ensures count { result ≡ cell_total (Self.meaning self.now) };
 
     fn cell_kind(&self, cell: u32) -> CellKind
-        requires { cell < cell_total (Self.meaning self.now) }
-        ensures { result ≡ kind_at (Self.meaning self.now) cell };
+        requires cell { cell < cell_total (Self.meaning self.now) }
+        ensures kind { result ≡ kind_at (Self.meaning self.now) cell };
 
     /// How many items have this one in their `next` list.
     fn pred_count(&self, item: u32) -> u32
-        requires { item < item_total (Self.meaning self.now) }
-        ensures { result ≡ pred_total (Self.meaning self.now) item };
+        requires item { item < item_total (Self.meaning self.now) }
+        ensures count { result ≡ pred_total (Self.meaning self.now) item };
 
     fn next_count(&self, item: u32) -> u32
-        requires { item < item_total (Self.meaning self.now) }
-        ensures { result ≡ next_total (Self.meaning self.now) item };
+        requires item { item < item_total (Self.meaning self.now) }
+        ensures count { result ≡ next_total (Self.meaning self.now) item };
 
     /// The items that wait for this one, by place.
     fn next(&self, item: u32, k: u32) -> u32
         requires item { item < item_total (Self.meaning self.now) }
         requires place { k < next_total (Self.meaning self.now) item }
-        ensures { result ≡ next_at (Self.meaning self.now) item k };
+        ensures next { result ≡ next_at (Self.meaning self.now) item k };
 
     fn step_count(&self, item: u32) -> u32
-        requires { item < item_total (Self.meaning self.now) }
-        ensures { result ≡ step_total (Self.meaning self.now) item };
+        requires item { item < item_total (Self.meaning self.now) }
+        ensures count { result ≡ step_total (Self.meaning self.now) item };
 
     /// The cell that a step fills.
     fn target(&self, item: u32, step: u32) -> u32
-        requires { IsStepOfItem (Self.meaning self.now) item step }
-        ensures { result ≡ target_of (Self.meaning self.now) item step };
+        requires step { IsStepOfItem (Self.meaning self.now) item step }
+        ensures target { result ≡ target_of (Self.meaning self.now) item step };
 
     fn read_count(&self, item: u32, step: u32) -> u32
-        requires { IsStepOfItem (Self.meaning self.now) item step }
-        ensures { result ≡ read_total (Self.meaning self.now) item step };
+        requires step { IsStepOfItem (Self.meaning self.now) item step }
+        ensures count { result ≡ read_total (Self.meaning self.now) item step };
 
     /// The cells that a step reads, by place.
     fn read(&self, item: u32, step: u32, k: u32) -> u32
         requires step { IsStepOfItem (Self.meaning self.now) item step }
         requires place { k < read_total (Self.meaning self.now) item step }
-        ensures { result ≡ read_of (Self.meaning self.now) item step k };
+        ensures cell { result ≡ read_of (Self.meaning self.now) item step k };
 
     /// No step reads more.
     fn max_reads(&self) -> u32
-        ensures { result ≡ (Self.meaning self.now).max_reads };
+        ensures bound { result ≡ (Self.meaning self.now).max_reads };
 
     /// No step needs a stack with more room.
     fn max_stack(&self) -> u32
-        ensures { result ≡ (Self.meaning self.now).max_stack };
+        ensures bound { result ≡ (Self.meaning self.now).max_stack };
 
     /// The value that a step gives its target, from what it read.
     fn result(&self, item: u32, step: u32, reads: &[Val], stack: &mut CodeStack) -> Val

@@ -1,5 +1,6 @@
 -- The first fault of a grammar, in the order in which they are looked for.
-use Rattle.std.specs.Prelude.{ℕ, ◌+◌, ◌==◌, ◌&&◌, Bool, true, false, not, nat_lt, if◌then◌else◌, List, [], ◌∷◌, ◌++◌, length, map, filter, flat_map, Option, Some, None}
+use Rattle.std.specs.Prelude.{ℕ, ◌+◌, ◌==◌, ◌&&◌, Bool, true, false, not, nat_lt, if◌then◌else◌, List, [], ◌∷◌, ◌++◌}
+use Rattle.std.specs.Prelude.{length, map, filter, flat_map, Option, Some, None}
 use Rattle.std.specs.List.{list_any}
 use Rattle.std.specs.Option.{is_none, option_map, option_to_list}
 use Rattle.ftl_syntax.specs.Trees.{NameText}
@@ -23,8 +24,11 @@ use Rattle.ftl_checked.specs.declared.fault.GrammarFault.{GrammarFault}
 use Rattle.ftl_checked.specs.declared.fault.GrammarFault.TheVariants as fault
 use Rattle.ftl_checked.specs.declared.rule_name.RuleName.{RuleName}
 use Rattle.ftl_checked.specs.Allowed.{Position, leaf_of}
-use Rattle.ftl_checked.specs.Numbering.{children_of, class_at, class_attributes, class_names, child_attributes, interface_at, interface_names, interface_number, is_among, numbered, own_count, shared_count}
-use Rattle.ftl_checked.specs.RuleForms.{Form, Slot, expressions_of, form_of, is_synthesized_or_local, is_inherited, kid_slot, own_slot, parts_of, slot_of}
+use Rattle.ftl_checked.specs.Numbering.{children_of, class_at, class_attributes, class_names, child_attributes}
+use Rattle.ftl_checked.specs.Numbering.{interface_at, interface_names, interface_number, is_among, numbered, own_count}
+use Rattle.ftl_checked.specs.Numbering.{shared_count}
+use Rattle.ftl_checked.specs.RuleForms.{Form, Slot, expressions_of, form_of, is_synthesized_or_local, is_inherited}
+use Rattle.ftl_checked.specs.RuleForms.{kid_slot, own_slot, parts_of, slot_of}
 
 -- ---- the first of several
 

@@ -1,6 +1,7 @@
 -- The numbers that names stand for: interfaces, classes, children and attributes, each in the order of the text, from
 -- 0.
-use Rattle.std.specs.Prelude.{ℕ, suc, ◌+◌, Bool, false, List, [], ◌∷◌, ◌++◌, length, map, take, flat_map, slice_index_or, Option}
+use Rattle.std.specs.Prelude.{ℕ, suc, ◌+◌, Bool, false, List, [], ◌∷◌, ◌++◌, length, map, take, flat_map}
+use Rattle.std.specs.Prelude.{slice_index_or, Option}
 use Rattle.std.specs.List.{find, list_any, position_or_len}
 use Rattle.std.specs.Str.{bytes_eq}
 use Rattle.ftl_syntax.specs.Trees.{NameText}

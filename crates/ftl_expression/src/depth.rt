@@ -11,7 +11,7 @@ use std::alloc::Global;
 /// An expression with fewer than `depth` brackets in one another.
 #[cycle(nested)]
 pub fn expr(alloc: Global, input: &mut Input<'_>, depth: usize) -> Result<Expr, ReadFault>
-    ensures { Reads (spec.expr depth input.old) result input.new }
+    ensures reads { Reads (spec.expr depth input.old) result input.new }
 {
     if depth == 0 {
         return Err(ReadFault::Refused);

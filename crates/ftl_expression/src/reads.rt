@@ -12,7 +12,7 @@ use std::alloc::Global;
 /// A dot and a name.
 #[tactic(auto, unfolding(ftl_syntax::specs::SumReading::dot_name))]
 pub fn dot_name(alloc: Global, input: &mut Input<'_>) -> Result<Name, ReadFault>
-    ensures { Reads (spec.dot_name input.old) result input.new }
+    ensures reads { Reads (spec.dot_name input.old) result input.new }
 {
     input.expect(Kind::Dot)?;
     input.name(alloc)

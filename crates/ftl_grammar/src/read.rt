@@ -18,7 +18,7 @@ const LIMIT: usize = 64;
 /// The grammar that the tokens of a text spell, or the place at which they go wrong. Whether the
 /// brackets are too deep is looked at before the syntax.
 pub fn read_grammar(alloc: Global, scanned: &Scanned) -> Result<Grammar, SyntaxFault>
-    ensures { ReadsGrammar scanned.now result }
+    ensures answer { ReadsGrammar scanned.now result }
 {
     if let Some(at) = first_too_deep(scanned, &OPENING, &CLOSING, LIMIT) {
         return Err(SyntaxFault::TooDeep { at });

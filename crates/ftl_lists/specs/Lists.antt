@@ -1,5 +1,6 @@
 -- Words on lists that several crates speak of.
-use Rattle.std.specs.Prelude.{◌≡◌, ◌⊎◌, ℕ, suc, ◌<◌, ◌≤◌, Bool, true, false, ◌==◌, nat_le, if◌then◌else◌, List, [], ◌∷◌, length, Contains, HoldsAt}
+use Rattle.std.specs.Prelude.{◌≡◌, ◌⊎◌, ℕ, suc, ◌<◌, ◌≤◌, Bool, true, false, ◌==◌, nat_le, if◌then◌else◌, List, [], ◌∷◌}
+use Rattle.std.specs.Prelude.{length, Contains, HoldsAt}
 
 -- the place of a number in a list, or the list's length where it has none
 abbrev pub place_in : List ℕ → ℕ → ℕ

@@ -1,6 +1,7 @@
 -- Attribute grammars of trees of boxes (Knuth 1968), with the names gone: interfaces, classes, children and attributes
 -- are numbers, and a rule is its reads and its value, as a function of what it can see.
-use Rattle.std.specs.Prelude.{ℕ, zero, suc, Bool, true, false, List, [], ◌∷◌, ◌++◌, filter, flat_map, ℤ, pos, slice_index_or}
+use Rattle.std.specs.Prelude.{ℕ, zero, suc, Bool, true, false, List, [], ◌∷◌, ◌++◌, filter, flat_map, ℤ, pos}
+use Rattle.std.specs.Prelude.{slice_index_or}
 use Rattle.std.specs.List.{range_with_len}
 use Rattle.ftl_lists.specs.Lists.{place_in}
 use Rattle.ftl_model.specs.Values.{Value, number}
@@ -65,8 +66,8 @@ reads_in _ _ = []
 abbrev pub seen_by : (kids : ℕ → ℕ) → (at_hand : ℕ) → List Read → List Occurrence
 seen_by kids k reads = flat_map (occurrences kids k) reads
 
--- The occurrences that a rule reads for the kid of this number (0 where the rule is for the node itself), in the order of
--- the text, each as often as it is read; the step of a fold is read at each kid, from the first to the last.
+-- The occurrences that a rule reads for the kid of this number (0 where the rule is for the node itself), in the order
+-- of the text, each as often as it is read; the step of a fold is read at each kid, from the first to the last.
 abbrev pub read_occurrences : Parts → (kids : ℕ → ℕ) → (number : ℕ) → List Occurrence
 read_occurrences (plain reads) kids k = seen_by kids k reads
 read_occurrences (first_then first later) kids zero = seen_by kids 0 first
@@ -74,8 +75,8 @@ read_occurrences (first_then first later) kids (suc k) = seen_by kids (suc k) la
 read_occurrences (fold_over child start step) kids k =
     seen_by kids k start ++ flat_map (λ n. seen_by kids n step) (range_with_len 0 (kids child))
 
--- A rule: its parts, and its value from how many kids each child has, the number of the kid that it is for, and the value
--- of each occurrence.
+-- A rule: its parts, and its value from how many kids each child has, the number of the kid that it is for, and the
+-- value of each occurrence.
 pub record Rule : Type 0 where
   pub parts : Parts
   pub value : (ℕ → ℕ) → ℕ → (Occurrence → Value) → Value
@@ -92,11 +93,11 @@ pub data Sort : Type 0 where
   synthesized : Sort
   local : Sort
 
--- Numbers are from 0. `greatest` is the greatest number of the grammar's width, and of an input. Attributes are numbered
--- over the whole grammar, and `sort` has the kind of each; `shared` has the attributes of an interface, `private` those
--- that a class adds, each in the order of declaration. `self_rule class a` defines attribute a of a node, by the rules of
--- its own class, and `child_rule class c a` that of each kid in child c, by the rules of the class above; `rules` has
--- all of them in the order of the text.
+-- Numbers are from 0. `greatest` is the greatest number of the grammar's width, and of an input. Attributes are
+-- numbered over the whole grammar, and `sort` has the kind of each; `shared` has the attributes of an interface,
+-- `private` those that a class adds, each in the order of declaration. `self_rule class a` defines attribute a of a
+-- node, by the rules of its own class, and `child_rule class c a` that of each kid in child c, by the rules of the
+-- class above; `rules` has all of them in the order of the text.
 pub record AttributeGrammar : Type 0 where
   pub greatest : ℕ
   pub root : ℕ

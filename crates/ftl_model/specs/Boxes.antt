@@ -7,8 +7,8 @@ use Rattle.ftl_model.specs.Tree.{Forest}
 use Rattle.ftl_model.specs.Path.{Path, class_at, preorder, number_of}
 use Rattle.ftl_model.specs.Solves.{Instance, instance_of}
 
--- what is printed of a grammar: the names of its classes and attributes in UTF-8, and the attributes that each class shows, in
--- the order of their declaration
+-- what is printed of a grammar: the names of its classes and attributes in UTF-8, and the attributes that each class
+-- shows, in the order of their declaration
 pub record Names : Type 0 where
   pub class_name : ℕ → List ℕ
   pub attribute_name : ℕ → List ℕ

@@ -4,7 +4,9 @@ use Rattle.std.specs.Prelude.{ℕ, zero, suc, ◌==◌, if◌then◌else◌, Lis
 use Rattle.ftl_model.specs.Values.{Value, number, narrow, sum_of}
 use Rattle.ftl_model.specs.Folds.{fold_kids}
 use Rattle.ftl_model.specs.Tree.{Forest, none, tree}
-use Rattle.ftl_model.specs.AttributeGrammar.{AttributeGrammar, Rule, self_read, single_read, each_read, this_read, prev_read, last_read, plain, first_then, fold_over, Occurrence, own, kid, RuleName, for_self, for_child, Sort, input, inherited, synthesized, local}
+use Rattle.ftl_model.specs.AttributeGrammar.{AttributeGrammar, Rule, self_read, single_read, each_read, this_read}
+use Rattle.ftl_model.specs.AttributeGrammar.{prev_read, last_read, plain, first_then, fold_over, Occurrence, own, kid}
+use Rattle.ftl_model.specs.AttributeGrammar.{RuleName, for_self, for_child, Sort, input, inherited, synthesized, local}
 use Rattle.ftl_model.specs.Worked.{numbers}
 
 -- root Page;

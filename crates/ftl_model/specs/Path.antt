@@ -1,6 +1,8 @@
 -- The nodes of a tree: a node is its way up to the root.
-use Rattle.std.specs.Prelude.{◌≡◌, ℕ, suc, ◌+◌, ◌==◌, if◌then◌else◌, ℤ, List, [], ◌∷◌, ◌++◌, Option, Some, None, slice_index_or, ◌⊎◌}
-use Rattle.ftl_model.specs.Tree.{Forest, none, tree, IsTree, class_of, inputs_of, below_of, size, count_in, from_kid, nodes_before}
+use Rattle.std.specs.Prelude.{◌≡◌, ℕ, suc, ◌+◌, ◌==◌, if◌then◌else◌, ℤ, List, [], ◌∷◌, ◌++◌, Option, Some, None}
+use Rattle.std.specs.Prelude.{slice_index_or, ◌⊎◌}
+use Rattle.ftl_model.specs.Tree.{Forest, none, tree, IsTree, class_of, inputs_of, below_of, size, count_in, from_kid}
+use Rattle.ftl_model.specs.Tree.{nodes_before}
 
 -- the root, or the kid of this number in this child of the node above
 pub data Path : Type 0 where

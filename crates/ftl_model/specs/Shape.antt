@@ -24,7 +24,8 @@ abbrev pub forest_within : ℕ → List Shape → Forest
 forest_within zero nodes = none
 forest_within (suc steps) [] = none
 forest_within (suc steps) (node ∷ nodes) =
-    tree node.class node.child node.inputs (forest_within steps (take node.below nodes)) (forest_within steps (drop node.below nodes))
+    tree node.class node.child node.inputs (forest_within steps (take node.below nodes))
+    (forest_within steps (drop node.below nodes))
 
 -- the trees that have these nodes
 abbrev pub forest_of : List Shape → Forest

@@ -16,8 +16,10 @@ forest_within-shapes zero none h = refl
 forest_within-shapes (suc n) none h = refl
 forest_within-shapes zero (tree k d i b s) h = absurd (omega (arith, h))
 forest_within-shapes (suc n) (tree k d i b s) h =
-    ap (λ xs. tree k d i (forest_within n xs) (forest_within n (drop (size b) (shapes b ++ shapes s)))) (take_at (shapes b) (shapes s) (size b) (length-shapes b))
-    ∙ ap (λ xs. tree k d i (forest_within n (shapes b)) (forest_within n xs)) (drop_at (shapes b) (shapes s) (size b) (length-shapes b))
+    ap (λ xs. tree k d i (forest_within n xs) (forest_within n (drop (size b) (shapes b ++ shapes s))))
+    (take_at (shapes b) (shapes s) (size b) (length-shapes b))
+    ∙ ap (λ xs. tree k d i (forest_within n (shapes b)) (forest_within n xs))
+    (drop_at (shapes b) (shapes s) (size b) (length-shapes b))
     ∙ ap (λ f. tree k d i f (forest_within n (shapes s))) (forest_within-shapes n b (omega (arith, h)))
     ∙ ap (λ f. tree k d i b f) (forest_within-shapes n s (omega (arith, h)))
 

@@ -4,7 +4,9 @@ use Rattle.std.specs.Prelude.{◌≡◌, ℕ, Contains}
 use Rattle.ftl_model.specs.Values.{Value}
 use Rattle.ftl_model.specs.Tree.{Forest}
 use Rattle.ftl_model.specs.Path.{Path, top, down, Has, class_at, inputs_at, kids_at}
-use Rattle.ftl_model.specs.AttributeGrammar.{AttributeGrammar, Rule, Occurrence, own, kid, RuleName, for_self, for_child, Sort, input, inherited, synthesized, local, attributes_of, input_value}
+use Rattle.ftl_model.specs.AttributeGrammar.{AttributeGrammar, Rule, Occurrence, own, kid, RuleName, for_self}
+use Rattle.ftl_model.specs.AttributeGrammar.{for_child, Sort, input, inherited, synthesized, local, attributes_of}
+use Rattle.ftl_model.specs.AttributeGrammar.{input_value}
 
 -- one attribute of one node
 pub record Instance : Type 0 where
@@ -68,7 +70,8 @@ rule_value t s rule p k = rule.value (kids_at t p) k (λ o. s (seen_from p o))
 -- the right side of an instance's equation: the document's number for an input, else the value of its rule
 abbrev pub equation_value : AttributeGrammar → Forest → (Instance → Value) → Sort → Path → ℕ → Value
 equation_value g t s input p a = input_value g (class_at t p) a (inputs_at t p)
-equation_value g t s inherited p a = rule_value t s (rule_of g t inherited p a) (rule_node inherited p) (rule_kid inherited p)
+equation_value g t s inherited p a = rule_value t s (rule_of g t inherited p a) (rule_node inherited p)
+    (rule_kid inherited p)
 equation_value g t s synthesized p a = rule_value t s (rule_of g t synthesized p a) p 0
 equation_value g t s local p a = rule_value t s (rule_of g t local p a) p 0
 

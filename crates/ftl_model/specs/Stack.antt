@@ -2,7 +2,9 @@
 use Rattle.std.specs.Prelude.{ℕ, zero, suc, ◌==◌, if◌then◌else◌, List, [], ◌∷◌, pos}
 use Rattle.ftl_model.specs.Values.{Value, number, narrow, sum_of, greatest_of}
 use Rattle.ftl_model.specs.Folds.{fold_kids}
-use Rattle.ftl_model.specs.AttributeGrammar.{AttributeGrammar, Rule, Read, self_read, single_read, each_read, prev_read, plain, first_then, fold_over, Occurrence, own, kid, RuleName, for_self, for_child, Sort, input, inherited, synthesized}
+use Rattle.ftl_model.specs.AttributeGrammar.{AttributeGrammar, Rule, Read, self_read, single_read, each_read, prev_read}
+use Rattle.ftl_model.specs.AttributeGrammar.{plain, first_then, fold_over, Occurrence, own, kid, RuleName, for_self}
+use Rattle.ftl_model.specs.AttributeGrammar.{for_child, Sort, input, inherited, synthesized}
 
 -- the interfaces
 abbrev pub page : ℕ
@@ -129,7 +131,8 @@ stack_child_rule greatest class child a =
 abbrev pub stack_sort : ℕ → Sort
 stack_sort a =
     if a == box_x then inherited
-    else (if a == box_y then inherited else (if a == word_iw then input else (if a == word_ih then input else synthesized)))
+    else (if a == box_y then inherited
+    else (if a == word_iw then input else (if a == word_ih then input else synthesized)))
 
 -- in the order of the text
 abbrev pub stack_rules : List RuleName

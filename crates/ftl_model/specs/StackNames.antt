@@ -5,14 +5,16 @@ use Rattle.ftl_model.specs.Stack.{sheet, column, page_h, box_x, box_y, box_w, bo
 
 -- the names of the classes
 abbrev pub stack_class_name : ℕ → List ℕ
-stack_class_name class = if class == sheet then codes "Sheet" else (if class == column then codes "Column" else codes "Word")
+stack_class_name class = if class == sheet then codes "Sheet"
+    else (if class == column then codes "Column" else codes "Word")
 
 -- the names of the attributes
 abbrev pub stack_attribute_name : ℕ → List ℕ
 stack_attribute_name a =
     if a == box_x then codes "x"
     else (if a == box_y then codes "y"
-    else (if a == box_w then codes "w" else (if a == word_iw then codes "iw" else (if a == word_ih then codes "ih" else codes "h"))))
+    else (if a == box_w then codes "w"
+    else (if a == word_iw then codes "iw" else (if a == word_ih then codes "ih" else codes "h"))))
 
 -- `interface Page` shows h, and `interface Box` shows x, y, w, h
 abbrev pub stack_shown : ℕ → List ℕ

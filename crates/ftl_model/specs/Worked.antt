@@ -42,7 +42,8 @@ two_words = sheet_over (column_of (word_of_size 20 10 (word_of_size 30 15 none))
 -- h of the sheet; x, y, w, h of the column; x, y, w, h, iw, ih of each word
 abbrev pub two_words_values : List Value
 two_words_values =
-    numbers (25 ∷ (0 ∷ (0 ∷ (30 ∷ (25 ∷ (0 ∷ (0 ∷ (20 ∷ (10 ∷ (20 ∷ (10 ∷ (0 ∷ (10 ∷ (30 ∷ (15 ∷ (30 ∷ (15 ∷ [])))))))))))))))))
+    numbers (25 ∷ (0 ∷ (0
+    ∷ (30 ∷ (25 ∷ (0 ∷ (0 ∷ (20 ∷ (10 ∷ (20 ∷ (10 ∷ (0 ∷ (10 ∷ (30 ∷ (15 ∷ (30 ∷ (15 ∷ [])))))))))))))))))
 
 -- a column without boxes
 abbrev pub empty_column : Forest
@@ -55,7 +56,8 @@ tall_words = sheet_over (column_of (word_of_size 1 1 (word_of_size 1 2147483647 
 -- the heights of the sheet and of the column overflow
 abbrev pub tall_words_values : List Value
 tall_words_values =
-    overflow ∷ (number (pos 0) ∷ (number (pos 0) ∷ (number (pos 1) ∷ (overflow ∷ numbers (0 ∷ (0 ∷ (1 ∷ (1 ∷ (1 ∷ (1 ∷ (0 ∷ (1 ∷ (1 ∷ (2147483647 ∷ (1 ∷ (2147483647 ∷ []))))))))))))))))
+    overflow ∷ (number (pos 0) ∷ (number (pos 0) ∷ (number (pos 1) ∷ (overflow
+    ∷ numbers (0 ∷ (0 ∷ (1 ∷ (1 ∷ (1 ∷ (1 ∷ (0 ∷ (1 ∷ (1 ∷ (2147483647 ∷ (1 ∷ (2147483647 ∷ []))))))))))))))))
 
 -- a column of a column (words of 5 by 1 and 9 by 2), a word of 3 by 4, and a column (a word of 2 by 8)
 abbrev pub nested_columns : Forest
@@ -65,7 +67,8 @@ nested_columns =
     (column_of (word_of_size 5 1 (word_of_size 9 2 none)) (word_of_size 3 4 (column_of (word_of_size 2 8 none) none)))
     none)
 
--- node by node: the sheet, the column, the first column below it with two words, the word, the last column with its word
+-- node by node: the sheet, the column, the first column below it with two words, the word, the last column with its
+-- word
 abbrev pub nested_columns_values : List Value
 nested_columns_values =
     numbers (15 ∷ []) ++ numbers (0 ∷ 0 ∷ 9 ∷ 15 ∷ [])

@@ -1,4 +1,7 @@
-ghost use Rattle.ftl_model.specs.InputLaws.{OfSameTrees, HaveSameNodes, HaveSameClasses, HaveSameKids, HaveSameSizes, HaveSameNumbers, HaveSamePreorder, HaveSameInstances, ListSameInstances, CountSameInstances, NumberSameInstances};
+ghost use Rattle.ftl_model.specs.InputLaws.{OfSameTrees, HaveSameNodes, HaveSameClasses};
+ghost use Rattle.ftl_model.specs.InputLaws.{HaveSameKids, HaveSameSizes, HaveSameNumbers};
+ghost use Rattle.ftl_model.specs.InputLaws.{HaveSamePreorder, HaveSameInstances, ListSameInstances};
+ghost use Rattle.ftl_model.specs.InputLaws.{CountSameInstances, NumberSameInstances};
 
 /// A law: trees that are the same but for their inputs have the same nodes.
 pub fn nodes_without_inputs()

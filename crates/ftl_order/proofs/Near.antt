@@ -7,7 +7,7 @@ use Rattle.ftl_model.specs.Tree.{Forest}
 use Rattle.ftl_model.specs.TreeOf.{IsTreeOf}
 use Rattle.ftl_order.specs.Lawful.{IsLawful}
 use Rattle.ftl_order.specs.LegalOrder.{IsNearBy, NearInPass, Turn, TurnNear, turn_by, turn_of}
-use Rattle.ftl_order.specs.Ordered.{EachPairOrdered, IsOrderedRead, Row, block_of, place_of}
+use Rattle.ftl_order.specs.Ordered.{EachPairOrdered, IsOrderedRead, Row, block_of, visit_place}
 use Rattle.ftl_order.specs.Pairs.{Pair, Where, child_class, child_read, is_by_prev, parent_class, same_class}
 use Rattle.ftl_order.specs.ReadPairs.{ReadsBy, Stand}
 use Rattle.ftl_order.specs.Reads.{Reads}
@@ -37,7 +37,7 @@ ordered_near at runs_at r x y stand ordered =
 
 -- a rule stands in its visit where the turns of its steps say
 pub place_of_rule : (g : AttributeGrammar) (t : Forest) (sort : Sort) (p : Path) (a : ℕ) → g.sort a ≡ sort
-    → place_of g (rule_name t sort p a) ≡ (turn_by sort p a).rule
+    → visit_place g (rule_name t sort p a) ≡ (turn_by sort p a).rule
 place_of_rule g t input p a e = ap (λ s. record { attribute = a; block = block_of s; child = 0 }) e
 place_of_rule g t inherited top a e = ap (λ s. record { attribute = a; block = block_of s; child = 0 }) e
 place_of_rule g t inherited (down c k p) a e = refl
@@ -50,8 +50,8 @@ module _ (g : AttributeGrammar) (law : IsLawful g) (at : Placing) (t : Forest) (
   near_of i j pair by =
       ordered_near at pair.runs_at pair.read (turn_of g j) (turn_of g i) by.stand
       (subst₂ (λ x y. IsOrderedRead at pair.runs_at pair.read x y)
-      (ap (place_of g) by.writer ∙ place_of_rule g t (g.sort j.attribute) j.node j.attribute refl)
-      (ap (place_of g) by.reader ∙ place_of_rule g t (g.sort i.attribute) i.node i.attribute refl)
+      (ap (visit_place g) by.writer ∙ place_of_rule g t (g.sort j.attribute) j.node j.attribute refl)
+      (ap (visit_place g) by.reader ∙ place_of_rule g t (g.sort i.attribute) i.node i.attribute refl)
       (pairs pair by.is))
 
   -- what a step reads is an input, or stands near before it

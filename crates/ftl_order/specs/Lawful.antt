@@ -3,7 +3,10 @@
 use Rattle.std.specs.Prelude.{◌≡◌, ◌≢◌, ◌⊎◌, ℕ, ◌<◌, true, false, List, ◌++◌, flat_map, Contains}
 use Rattle.std.specs.List.{range_with_len}
 use Rattle.ftl_lists.specs.Lists.{AreDistinct, NoneFalls}
-use Rattle.ftl_model.specs.AttributeGrammar.{AttributeGrammar, Occurrence, Parts, Read, Rule, RuleName, Sort, attributes_of, each_read, first_then, fold_over, for_child, for_self, inherited, input, last_read, local, plain, prev_read, read_occurrences, self_read, single_read, synthesized, this_read}
+use Rattle.ftl_model.specs.AttributeGrammar.{AttributeGrammar, Occurrence, Parts, Read, Rule, RuleName, Sort}
+use Rattle.ftl_model.specs.AttributeGrammar.{attributes_of, each_read, first_then, fold_over, for_child, for_self}
+use Rattle.ftl_model.specs.AttributeGrammar.{inherited, input, last_read, local, plain, prev_read, read_occurrences}
+use Rattle.ftl_model.specs.AttributeGrammar.{self_read, single_read, synthesized, this_read}
 use Rattle.ftl_model.specs.Values.{IsValueIn, Value, narrow, wide}
 
 -- ---- attributes, and who declares them
@@ -132,8 +135,8 @@ declared g =
 
 -- The width is one of the two. All numbers are in range, and attributes are numbered as they are declared, each once.
 -- The interfaces share inputs, inherited and synthesized attributes, and the root's has none that is inherited; a class
--- adds inputs and locals. The list of rules has each rule once, class by class. Each rule reads what it may, depends on it
--- alone, and keeps to the range of the width.
+-- adds inputs and locals. The list of rules has each rule once, class by class. Each rule reads what it may, depends on
+-- it alone, and keeps to the range of the width.
 pub record IsLawful (g : AttributeGrammar) : Type 0 where
   pub width : (g.greatest ≡ narrow) ⊎ (g.greatest ≡ wide)
   pub root_known : g.root < g.interface_count

@@ -1,8 +1,10 @@
 -- Ordered schedules: each pair of a read and a writer is ordered, by the kind of the pass and by where the writer runs.
 use Rattle.std.specs.Prelude.{◌≡◌, ◌⊎◌, ℕ, ◌<◌, Bool, IsTrue}
-use Rattle.ftl_model.specs.AttributeGrammar.{AttributeGrammar, Read, RuleName, Sort, for_child, for_self, inherited, input, local, synthesized}
+use Rattle.ftl_model.specs.AttributeGrammar.{AttributeGrammar, Read, RuleName, Sort, for_child, for_self, inherited}
+use Rattle.ftl_model.specs.AttributeGrammar.{input, local, synthesized}
 use Rattle.ftl_order.specs.Pairs.{IsPair, Pair, Where, child_class, child_read, is_by_prev, parent_class, same_class}
-use Rattle.ftl_order.specs.Schedule.{EachStandsOnce, IsOnePass, PassKind, Placing, Schedule, bottomup, inorder, spot_of, topdown}
+use Rattle.ftl_order.specs.Schedule.{EachStandsOnce, IsOnePass, PassKind, Placing, Schedule, bottomup, inorder, spot_of}
+use Rattle.ftl_order.specs.Schedule.{topdown}
 
 -- the block of a node's visit: 0 for the locals, 1 for the kids of a child, 2 for the synthesized attributes
 abbrev pub block_of : Sort → ℕ
@@ -18,9 +20,9 @@ pub record VisitPlace : Type 0 where
   pub child : ℕ
 
 -- where the rule of this name stands
-abbrev pub place_of : AttributeGrammar → RuleName → VisitPlace
-place_of g (for_self class a) = record { attribute = a; block = block_of (g.sort a); child = 0 }
-place_of g (for_child class c a) = record { attribute = a; block = 1; child = c }
+abbrev pub visit_place : AttributeGrammar → RuleName → VisitPlace
+visit_place g (for_self class a) = record { attribute = a; block = block_of (g.sort a); child = 0 }
+visit_place g (for_child class c a) = record { attribute = a; block = 1; child = c }
 
 -- the key is smaller: the attribute stands earlier in the list, or is the same and the child is declared earlier
 abbrev pub KeyBelow : Placing → VisitPlace → VisitPlace → Type 0
@@ -76,7 +78,8 @@ IsOrderedRead at runs_at r x y =
 
 -- a pair whose read is ordered
 abbrev pub IsOrderedPair : AttributeGrammar → Placing → Pair → Type 0
-IsOrderedPair g at pair = IsOrderedRead at pair.runs_at pair.read (place_of g pair.writer) (place_of g pair.reader)
+IsOrderedPair g at pair = IsOrderedRead at pair.runs_at pair.read (visit_place g pair.writer)
+    (visit_place g pair.reader)
 
 -- each pair of the grammar is
 abbrev pub EachPairOrdered : AttributeGrammar → Placing → Type 0

@@ -1,6 +1,8 @@
 -- Pairs of a read and a rule that writes what is read. They speak of rules and of no tree.
 use Rattle.std.specs.Prelude.{◌≡◌, ℕ, ◌<◌, Bool, true, false, Contains}
-use Rattle.ftl_model.specs.AttributeGrammar.{AttributeGrammar, Part, Read, RuleName, Sort, each_read, for_child, for_self, inherited, input, last_read, local, prev_read, reads_in, self_read, single_read, synthesized, this_read}
+use Rattle.ftl_model.specs.AttributeGrammar.{AttributeGrammar, Part, Read, RuleName, Sort, each_read, for_child}
+use Rattle.ftl_model.specs.AttributeGrammar.{for_self, inherited, input, last_read, local, prev_read, reads_in}
+use Rattle.ftl_model.specs.AttributeGrammar.{self_read, single_read, synthesized, this_read}
 use Rattle.ftl_model.specs.Solves.{rule_named}
 use Rattle.ftl_order.specs.Lawful.{IsRule, class_of_rule}
 

@@ -13,8 +13,8 @@ use Rattle.ftl_order.specs.Pairs.{IsPair, Pair, Where, child_class, child_read, 
 use Rattle.ftl_order.specs.Reads.{Reads}
 
 -- The turn x of the writer and the turn y of the reader. In one visit the writer is for no later kid in its block, and
--- for an earlier kid of the same child where the read is by `prev`. At the parent it is for the reader's node. At a kid it
--- stands in the child that is read, and is an earlier kid of the reader's child where the read is by `prev`.
+-- for an earlier kid of the same child where the read is by `prev`. At the parent it is for the reader's node. At a kid
+-- it stands in the child that is read, and is an earlier kid of the reader's child where the read is by `prev`.
 abbrev pub Stand : Where → Read → Turn → Turn → Type 0
 Stand same_class r x y =
     (x.visit ≡ y.visit) × (IsSameBlock x.rule y.rule → x.kid ≤ y.kid)
@@ -39,4 +39,5 @@ pub record ReadsBy (g : AttributeGrammar) (t : Forest) (i j : Instance) (pair : 
 abbrev pub ReadsArePairs : Type 0
 ReadsArePairs =
     (g : AttributeGrammar) (t : Forest) → IsLawful g → IsTreeOf g t
-    → (i j : Instance) → IsStep g t i → Reads g t i j → g.sort j.attribute ≢ input → (pair : Pair) × ReadsBy g t i j pair
+    → (i j : Instance) → IsStep g t i → Reads g t i j → g.sort j.attribute ≢ input → (pair : Pair)
+    × ReadsBy g t i j pair

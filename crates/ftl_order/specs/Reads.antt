@@ -1,7 +1,8 @@
 -- What the equation of an instance reads: the instances that its rule sees from the node where it runs, in the order of
 -- the text, each as often as it is read.
 use Rattle.std.specs.Prelude.{ℕ, zero, suc, ◌<◌, List, [], map, Contains}
-use Rattle.ftl_model.specs.AttributeGrammar.{AttributeGrammar, Rule, Sort, inherited, input, local, read_occurrences, synthesized}
+use Rattle.ftl_model.specs.AttributeGrammar.{AttributeGrammar, Rule, Sort, inherited, input, local, read_occurrences}
+use Rattle.ftl_model.specs.AttributeGrammar.{synthesized}
 use Rattle.ftl_model.specs.Path.{Path, kids_at}
 use Rattle.ftl_model.specs.Solves.{Instance, IsInstance, rule_kid, rule_node, rule_of, seen_from}
 use Rattle.ftl_model.specs.Tree.{Forest}

@@ -1,5 +1,6 @@
 -- Schedules: stages one after the other, each with passes beside each other, each with a list of attributes.
-use Rattle.std.specs.Prelude.{◌≡◌, ◌≢◌, ℕ, suc, ◌<◌, Bool, true, false, ◌==◌, if◌then◌else◌, List, [], ◌∷◌, count_by, flat_map, slice_index_or}
+use Rattle.std.specs.Prelude.{◌≡◌, ◌≢◌, ℕ, suc, ◌<◌, Bool, true, false, ◌==◌, if◌then◌else◌, List, [], ◌∷◌, count_by}
+use Rattle.std.specs.Prelude.{flat_map, slice_index_or}
 use Rattle.ftl_lists.specs.Lists.{is_listed, place_in}
 use Rattle.ftl_model.specs.AttributeGrammar.{AttributeGrammar, input}
 

@@ -2,7 +2,8 @@
 -- inherited attributes and the kid's sequence; the synthesized attributes. Attributes of one kind stand by key.
 use Rattle.std.specs.Prelude.{ℕ, Bool, true, false, ◌&&◌, ◌==◌, List, [], ◌++◌, map, filter}
 use Rattle.ftl_lists.specs.Lists.{sorted_by}
-use Rattle.ftl_model.specs.AttributeGrammar.{AttributeGrammar, Sort, attributes_of, inherited, input, local, synthesized}
+use Rattle.ftl_model.specs.AttributeGrammar.{AttributeGrammar, Sort, attributes_of, inherited, input, local}
+use Rattle.ftl_model.specs.AttributeGrammar.{synthesized}
 use Rattle.ftl_model.specs.Path.{Path, at as tree_at, class_at, down, one_more, top}
 use Rattle.ftl_model.specs.Solves.{Instance, instance_of}
 use Rattle.ftl_model.specs.Tree.{Forest, below_of, none, tree}

@@ -1,4 +1,5 @@
-ghost use Rattle.ftl_order.specs.GrammarLaws.{OfLawful, AttributesAreKnown, AttributesAreOwned, OwnersAreOne, ClassesAreDistinct, TablesAreInRange};
+ghost use Rattle.ftl_order.specs.GrammarLaws.{OfLawful, AttributesAreKnown, AttributesAreOwned};
+ghost use Rattle.ftl_order.specs.GrammarLaws.{OwnersAreOne, ClassesAreDistinct, TablesAreInRange};
 
 /// A law: each attribute of a lawful grammar is declared by one interface or one class, once.
 pub fn attributes_have_owners()

@@ -1,5 +1,10 @@
 ghost use Rattle.ftl_order.specs.ReadPairs.{ReadsArePairs};
-ghost use Rattle.ftl_order.specs.OrderLaws.{PrecedenceIsTransitive, PrecedenceIsDecided, UnderOrderedSchedules, WritersStandNear, WritersPrecede, WritersStandBefore, LegalOrderExists, OneTableSolves, OneListSolves, InorderStepsStandInSequence, StepsBelowStandInSequence, SequencesHaveTheirSteps, RunsEndInTheTable};
+ghost use Rattle.ftl_order.specs.OrderLaws.{PrecedenceIsTransitive, PrecedenceIsDecided};
+ghost use Rattle.ftl_order.specs.OrderLaws.{UnderOrderedSchedules, WritersStandNear};
+ghost use Rattle.ftl_order.specs.OrderLaws.{WritersPrecede, WritersStandBefore, LegalOrderExists};
+ghost use Rattle.ftl_order.specs.OrderLaws.{OneTableSolves, OneListSolves};
+ghost use Rattle.ftl_order.specs.OrderLaws.{InorderStepsStandInSequence, StepsBelowStandInSequence};
+ghost use Rattle.ftl_order.specs.OrderLaws.{SequencesHaveTheirSteps, RunsEndInTheTable};
 
 /// A law: what a step reads is an input, or the rules of the two are a pair, and they stand on the
 /// tree as the pair says. It speaks of no schedule.
@@ -38,8 +43,8 @@ pub fn runs_end_in_the_table()
     ensures solves { UnderOrderedSchedules RunsEndInTheTable }
 {}
 
-/// A law: the sequence of an inorder pass has its steps, each once, in an order in which they may be
-/// done; at a node it has those that run there or below.
+/// A law: the sequence of an inorder pass has its steps, each once, in an order in which they may
+/// be done; at a node it has those that run there or below.
 pub fn inorder_sequences()
     ensures sequence { UnderOrderedSchedules InorderStepsStandInSequence }
     ensures below { UnderOrderedSchedules StepsBelowStandInSequence }

@@ -1,4 +1,6 @@
-ghost use Rattle.ftl_order.specs.Numbers.{NodesHaveNumbers, NumbersHaveNodes, PreorderIsWhole, SubtreesAreRanges, InstancesHaveNumbers, NumbersHaveInstances};
+ghost use Rattle.ftl_order.specs.Numbers.{NodesHaveNumbers, NumbersHaveNodes, PreorderIsWhole};
+ghost use Rattle.ftl_order.specs.Numbers.{SubtreesAreRanges, InstancesHaveNumbers};
+ghost use Rattle.ftl_order.specs.Numbers.{NumbersHaveInstances};
 
 /// A law: nodes and preorder numbers are one to one.
 pub fn preorder_numbers()
@@ -7,7 +9,8 @@ pub fn preorder_numbers()
     ensures whole { PreorderIsWhole }
 {}
 
-/// A law: the nodes below a node are those whose numbers follow its own, one fewer than its tree has.
+/// A law: the nodes below a node are those whose numbers follow its own, one fewer than its tree
+/// has.
 pub fn subtree_ranges()
     ensures ranges { SubtreesAreRanges }
 {}

@@ -1,4 +1,5 @@
-ghost use Rattle.ftl_order.specs.OneTable.{OneTableWhereReadsEnd, OneListWhereReadsEnd, ReadsEndByRank};
+ghost use Rattle.ftl_order.specs.OneTable.{OneTableWhereReadsEnd, OneListWhereReadsEnd};
+ghost use Rattle.ftl_order.specs.OneTable.{ReadsEndByRank};
 
 /// A law: where the chains of reads of a lawful grammar's tree end, some table solves, and any two
 /// that solve agree at every instance.

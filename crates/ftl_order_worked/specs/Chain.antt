@@ -2,7 +2,8 @@
 -- root R; interface R { } interface K { inh a, b; show a, b; }
 -- class C : R { kids : [K]; kids.a := first 1 then prev.b; kids.b := first 2 then prev.a + prev.b; } class L : K { }
 use Rattle.std.specs.Prelude.{ℕ, zero, suc, ◌==◌, if◌then◌else◌, true, List, [], ◌∷◌, pos}
-use Rattle.ftl_model.specs.AttributeGrammar.{AttributeGrammar, Occurrence, Rule, first_then, for_child, inherited, kid, plain, prev_read, then_part}
+use Rattle.ftl_model.specs.AttributeGrammar.{AttributeGrammar, Occurrence, Rule, first_then, for_child, inherited, kid}
+use Rattle.ftl_model.specs.AttributeGrammar.{plain, prev_read, then_part}
 use Rattle.ftl_model.specs.Path.{down, top}
 use Rattle.ftl_model.specs.Solves.{Instance, instance_of}
 use Rattle.ftl_model.specs.Tree.{Forest, none, tree}

@@ -1,7 +1,10 @@
 -- Worked schedules, written out by hand, to hold the definitions against.
 use Rattle.std.specs.Prelude.{ℕ, ◌==◌, if◌then◌else◌, List, [], ◌∷◌}
-use Rattle.ftl_model.specs.AttributeGrammar.{AttributeGrammar, Part, Read, RuleName, each_read, first_part, for_child, for_self, plain_part, prev_read, self_read, single_read, then_part, with_part}
-use Rattle.ftl_model.specs.Stack.{body_origin, box_h, box_w, box_x, box_y, column, kids_x, only_child, page_h, sheet, stack, word}
+use Rattle.ftl_model.specs.AttributeGrammar.{AttributeGrammar, Part, Read, RuleName, each_read, first_part, for_child}
+use Rattle.ftl_model.specs.AttributeGrammar.{for_self, plain_part, prev_read, self_read, single_read, then_part}
+use Rattle.ftl_model.specs.AttributeGrammar.{with_part}
+use Rattle.ftl_model.specs.Stack.{body_origin, box_h, box_w, box_x, box_y, column, kids_x, only_child, page_h, sheet}
+use Rattle.ftl_model.specs.Stack.{stack, word}
 use Rattle.ftl_order.specs.Ordered.{IsOrderedPair}
 use Rattle.ftl_order.specs.Pairs.{IsPair, Pair, Where, child_class, parent_class, same_class}
 use Rattle.ftl_order.specs.Schedule.{Pass, PassKind, Schedule, bottomup, spot_of, topdown}

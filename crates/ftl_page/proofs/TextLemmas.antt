@@ -17,20 +17,14 @@ use Rattle.ftl_page.specs.declared.page.Page.{Page}
 use Rattle.ftl_page.specs.Lines.{lines_of, words_of, is_heading, is_body_line}
 use Rattle.ftl_page.specs.Opening.{width_of_line}
 use Rattle.ftl_page.specs.Blocks.{blocks_of, Content, own, named, automatic, content_of}
-use Rattle.ftl_page.specs.Shipped.{stack_text}
+use Rattle.ftl_boxes.specs.Shipped.{shipped_text}
+use Rattle.ftl_boxes.proofs.TextLengths.{length-shipped_text}
 use Rattle.ftl_page.specs.Page.{section_text, text_if, or_else, section_in, needed_text, needed_schedule}
 use Rattle.ftl_page.specs.Page.{page_of_texts, page_with}
 use Rattle.ftl_page.specs.Page.{unless_fault, page_of_lines, page_after}
 use Rattle.ftl_page.specs.Page.{page_of_text, page_of}
 use Rattle.ftl_page.specs.Texts.{HasTextsUpTo}
 use Rattle.ftl_page.proofs.BodyLemmas.{joined, joined-lines_of}
-
--- a shipped text is short
-shipped_is_short : length stack_text ≤ 67108864
-unfolding stack_text
-shipped_is_short =
-    let e : length stack_text ≡ 466 = refl in
-    omega (arith, e)
 
 -- a front of lines has no more bytes than all of them
 length-joined-take : (n : ℕ) (ls : List (List ℕ)) → length (joined (take n ls)) ≤ length (joined ls)
@@ -45,14 +39,14 @@ IsShort None = Unit {0}
 IsShort (Some None) = Unit {0}
 IsShort (Some (Some text)) = length text ≤ 67108864
 
-shipped_text-short : (name : List ℕ) (b : Bool) → IsShort (Some (if b then Some stack_text else None))
-shipped_text-short name true = shipped_is_short
-shipped_text-short name false = tt
+few-short : (found : Option (List ℕ)) → IfSome found (λ text. length text ≤ 4282) → IsShort (Some found)
+few-short None few = tt
+few-short (Some text) few = omega arith
 
 section_text-short : (content : Content) (body : List (List ℕ)) → length (joined body) ≤ 67108864 →
     IsShort (Some (section_text content body))
 section_text-short (own section) body h = h
-section_text-short (named name) body h = shipped_text-short name _
+section_text-short (named name) body h = few-short (shipped_text name) (length-shipped_text name)
 section_text-short automatic body h = tt
 
 same-short : (b : Bool) (text : Option (List ℕ)) → IsShort (Some text) → IsShort (if b then Some text else None)

@@ -5,6 +5,6 @@ pub mod Headings
 pub mod Lines
 pub mod Opening
 pub mod Page
-pub mod Shipped
 pub mod Texts
+pub use Rattle.ftl_boxes.specs.Shipped
 pub use Rattle.ftl_model.specs.Outcome

@@ -14,7 +14,7 @@ use Rattle.ftl_page.specs.declared.page.Page.{Page}
 use Rattle.ftl_page.specs.Lines.{lines_of, words_of, is_body_line, is_stray}
 use Rattle.ftl_page.specs.Opening.{width_of_line}
 use Rattle.ftl_page.specs.Blocks.{Block, blocks_of, Content, own, named, automatic, content_of, section_of}
-use Rattle.ftl_page.specs.Shipped.{shipped_text}
+use Rattle.ftl_boxes.specs.Shipped.{shipped_text}
 
 -- ---- the sections
 

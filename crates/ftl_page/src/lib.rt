@@ -2,12 +2,11 @@
 //! schedule, the document and the edits, or the first fault of the page. Lines are numbered from 1.
 //! `specs/Lines.antt` says what lines and headings are, `specs/Opening.antt` what line 1 names,
 //! `specs/Blocks.antt` what a heading stands for, and `specs/Page.antt` which sections a page has
-//! and which fault is its first.
+//! and which fault is its first. The grammars that a heading may name are those of `ftl_boxes`.
 #![tactic(auto)]
 
 mod body;
 mod fault;
-mod grammars;
 mod laws;
 mod line;
 mod page;
@@ -17,7 +16,6 @@ mod text;
 mod words;
 
 pub use fault::{PageFault, Section};
-pub use grammars::shipped;
 pub use laws::law_of_lines;
 pub use page::{Need, Page};
 pub use split::split_page;

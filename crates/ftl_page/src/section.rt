@@ -11,9 +11,9 @@ ghost use Rattle.ftl_page.specs.Headings.{content};
 ghost use Rattle.ftl_page.specs.Found.{given_text, found_in, TextGives, AddGives};
 
 use crate::fault::{PageFault, Section};
-use crate::grammars::shipped_by_bytes;
 use crate::line::{is_stray, split_line};
 use crate::words::{Heading, heading_of};
+use ftl_boxes::shipped_by_bytes;
 
 /// The text of a section, as it is found.
 #[derive(Clone, Copy, Debug)]

@@ -1,5 +1,6 @@
 use ftl_base::Width;
-use ftl_page::{Need, Page, PageFault, Section, Text, shipped, split_page};
+use ftl_boxes::shipped;
+use ftl_page::{Need, Page, PageFault, Section, Text, split_page};
 use std::process::Abort;
 use std::test::Fail;
 
@@ -33,22 +34,29 @@ const DEMAND: Need = Need {
     edits: false,
 };
 
-/// What a command needs, a page, its width, its grammar, which is the shipped one where none stands
-/// here, and its schedule, document and edits.
+/// The text that a page gives for its grammar.
+#[derive(Clone, Copy, Debug)]
+enum Grammar {
+    Own(&'static str),
+    /// The shipped one of this name.
+    Shipped(&'static str),
+}
+
+/// What a command needs, a page, its width, its grammar, schedule, document and edits.
 static PAGES: [(
     Need,
     &str,
     Width,
+    Grammar,
     Option<&str>,
     Option<&str>,
     Option<&str>,
-    Option<&str>,
-); 9] = [
+); 12] = [
     (
         RUN,
         "%page 1\n%grammar stack\n%schedule auto\n%document\nSheet { }\n",
         Width::Narrow,
-        None,
+        Grammar::Shipped("stack"),
         None,
         Some("Sheet { }\n"),
         None,
@@ -57,7 +65,7 @@ static PAGES: [(
         RUN,
         "%page 1\n%document\nA\n%schedule\nB\r\n\n%grammar\nC % D",
         Width::Narrow,
-        Some("C % D"),
+        Grammar::Own("C % D"),
         Some("B\r\n\n"),
         Some("A\n"),
         None,
@@ -66,7 +74,7 @@ static PAGES: [(
         RUN,
         "%page\t2\r\n # before\n\t\r\n%grammar  stack \t\n # after\n%schedule auto\n#\n%document",
         Width::Wide,
-        None,
+        Grammar::Shipped("stack"),
         None,
         Some(""),
         None,
@@ -75,7 +83,7 @@ static PAGES: [(
         RUN,
         "%page\r1\n%grammar\n# %\n a %\n%schedule\rauto\n \n%document\nx",
         Width::Narrow,
-        Some("# %\n a %\n"),
+        Grammar::Own("# %\n a %\n"),
         None,
         Some("x"),
         None,
@@ -84,7 +92,7 @@ static PAGES: [(
         CHECK,
         "%page 1\n%schedule\n%document\nA\n%grammar\nC",
         Width::Narrow,
-        Some("C"),
+        Grammar::Own("C"),
         Some(""),
         None,
         None,
@@ -93,7 +101,7 @@ static PAGES: [(
         EDIT,
         "%page 2\n%edits\n1.iw = 5;\n%grammar stack\n%schedule auto\n%document\nA",
         Width::Wide,
-        None,
+        Grammar::Shipped("stack"),
         None,
         Some("A"),
         Some("1.iw = 5;\n"),
@@ -102,7 +110,7 @@ static PAGES: [(
         RUN,
         "%page 1\n%edits \nx\n%grammar stack\n%schedule auto\n%document\n",
         Width::Narrow,
-        None,
+        Grammar::Shipped("stack"),
         None,
         Some(""),
         None,
@@ -111,16 +119,43 @@ static PAGES: [(
         DEMAND,
         "%page 1\n%document\nA\n%grammar\nB",
         Width::Narrow,
-        Some("B"),
+        Grammar::Own("B"),
         None,
         Some("A\n"),
         None,
     ),
     (
         GRAMMAR,
+        "%page 1\n%grammar block",
+        Width::Narrow,
+        Grammar::Shipped("block"),
+        None,
+        None,
+        None,
+    ),
+    (
+        RUN,
+        "%page 2\n%schedule auto\n%document\nA\n%grammar\ttable\r\n # B\n",
+        Width::Wide,
+        Grammar::Shipped("table"),
+        None,
+        Some("A\n"),
+        None,
+    ),
+    (
+        GRAMMAR,
+        "%page 1\n%grammar\nstack",
+        Width::Narrow,
+        Grammar::Own("stack"),
+        None,
+        None,
+        None,
+    ),
+    (
+        GRAMMAR,
         "%page 1\n%grammar\nB",
         Width::Narrow,
-        Some("B"),
+        Grammar::Own("B"),
         None,
         None,
         None,
@@ -128,7 +163,7 @@ static PAGES: [(
 ];
 
 /// What a command needs, a page, and its first fault.
-static FAULTS: [(Need, &str, PageFault); 27] = [
+static FAULTS: [(Need, &str, PageFault); 29] = [
     (RUN, "", PageFault::BadVersion),
     (RUN, " %page 1", PageFault::BadVersion),
     (RUN, "\u{feff}%page 1", PageFault::BadVersion),
@@ -156,6 +191,16 @@ static FAULTS: [(Need, &str, PageFault); 27] = [
     (
         RUN,
         "%page 1\n%grammar stock\nx",
+        PageFault::UnknownShipped { line: 2 },
+    ),
+    (
+        GRAMMAR,
+        "%page 1\n\n%grammar Flow",
+        PageFault::UnknownShipped { line: 3 },
+    ),
+    (
+        GRAMMAR,
+        "%page 1\n%grammar blocks",
         PageFault::UnknownShipped { line: 2 },
     ),
     (
@@ -263,12 +308,19 @@ fn assert_text(rt: &impl Abort, text: Option<Text>, wanted: Option<&str>) {
     }
 }
 
+fn text_of(grammar: Grammar) -> Option<&'static str> {
+    match grammar {
+        Grammar::Own(text) => Some(text),
+        Grammar::Shipped(name) => shipped(name),
+    }
+}
+
 #[test]
 fn pages(rt: HostRuntime) -> Result<(), Fail> {
     for &(need, page, width, grammar, schedule, document, edits) in &PAGES {
         let page = split(&rt, page.as_bytes(), need)?;
         assert_eq!(rt; page.width, width);
-        assert_text(&rt, Some(page.grammar), grammar.or(shipped("stack")));
+        assert_text(&rt, Some(page.grammar), text_of(grammar));
         assert_text(&rt, page.schedule, schedule);
         assert_text(&rt, page.document, document);
         assert_text(&rt, page.edits, edits);
@@ -286,5 +338,18 @@ fn faults(rt: HostRuntime) {
         );
     }
     assert_eq!(rt; split(&rt, &[255], RUN).err(), Some(PageFault::NotText));
-    assert_eq!(rt; shipped("stock"), None);
+}
+
+/// The names that `%grammar` knows.
+static NAMES: [&str; 6] = ["stack", "block", "inline", "float", "table", "flow"];
+
+#[test]
+fn shipped_grammars(rt: HostRuntime) -> Result<(), Fail> {
+    for &name in &NAMES {
+        let page = format!(in rt.alloc(); "%page 1\n%grammar {name}\n")?;
+        let page = split(&rt, page.as_bytes(), GRAMMAR)?;
+        assert!(rt; shipped(name).is_some());
+        assert_text(&rt, Some(page.grammar), shipped(name));
+    }
+    Ok(())
 }

@@ -24,7 +24,7 @@ pub fn place_in(scanned: &TokenizedText, left: usize) -> u32
 
 /// `place_in` of a text with narrow numbers.
 pub fn place(scanned: &Scanned, left: usize) -> u32
-    ensures { result ≡ place_of scanned.now.tokens (length scanned.now.tokens - left) }
+    ensures place { result ≡ place_of scanned.now.tokens (length scanned.now.tokens - left) }
 {
     place_in(scanned.tokenized(), left)
 }

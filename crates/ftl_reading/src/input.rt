@@ -31,7 +31,7 @@ impl<'a> Model for Input<'a> {
 impl<'a> Input<'a> {
     /// All tokens of the text.
     pub fn new(scanned: &'a Scanned) -> Input<'a>
-        ensures { result ≡ symbols_of scanned.now }
+        ensures tokens { result ≡ symbols_of scanned.now }
     {
         Input {
             wide: WideInput::over(scanned.tokenized()),
@@ -47,7 +47,7 @@ impl<'a> Input<'a> {
 
     /// How many tokens are left.
     pub fn left(&self) -> usize
-        ensures { result ≡ length self.now }
+        ensures count { result ≡ length self.now }
     {
         self.wide.left()
     }

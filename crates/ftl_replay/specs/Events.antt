@@ -3,13 +3,16 @@ use Rattle.std.specs.Prelude.{◌≡◌, ◌≢◌, ℕ, ◌<◌, List, ◌∷�
 use mathlib.Core.Option.{some}
 use lib.ListN.{get_elem?}
 use Rattle.ftl_cells.specs.Work.{Meaning, item_total, step_total, read_total}
-use Rattle.ftl_cells.specs.State.{Place, live, spent, OneStep, HandState, newcomer, next_name, given_up, after, after_join, load_counter, claim, load_cell, store_cell, mark, delivery, split, join, IsFree, Steps, end_word, count_word}
+use Rattle.ftl_cells.specs.State.{Place, live, spent, OneStep, HandState, newcomer, next_name, given_up, after}
+use Rattle.ftl_cells.specs.State.{after_join, load_counter, claim, load_cell, store_cell, mark, delivery, split, join}
+use Rattle.ftl_cells.specs.State.{IsFree, Steps, end_word, count_word}
 use Rattle.ftl_cells.specs.Calls.{CanClaim, CanRead, CanMark, CanDeliver}
 use Rattle.ftl_cells.specs.declared.place.HandPlace.TheVariants.{Idle, Working}
 use Rattle.ftl_replay.specs.declared.place.ReplayPlace.{ReplayPlace}
 use Rattle.ftl_replay.specs.declared.place.ReplayPlace.TheVariants.{Live, Spent}
 use Rattle.ftl_replay.specs.declared.event.Event.{Event}
-use Rattle.ftl_replay.specs.declared.event.Event.TheVariants.{Look, Claim, Read, Fill, Mark, Deliver, Left, Another, GiveUp}
+use Rattle.ftl_replay.specs.declared.event.Event.TheVariants.{Look, Claim, Read, Fill, Mark, Deliver, Left, Another}
+use Rattle.ftl_replay.specs.declared.event.Event.TheVariants.{GiveUp}
 
 -- the hand that makes the step
 abbrev pub hand_of : Event → ℕ

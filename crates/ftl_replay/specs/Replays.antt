@@ -56,6 +56,17 @@ pub record IsFirstNoStep (m : Meaning) (cells : List ℕ) (events : List Event) 
   pub before : LeadTo m cells (take at events) words places
   pub no_step : IsStepAt m event places → ⊥
 
+-- the events lead from the opening over these cells to some state
+pub record LeadSomewhere (m : Meaning) (cells : List ℕ) (events : List Event) : Type 0 where
+  pub words : List ℕ
+  pub places : List ReplayPlace
+  pub lead : LeadTo m cells events words places
+
+-- at some place of the events stands the first that is no step
+pub record HaveNoStep (m : Meaning) (cells : List ℕ) (events : List Event) : Type 0 where
+  pub at : ℕ
+  pub first : IsFirstNoStep m cells events at
+
 -- the fault is want of memory, or names that place
 abbrev pub NamesFirstNoStep : Meaning → List ℕ → List Event → ReplayFault → Type 0
 NamesFirstNoStep m cells events (NoStep at) = IsFirstNoStep m cells events at
@@ -71,6 +82,12 @@ pub record IsStateOf (m : Meaning) (words : List ℕ) (hands : List HandState)
 -- there are such hands
 abbrev pub IsState : Meaning → List ℕ → List ReplayPlace → Type 0
 IsState m words places = (hands : List HandState) × IsStateOf m words hands places
+
+-- from this state of words and hands the event is a step
+pub record IsStep (m : Meaning) (event : Event) (words : List ℕ) (hands : List HandState) : Type 0 where
+  pub next : List ℕ
+  pub more : List HandState
+  pub does : Does m event words hands next more
 
 -- the event is a step from this state to one of these words and places
 pub record DoesAt (m : Meaning) (event : Event) (words : List ℕ) (hands : List HandState) (next : List ℕ)

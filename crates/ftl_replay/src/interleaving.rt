@@ -6,10 +6,9 @@ ghost use Rattle.ftl_replay.specs.Replays.{row_of};
 use crate::event::Event;
 use crate::fault::ReplayFault;
 use crate::make::make_step;
-use crate::opening::open_row;
 use crate::place::ReplayPlace;
 use crate::scratch::Scratch;
-use ftl_cells::{HandPlace, Work};
+use ftl_cells::{HandPlace, Work, open_row};
 use std::alloc::{AllocError, Global};
 
 /// A state of shared cells on plain vectors.

@@ -1,11 +1,12 @@
 //! What holds of events and of the states that they lead to.
-ghost use Rattle.std.specs.Prelude.{◌≡◌, ℕ, List, [], ◌∷◌};
+ghost use Rattle.std.specs.Prelude.{◌≡◌, ◌↔◌, ◌⊎◌, ℕ, List, [], ◌∷◌};
 ghost use Rattle.ftl_cells.specs.Work.{Meaning, IsLawfulWork};
 ghost use Rattle.ftl_cells.specs.State.{HandState, newcomer, first_name, AreFirst, opening_words};
 ghost use Rattle.ftl_cells.specs.State.{Makes, Reached};
 ghost use Rattle.ftl_cells.specs.Kept.{IsKeptBy};
 ghost use Rattle.ftl_replay.specs.Events.{Does, IsStepAt};
-ghost use Rattle.ftl_replay.specs.Replays.{Lead, ArePlacesOf};
+ghost use Rattle.ftl_replay.specs.Replays.{Lead, LeadTo, ArePlacesOf, IsStateOf, IsStep};
+ghost use Rattle.ftl_replay.specs.Replays.{LeadSomewhere, HaveNoStep, IsFirstNoStep};
 ghost use Rattle.ftl_replay.specs.declared.event.Event.{Event};
 ghost use Rattle.ftl_replay.specs.declared.place.ReplayPlace.{ReplayPlace};
 
@@ -23,9 +24,44 @@ pub fn events_are_steps()
 
 /// From one state an event leads to one state at most.
 pub fn one_state_follows()
-    ensures { (m : Meaning) (words : List ℕ) (hands : List HandState) (next last : List ℕ)
+    ensures one { (m : Meaning) (words : List ℕ) (hands : List HandState) (next last : List ℕ)
         (more most : List HandState) (event : Event) → Does m event words hands next more
         → Does m event words hands last most → (next ≡ last) × (more ≡ most) }
+{}
+
+/// On a state that keeps the rule, an event is a step exactly where its hands are at places for it.
+/// So `replay` makes each event that is a step.
+pub fn places_decide_steps()
+    ensures exactly { (m : Meaning) (words : List ℕ) (hands : List HandState)
+        (places : List ReplayPlace) → IsStateOf m words hands places → (event : Event)
+        → IsStep m event words hands ↔ IsStepAt m event places }
+{}
+
+/// From one state a list of events leads to one state at most. So what `replay` answers is the only
+/// state that its events lead to.
+pub fn one_state_of_events()
+    ensures hands { (m : Meaning) (words : List ℕ) (hands : List HandState) (events : List Event)
+        (next last : List ℕ) (more most : List HandState) → Lead m words hands events next more
+        → Lead m words hands events last most → (next ≡ last) × (more ≡ most) }
+    ensures places { (m : Meaning) (cells : List ℕ) (events : List Event) (next last : List ℕ)
+        (more most : List ReplayPlace) → LeadTo m cells events next more
+        → LeadTo m cells events last most → (next ≡ last) × (more ≡ most) }
+{}
+
+/// Each list of events leads to a state, or one of them is the first that is no step.
+pub fn each_list_has_an_answer()
+    ensures some { (m : Meaning) → IsLawfulWork m → (cells : List ℕ) → AreFirst m cells
+        → (events : List Event) → LeadSomewhere m cells events ⊎ HaveNoStep m cells events }
+{}
+
+/// Events lead nowhere where one of them is the first that is no step, and there is one such place
+/// at most. So, want of memory aside, `replay` answers `NoStep` exactly where an event is no step.
+pub fn one_event_is_the_first()
+    ensures nowhere { (m : Meaning) (cells : List ℕ) (events : List Event) (at : ℕ)
+        → IsFirstNoStep m cells events at → (words : List ℕ) (places : List ReplayPlace)
+        → LeadTo m cells events words places → ⊥ }
+    ensures one { (m : Meaning) (cells : List ℕ) (events : List Event) (at place : ℕ)
+        → IsFirstNoStep m cells events at → IsFirstNoStep m cells events place → at ≡ place }
 {}
 
 /// The states that events lead to are states that steps reach from the opening, and keep the rule.

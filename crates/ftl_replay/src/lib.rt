@@ -9,7 +9,6 @@ mod fault;
 mod interleaving;
 pub mod laws;
 mod make;
-mod opening;
 mod place;
 mod scratch;
 mod steps;

@@ -32,10 +32,14 @@ laid_out t values =
 -- What the words and the bytes ask for: the first refusal that applies, in the order of the first three lines, else the
 -- boxes of a table that solves the page's document.
 pub data IsAnswer : List (List ℕ) → List ℕ → Answer → Type 0 where
-  bad_words : {words : List (List ℕ)} {bytes : List ℕ} → words ≢ run_words → IsAnswer words bytes (refused 2 (codes "refused words"))
-  too_long : {bytes : List ℕ} → 67108864 < length bytes → IsAnswer run_words bytes (refused 4 (codes "refused page: too long"))
-  not_built : {bytes : List ℕ} → length bytes ≤ 67108864 → ((t : Forest) → IsInFirstForm bytes t → ⊥) → IsAnswer run_words bytes (refused 4 (codes "refused page: form not built"))
-  boxes_of : {bytes : List ℕ} {t : Forest} {values : List Value} → IsInFirstForm bytes t → SolvesList stack t values → IsAnswer run_words bytes (laid_out t values)
+  bad_words : {words : List (List ℕ)} {bytes : List ℕ} → words ≢ run_words
+      → IsAnswer words bytes (refused 2 (codes "refused words"))
+  too_long : {bytes : List ℕ} → 67108864 < length bytes
+      → IsAnswer run_words bytes (refused 4 (codes "refused page: too long"))
+  not_built : {bytes : List ℕ} → length bytes ≤ 67108864 → ((t : Forest) → IsInFirstForm bytes t → ⊥)
+      → IsAnswer run_words bytes (refused 4 (codes "refused page: form not built"))
+  boxes_of : {bytes : List ℕ} {t : Forest} {values : List Value} → IsInFirstForm bytes t → SolvesList stack t values
+      → IsAnswer run_words bytes (laid_out t values)
 
 -- words and bytes have one answer
 pub record HasOneAnswer (words : List (List ℕ)) (bytes : List ℕ) : Type 0 where

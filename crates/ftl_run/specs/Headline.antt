@@ -25,9 +25,10 @@ IsTrouble status = (status ≡ 1) ⊎ ((status ≡ 3) ⊎ (status ≡ 9))
 abbrev pub IsPageStatus : ℕ → Type 0
 IsPageStatus status = (status ≡ 0) ⊎ ((status ≡ 4) ⊎ (status ≡ 8))
 
--- A write fault comes only where the sink's count rose, with a front of the answer's text written; a read fault only where
--- the source's count rose; and with a read fault or want of memory nothing was written.
-pub record FaultsHaveCauses (status : ℕ) (words : List (List ℕ)) (told written after : Option (List ℕ)) (write_rose read_rose : Type 0) : Type 0 where
+-- A write fault comes only where the sink's count rose, with a front of the answer's text written; a read fault only
+-- where the source's count rose; and with a read fault or want of memory nothing was written.
+pub record FaultsHaveCauses (status : ℕ) (words : List (List ℕ)) (told written after : Option (List ℕ))
+    (write_rose read_rose : Type 0) : Type 0 where
   pub write : status ≡ 1 → write_rose
   pub front : status ≡ 1 → OfAnswer words told (λ a. AppendsFront written after a.text)
   pub read : status ≡ 3 → read_rose
@@ -36,7 +37,8 @@ pub record FaultsHaveCauses (status : ℕ) (words : List (List ℕ)) (told writt
 -- Where the words are no command, the source was not called, and there is no read fault. Else it was read to its end,
 -- unless the page is too long, a read failed or memory ran out. At most one byte past the limit was taken, in at most
 -- one call for each byte and one for the end.
-pub record ReadsInput (status : ℕ) (words : List (List ℕ)) (told left : Option (List ℕ)) (old new : SourceCounts) : Type 0 where
+pub record ReadsInput (status : ℕ) (words : List (List ℕ)) (told left : Option (List ℕ))
+    (old new : SourceCounts) : Type 0 where
   pub untouched : words ≢ run_words → (left ≡ told) × (new ≡ old) × (status ≢ 3)
   pub at_most : new.taken ≤ old.taken + 67108865
   pub turns : new.calls ≤ old.calls + 67108866

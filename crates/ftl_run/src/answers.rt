@@ -3,5 +3,5 @@ ghost use Rattle.ftl_run.specs.Answer.{HasOneAnswer};
 
 /// A law: any words and bytes have one answer, and no other.
 pub fn one_answer()
-    ensures { (words : List (List ℕ)) (bytes : List ℕ) → HasOneAnswer words bytes }
+    ensures one { (words : List (List ℕ)) (bytes : List ℕ) → HasOneAnswer words bytes }
 {}

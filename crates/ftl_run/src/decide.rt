@@ -137,7 +137,8 @@ pub fn decide<S: Source>(
     ensures page { texts words.now ≡ run_words → IfOk result (λ d. IsPageStatus d.status.0) }
     ensures refused { texts words.now ≢ run_words
         → IfOk result (λ d. answer_of d ≡ refused 2 (codes "refused words")) }
-    ensures end { IfOk result (λ d. texts words.now ≡ run_words → answer_of d ≢ refused 4 (codes "refused page: too long")
+    ensures end { IfOk result (λ d. texts words.now ≡ run_words
+        → answer_of d ≢ refused 4 (codes "refused page: too long")
         → IfSome (S.remaining source.old) (λ _. S.remaining source.new ≡ Some [])) }
     ensures fault { IsErrOf result Undecided.ReadFault → Rose (S.fault_count source.old)
         (S.fault_count source.new) }

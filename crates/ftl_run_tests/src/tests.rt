@@ -9,8 +9,8 @@ const HEADING: &str = "%page 1\n%grammar stack\n%schedule auto\n%document\n";
 const TWO_WORDS: &str =
     "Sheet { body = Column { kids = [ Word { iw = 20 ih = 10 } Word { iw = 30 ih = 15 } ] } }\n";
 
-const TWO_WORDS_BOXES: &str =
-    "0 Sheet h=25\n1 Column x=0 y=0 w=30 h=25\n2 Word x=0 y=0 w=20 h=10\n3 Word x=0 y=10 w=30 h=15\n";
+const TWO_WORDS_BOXES: &str = "0 Sheet h=25\n1 Column x=0 y=0 w=30 h=25\n2 Word x=0 y=0 w=20 h=10\n\
+    3 Word x=0 y=10 w=30 h=15\n";
 
 fn words(alloc: Global, word: &str) -> Result<Vec<String>, AllocError> {
     let mut words = Vec::new(alloc);
@@ -76,9 +76,11 @@ fn an_empty_column(rt: HostRuntime) -> Result<(), Fail> {
 fn overflowing_heights(rt: HostRuntime) -> Result<(), Fail> {
     check(
         &rt,
-        "Sheet { body = Column { kids = [ Word { iw = 1 ih = 2147483647 } Word { iw = 1 ih = 2147483647 } ] } }",
+        "Sheet { body = Column { kids = [ Word { iw = 1 ih = 2147483647 } Word { iw = 1 ih = \
+        2147483647 } ] } }",
         8,
-        "0 Sheet h=overflow\n1 Column x=0 y=0 w=1 h=overflow\n2 Word x=0 y=0 w=1 h=2147483647\n3 Word x=0 y=2147483647 w=1 h=2147483647\n",
+        "0 Sheet h=overflow\n1 Column x=0 y=0 w=1 h=overflow\n2 Word x=0 y=0 w=1 h=2147483647\n\
+        3 Word x=0 y=2147483647 w=1 h=2147483647\n",
     )?;
     Ok(())
 }
@@ -98,9 +100,12 @@ fn a_sheet_over_a_word(rt: HostRuntime) -> Result<(), Fail> {
 fn columns_in_columns(rt: HostRuntime) -> Result<(), Fail> {
     check(
         &rt,
-        "Sheet { body = Column { kids = [ Column { kids = [ Word { iw = 5 ih = 1 } Word { iw = 9 ih = 2 } ] } Word { iw = 3 ih = 4 } Column { kids=[Word{iw=2ih=8}] } ] } }",
+        "Sheet { body = Column { kids = [ Column { kids = [ Word { iw = 5 ih = 1 } Word { iw = \
+        9 ih = 2 } ] } Word { iw = 3 ih = 4 } Column { kids=[Word{iw=2ih=8}] } ] } }",
         0,
-        "0 Sheet h=15\n1 Column x=0 y=0 w=9 h=15\n2 Column x=0 y=0 w=9 h=3\n3 Word x=0 y=0 w=5 h=1\n4 Word x=0 y=1 w=9 h=2\n5 Word x=0 y=3 w=3 h=4\n6 Column x=0 y=7 w=2 h=8\n7 Word x=0 y=7 w=2 h=8\n",
+        "0 Sheet h=15\n1 Column x=0 y=0 w=9 h=15\n2 Column x=0 y=0 w=9 h=3\n\
+        3 Word x=0 y=0 w=5 h=1\n4 Word x=0 y=1 w=9 h=2\n5 Word x=0 y=3 w=3 h=4\n\
+        6 Column x=0 y=7 w=2 h=8\n7 Word x=0 y=7 w=2 h=8\n",
     )?;
     Ok(())
 }

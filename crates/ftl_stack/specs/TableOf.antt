@@ -19,7 +19,8 @@ area_value t areas p a =
     if a == box_x then (area_at t areas p).x
     else (if a == box_y then (area_at t areas p).y
     else (if a == box_w then (area_at t areas p).w
-    else (if a == word_iw || a == word_ih then input_value stack (class_at t p) a (inputs_at t p) else (area_at t areas p).h)))
+    else (if a == word_iw || a == word_ih then input_value stack (class_at t p) a (inputs_at t p)
+    else (area_at t areas p).h)))
 
 abbrev pub table_of : Forest → List Area → Instance → Value
 table_of t areas i = area_value t areas i.node i.attribute

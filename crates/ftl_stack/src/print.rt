@@ -101,8 +101,9 @@ fn print_line(out: &mut Vec<u8>, number: u32, class: u32, area: &Area) -> Result
 
 /// The printed boxes of a document with these areas, node by node.
 pub fn print_boxes(alloc: Global, tree: &Tree, areas: &[Area]) -> Result<Vec<u8>, AllocError>
-    requires { length areas.now ≡ size tree.now }
-    ensures { IfOk result (λ v. v.items ≡ boxes stack_names tree.now (table_of tree.now areas.now)) }
+    requires areas { length areas.now ≡ size tree.now }
+    ensures text { IfOk result (λ v. v.items
+        ≡ boxes stack_names tree.now (table_of tree.now areas.now)) }
 {
     let mut out = Vec::with_capacity(alloc, LINE_BYTES * areas.len())?;
     for node in 0..tree.node_count() {
@@ -121,8 +122,8 @@ fn area_overflows(class: u32, area: &Area) -> bool
 
 /// Whether a shown value of the document is Overflow.
 pub fn shows_overflow(tree: &Tree, areas: &[Area]) -> bool
-    requires { length areas.now ≡ size tree.now }
-    ensures { result ≡ shows_overflow stack_names tree.now (table_of tree.now areas.now) }
+    requires areas { length areas.now ≡ size tree.now }
+    ensures shown { result ≡ shows_overflow stack_names tree.now (table_of tree.now areas.now) }
 {
     for node in 0..tree.node_count() {
         if area_overflows(tree.class(node), &areas[node as usize]) {

@@ -12,13 +12,13 @@ ghost use Rattle.ftl_syntax.specs.declared.rules.Grammar.{Grammar};
 
 /// No tokens spell two grammars.
 pub fn one_grammar()
-    ensures { (tokens : Tokens) (g h : Grammar)
+    ensures same { (tokens : Tokens) (g h : Grammar)
         → SpellsGrammar tokens g → SpellsGrammar tokens h → g ≡ h }
 {}
 
 /// The tokens of a text go wrong at one byte at most.
 pub fn one_place()
-    ensures { (scanned : Tokenized) (at other : ℕ) → IsPlaceOf SpellsGrammar scanned at
+    ensures same { (scanned : Tokenized) (at other : ℕ) → IsPlaceOf SpellsGrammar scanned at
         → IsPlaceOf SpellsGrammar scanned other → at ≡ other }
 {}
 

@@ -9,7 +9,7 @@ use Rattle.ftl_tree.specs.declared.symbol.Terminal.{Terminal}
 use Rattle.ftl_tree.specs.declared.symbol.Terminal.TheVariants.{Sheet, Column, Word, Body, Kids, Iw, Ih, LeftBrace, RightBrace, LeftBracket, RightBracket, Equals}
 use Rattle.ftl_tree.specs.declared.symbol.Symbol.{Symbol}
 use Rattle.ftl_tree.specs.declared.symbol.Symbol.TheVariants.{Fixed, Number}
-use Rattle.ftl_tree.specs.Symbols.{Scans, nothing, blank, word, mark, numeral, IsNumeral, EndsRun, is_blank, is_mark, text_of}
+use Rattle.ftl_tree.specs.Symbols.{Scans, nothing, blank, word, mark, numeral, IsNumeral, EndsRun, is_blank, is_mark, terminal_text}
 use Rattle.ftl_tree.specs.Scanning.{word_at, number_at, mark_at, symbol_at, unblanked, next_symbol, number_of_digits, Scanned, scanned, scanned_within, scanned_step, is_nothing, with_symbol}
 use Rattle.ftl_tree.proofs.Runs.{prefix_len-run, unblanked-blank, unblanked-other}
 use Rattle.ftl_tree.proofs.ScanningLemmas.{word_at_some}
@@ -24,14 +24,14 @@ digit_is_no_letter : (b : ℕ) → is_ascii_digit b ≡ true → is_ascii_alphab
 digit_is_no_letter b h = grind (arith, nat_tests, h)
 
 -- a whole run of letters that is a word comes next
-next_word : (b : ℕ) (text bytes : List ℕ) (t : Terminal) → AllByRecursion (λ c. is_ascii_alphabetic c ≡ true) (b ∷ text) → EndsRun is_ascii_alphabetic bytes → is_mark t ≡ false → text_of t ≡ b ∷ text → next_symbol ((b ∷ text) ++ bytes) ≡ Some (Fixed t, bytes)
+next_word : (b : ℕ) (text bytes : List ℕ) (t : Terminal) → AllByRecursion (λ c. is_ascii_alphabetic c ≡ true) (b ∷ text) → EndsRun is_ascii_alphabetic bytes → is_mark t ≡ false → terminal_text t ≡ b ∷ text → next_symbol ((b ∷ text) ++ bytes) ≡ Some (Fixed t, bytes)
 next_word b text bytes t letters ends kind is =
     let run = prefix_len-run is_ascii_alphabetic (b ∷ text) bytes letters ends in
     ap symbol_at (unblanked-other b (text ++ bytes) (letter_is_no_blank b letters.0))
     ∙ ap (λ v. cond v (word_at (b ∷ text ++ bytes)) (cond (is_ascii_digit b) (number_at (b ∷ text ++ bytes)) (mark_at b (text ++ bytes)))) letters.0
     ∙ word_at_some (b ∷ text ++ bytes) (b ∷ text) bytes (length (b ∷ text)) t (sym run) (sym (take_at (b ∷ text) bytes (length (b ∷ text)) refl)) (sym (drop_at (b ∷ text) bytes (length (b ∷ text)) refl)) kind is
 
-next_fixed_word : (t : Terminal) (bytes : List ℕ) → is_mark t ≡ false → EndsRun is_ascii_alphabetic bytes → next_symbol (text_of t ++ bytes) ≡ Some (Fixed t, bytes)
+next_fixed_word : (t : Terminal) (bytes : List ℕ) → is_mark t ≡ false → EndsRun is_ascii_alphabetic bytes → next_symbol (terminal_text t ++ bytes) ≡ Some (Fixed t, bytes)
 next_fixed_word Sheet bytes h e = next_word _ _ bytes Sheet (refl, (refl, (refl, (refl, (refl, tt))))) e h refl
 next_fixed_word Column bytes h e = next_word _ _ bytes Column (refl, (refl, (refl, (refl, (refl, (refl, tt)))))) e h refl
 next_fixed_word Word bytes h e = next_word _ _ bytes Word (refl, (refl, (refl, (refl, tt)))) e h refl
@@ -45,7 +45,7 @@ next_fixed_word LeftBracket bytes h e = cc
 next_fixed_word RightBracket bytes h e = cc
 next_fixed_word Equals bytes h e = cc
 
-next_fixed_mark : (t : Terminal) (bytes : List ℕ) → is_mark t ≡ true → next_symbol (text_of t ++ bytes) ≡ Some (Fixed t, bytes)
+next_fixed_mark : (t : Terminal) (bytes : List ℕ) → is_mark t ≡ true → next_symbol (terminal_text t ++ bytes) ≡ Some (Fixed t, bytes)
 unfolding mark_at
 next_fixed_mark Sheet bytes h = cc
 next_fixed_mark Column bytes h = cc
@@ -92,7 +92,7 @@ unfolding scanned_within
 scanned_next n bytes rest s ss next more =
     ap (scanned_step (scanned_within n) (is_nothing (unblanked bytes))) next ∙ ap (with_symbol s) more
 
-some_text : (t : Terminal) → 0 < length (text_of t)
+some_text : (t : Terminal) → 0 < length (terminal_text t)
 some_text Sheet = omega arith
 some_text Column = omega arith
 some_text Word = omega arith
@@ -122,9 +122,9 @@ scans_within bytes ss (suc n) (blank {b} {bytes = rest} is scans) h =
     ap (λ r. scanned_step (scanned_within n) (is_nothing r) (symbol_at r)) (unblanked-blank b rest is)
     ∙ scans_within rest ss (suc n) scans (omega (arith, h))
 scans_within bytes ss n (word {t} {bytes = rest} {symbols} kind ends scans) h =
-    turn_spent (text_of t) rest n (Fixed t) symbols (some_text t) h (next_fixed_word t rest kind ends) (λ m k. scans_within rest symbols m scans k)
+    turn_spent (terminal_text t) rest n (Fixed t) symbols (some_text t) h (next_fixed_word t rest kind ends) (λ m k. scans_within rest symbols m scans k)
 scans_within bytes ss n (mark {t} {bytes = rest} {symbols} kind scans) h =
-    turn_spent (text_of t) rest n (Fixed t) symbols (some_text t) h (next_fixed_mark t rest kind) (λ m k. scans_within rest symbols m scans k)
+    turn_spent (terminal_text t) rest n (Fixed t) symbols (some_text t) h (next_fixed_mark t rest kind) (λ m k. scans_within rest symbols m scans k)
 scans_within bytes ss n (numeral {text} {bytes = rest} {n = value} {symbols} is ends scans) h =
     turn_spent text rest n (Number value) symbols is.some h (next_number text rest value is ends) (λ m k. scans_within rest symbols m scans k)
 

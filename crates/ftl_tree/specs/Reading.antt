@@ -1,8 +1,10 @@
 -- Reading the rows of a stack document, symbol by symbol. Each step takes a state to the next, or refuses.
-use Rattle.std.specs.Prelude.{◌≡◌, ◌≢◌, ℕ, zero, suc, ◌+◌, ◌==◌, Bool, false, if◌then◌else◌, List, [], ◌∷◌, ◌++◌, length, Option, Some, None, Result, Ok, Err, pos}
+use Rattle.std.specs.Prelude.{◌≡◌, ◌≢◌, ℕ, zero, suc, ◌+◌, ◌==◌, Bool, false, if◌then◌else◌, List, [], ◌∷◌, ◌++◌}
+use Rattle.std.specs.Prelude.{length, Option, Some, None, Result, Ok, Err, pos}
 use Rattle.ftl_model.specs.Stack.{column, sheet, word}
 use Rattle.ftl_tree.specs.declared.symbol.Terminal.{Terminal}
-use Rattle.ftl_tree.specs.declared.symbol.Terminal.TheVariants.{Sheet, Column, Word, Body, Kids, Iw, Ih, LeftBrace, RightBrace, LeftBracket, RightBracket, Equals}
+use Rattle.ftl_tree.specs.declared.symbol.Terminal.TheVariants.{Sheet, Column, Word, Body, Kids, Iw, Ih, LeftBrace}
+use Rattle.ftl_tree.specs.declared.symbol.Terminal.TheVariants.{RightBrace, LeftBracket, RightBracket, Equals}
 use Rattle.ftl_tree.specs.declared.symbol.Symbol.{Symbol}
 use Rattle.ftl_tree.specs.declared.symbol.Symbol.TheVariants.{Fixed, Number}
 use Rattle.ftl_tree.specs.declared.fault.StackFault.{StackFault}
@@ -104,7 +106,8 @@ is_closing (Fixed t) = order_of t == 10
 is_closing (Number n) = false
 
 -- one box, or the end of the boxes
-abbrev pub kids_in : (ℕ → Symbol → State → Option State) → (State → Option State) → ℕ → List Symbol → State → Option State
+abbrev pub kids_in : (ℕ → Symbol → State → Option State) → (State → Option State) → ℕ → List Symbol → State
+    → Option State
 kids_in box more kid [] s = None
 kids_in box more kid (symbol ∷ rest) s =
     if is_closing symbol then Some (behind rest s) else box kid symbol (behind rest s) >>= more
@@ -116,7 +119,8 @@ kids_within box zero kid s = None
 kids_within box (suc turns) kid s = kids_in box (kids_within box turns (kid + 1)) kid s.text.symbols s
 
 -- a column behind its name
-unfoldable pub column_rest : ((parent kid : ℕ) → Symbol → State → Option State) → (parent kid : ℕ) → State → Option State
+unfoldable pub column_rest : ((parent kid : ℕ) → Symbol → State → Option State) → (parent kid : ℕ) → State
+    → Option State
 column_rest box parent kid s = do
   s ← expect LeftBrace s
   s ← expect Kids s
@@ -128,7 +132,8 @@ column_rest box parent kid s = do
   s ← expect RightBrace s
   Some (close_node number s)
 
-abbrev pub box_level : ((parent kid : ℕ) → Symbol → State → Option State) → (parent kid : ℕ) → Symbol → State → Option State
+abbrev pub box_level : ((parent kid : ℕ) → Symbol → State → Option State) → (parent kid : ℕ) → Symbol → State
+    → Option State
 box_level inner parent kid (Number n) s = None
 box_level inner parent kid (Fixed t) s =
     if order_of t == 2 then word_rest parent kid s

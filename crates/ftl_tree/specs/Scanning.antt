@@ -1,13 +1,15 @@
 -- The symbols at the front of the bytes, one after another.
-use Rattle.std.specs.Prelude.{ℕ, zero, suc, ◌==◌, nat_le, ◌&&◌, Bool, true, false, if◌then◌else◌, List, [], ◌∷◌, length, take, drop, Option, Some, None}
+use Rattle.std.specs.Prelude.{ℕ, zero, suc, ◌==◌, nat_le, ◌&&◌, Bool, true, false, if◌then◌else◌, List, [], ◌∷◌, length}
+use Rattle.std.specs.Prelude.{take, drop, Option, Some, None}
 use Rattle.std.specs.List.{prefix_len}
 use Rattle.std.specs.Char.{is_ascii_alphabetic, is_ascii_digit}
 use Rattle.std.specs.Str.Parse.{digits_value}
 use Rattle.ftl_tree.specs.declared.symbol.Terminal.{Terminal}
-use Rattle.ftl_tree.specs.declared.symbol.Terminal.TheVariants.{Sheet, Column, Word, Body, Kids, Iw, Ih, LeftBrace, RightBrace, LeftBracket, RightBracket, Equals}
+use Rattle.ftl_tree.specs.declared.symbol.Terminal.TheVariants.{Sheet, Column, Word, Body, Kids, Iw, Ih, LeftBrace}
+use Rattle.ftl_tree.specs.declared.symbol.Terminal.TheVariants.{RightBrace, LeftBracket, RightBracket, Equals}
 use Rattle.ftl_tree.specs.declared.symbol.Symbol.{Symbol}
 use Rattle.ftl_tree.specs.declared.symbol.Symbol.TheVariants.{Fixed, Number}
-use Rattle.ftl_tree.specs.Symbols.{is_blank, text_of}
+use Rattle.ftl_tree.specs.Symbols.{is_blank, terminal_text}
 
 abbrev pub same_bytes : List ℕ → List ℕ → Bool
 same_bytes [] [] = true
@@ -18,7 +20,7 @@ same_bytes (a ∷ as') (b ∷ bs) = a == b && same_bytes as' bs
 -- the first of these that is written so
 abbrev pub written_so : List Terminal → List ℕ → Option Terminal
 written_so [] text = None
-written_so (t ∷ ts) text = if same_bytes (text_of t) text then Some t else written_so ts text
+written_so (t ∷ ts) text = if same_bytes (terminal_text t) text then Some t else written_so ts text
 
 abbrev pub words : List Terminal
 words = Sheet ∷ (Column ∷ (Word ∷ (Body ∷ (Kids ∷ (Iw ∷ (Ih ∷ []))))))
@@ -29,7 +31,8 @@ marks = LeftBrace ∷ (RightBrace ∷ (LeftBracket ∷ (RightBracket ∷ (Equals
 -- the number of a run of digits, unless it is too long or too large
 abbrev pub number_of_digits : List ℕ → Option ℕ
 number_of_digits digits =
-    if nat_le (length digits) 10 && nat_le (digits_value 10 digits) 2147483647 then Some (digits_value 10 digits) else None
+    if nat_le (length digits) 10 && nat_le (digits_value 10 digits) 2147483647 then Some (digits_value 10 digits)
+    else None
 
 -- a symbol, if there is one, and the bytes behind it
 abbrev pub fixed_before : List ℕ → Option Terminal → Option (Symbol × List ℕ)
@@ -90,7 +93,8 @@ scanned_step more whole (Some found) = with_symbol found.0 (more found.1)
 
 unfoldable pub scanned_within : ℕ → List ℕ → Scanned
 scanned_within zero bytes = record { symbols = []; whole = is_nothing (unblanked bytes) }
-scanned_within (suc turns) bytes = scanned_step (scanned_within turns) (is_nothing (unblanked bytes)) (next_symbol bytes)
+scanned_within (suc turns) bytes = scanned_step (scanned_within turns) (is_nothing (unblanked bytes))
+    (next_symbol bytes)
 
 unfoldable pub scanned : List ℕ → Scanned
 scanned bytes = scanned_within (length bytes) bytes

@@ -4,7 +4,8 @@ use Rattle.std.specs.List.{AllByRecursion}
 use Rattle.std.specs.Char.{is_ascii_alphabetic, is_ascii_digit}
 use Rattle.std.specs.Str.Parse.{digits_value}
 use Rattle.ftl_tree.specs.declared.symbol.Terminal.{Terminal}
-use Rattle.ftl_tree.specs.declared.symbol.Terminal.TheVariants.{Sheet, Column, Word, Body, Kids, Iw, Ih, LeftBrace, RightBrace, LeftBracket, RightBracket, Equals}
+use Rattle.ftl_tree.specs.declared.symbol.Terminal.TheVariants.{Sheet, Column, Word, Body, Kids, Iw, Ih, LeftBrace}
+use Rattle.ftl_tree.specs.declared.symbol.Terminal.TheVariants.{RightBrace, LeftBracket, RightBracket, Equals}
 use Rattle.ftl_tree.specs.declared.symbol.Symbol.{Symbol}
 use Rattle.ftl_tree.specs.declared.symbol.Symbol.TheVariants.{Fixed, Number}
 
@@ -13,19 +14,19 @@ abbrev pub is_blank : ℕ → Bool
 is_blank b = b == 32 || b == 10
 
 -- how a word or a mark is written
-abbrev pub text_of : Terminal → List ℕ
-text_of Sheet = codes "Sheet"
-text_of Column = codes "Column"
-text_of Word = codes "Word"
-text_of Body = codes "body"
-text_of Kids = codes "kids"
-text_of Iw = codes "iw"
-text_of Ih = codes "ih"
-text_of LeftBrace = codes "{"
-text_of RightBrace = codes "}"
-text_of LeftBracket = codes "["
-text_of RightBracket = codes "]"
-text_of Equals = codes "="
+abbrev pub terminal_text : Terminal → List ℕ
+terminal_text Sheet = codes "Sheet"
+terminal_text Column = codes "Column"
+terminal_text Word = codes "Word"
+terminal_text Body = codes "body"
+terminal_text Kids = codes "kids"
+terminal_text Iw = codes "iw"
+terminal_text Ih = codes "ih"
+terminal_text LeftBrace = codes "{"
+terminal_text RightBrace = codes "}"
+terminal_text LeftBracket = codes "["
+terminal_text RightBracket = codes "]"
+terminal_text Equals = codes "="
 
 abbrev pub is_mark : Terminal → Bool
 is_mark LeftBrace = true
@@ -57,7 +58,11 @@ pub record IsNumeral (text : List ℕ) (n : ℕ) : Type 0 where
 -- number a whole run of digits.
 pub data Scans : List ℕ → List Symbol → Type 0 where
   nothing : Scans [] []
-  blank : {b : ℕ} {bytes : List ℕ} {symbols : List Symbol} → is_blank b ≡ true → Scans bytes symbols → Scans (b ∷ bytes) symbols
-  word : {t : Terminal} {bytes : List ℕ} {symbols : List Symbol} → is_mark t ≡ false → EndsRun is_ascii_alphabetic bytes → Scans bytes symbols → Scans (text_of t ++ bytes) (Fixed t ∷ symbols)
-  mark : {t : Terminal} {bytes : List ℕ} {symbols : List Symbol} → is_mark t ≡ true → Scans bytes symbols → Scans (text_of t ++ bytes) (Fixed t ∷ symbols)
-  numeral : {text bytes : List ℕ} {n : ℕ} {symbols : List Symbol} → IsNumeral text n → EndsRun is_ascii_digit bytes → Scans bytes symbols → Scans (text ++ bytes) (Number n ∷ symbols)
+  blank : {b : ℕ} {bytes : List ℕ} {symbols : List Symbol} → is_blank b ≡ true → Scans bytes symbols
+      → Scans (b ∷ bytes) symbols
+  word : {t : Terminal} {bytes : List ℕ} {symbols : List Symbol} → is_mark t ≡ false → EndsRun is_ascii_alphabetic bytes
+      → Scans bytes symbols → Scans (terminal_text t ++ bytes) (Fixed t ∷ symbols)
+  mark : {t : Terminal} {bytes : List ℕ} {symbols : List Symbol} → is_mark t ≡ true → Scans bytes symbols
+      → Scans (terminal_text t ++ bytes) (Fixed t ∷ symbols)
+  numeral : {text bytes : List ℕ} {n : ℕ} {symbols : List Symbol} → IsNumeral text n → EndsRun is_ascii_digit bytes
+      → Scans bytes symbols → Scans (text ++ bytes) (Number n ∷ symbols)

@@ -12,7 +12,7 @@ impl Tree {
     pub fn kid_count(&self, node: u32, child: u32) -> u32
         requires node { node < size self.now }
         requires child { child < stack.child_count (class_at self.now (node_at self.now node)) }
-        ensures { result ≡ kids_at self.now (node_at self.now node) child }
+        ensures count { result ≡ kids_at self.now (node_at self.now node) child }
     {
         let end = node + self.row(node).size;
         let mut kid = node + 1;
@@ -29,7 +29,7 @@ impl Tree {
         requires node { node < size self.now }
         requires child { child < stack.child_count (class_at self.now (node_at self.now node)) }
         requires k { k < kids_at self.now (node_at self.now node) child }
-        ensures { result ≡ number_of self.now (down child k (node_at self.now node)) }
+        ensures kid { result ≡ number_of self.now (down child k (node_at self.now node)) }
     {
         let end = node + self.row(node).size;
         let mut kid = node + 1;

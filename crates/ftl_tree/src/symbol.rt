@@ -3,7 +3,7 @@ ghost use Rattle.std.specs.Prelude.{false, [], ◌∷◌};
 ghost use Rattle.std.specs.List.{prefix_len, AllByRecursion};
 ghost use Rattle.std.specs.Char.{is_ascii_alphabetic, is_ascii_digit};
 ghost use Rattle.std.specs.Str.Parse.{digits_value};
-ghost use Rattle.ftl_tree.specs.Symbols.{is_blank, is_mark, text_of, IsSmall};
+ghost use Rattle.ftl_tree.specs.Symbols.{is_blank, is_mark, terminal_text, IsSmall};
 ghost use Rattle.ftl_tree.specs.Scanning.{number_of_digits, word_at, number_at, mark_at};
 ghost use Rattle.ftl_tree.specs.Scanning.{next_symbol};
 
@@ -71,8 +71,9 @@ fn digits(bytes: &[u8]) -> usize
 }
 
 fn word(text: &[u8]) -> Option<Terminal>
-    ensures found { IfSome result (λ t. (is_mark t ≡ false) × (text_of t ≡ text.now)) }
-    ensures only { (t : Terminal) → is_mark t ≡ false → text_of t ≡ text.now → result ≡ Some t }
+    ensures found { IfSome result (λ t. (is_mark t ≡ false) × (terminal_text t ≡ text.now)) }
+    ensures only { (t : Terminal) → is_mark t ≡ false → terminal_text t ≡ text.now
+        → result ≡ Some t }
 {
     match text {
         b"Sheet" => Some(Terminal::Sheet),
@@ -87,8 +88,9 @@ fn word(text: &[u8]) -> Option<Terminal>
 }
 
 fn mark(byte: u8) -> Option<Terminal>
-    ensures found { IfSome result (λ t. (is_mark t ≡ true) × (text_of t ≡ byte ∷ [])) }
-    ensures only { (t : Terminal) → is_mark t ≡ true → text_of t ≡ byte ∷ [] → result ≡ Some t }
+    ensures found { IfSome result (λ t. (is_mark t ≡ true) × (terminal_text t ≡ byte ∷ [])) }
+    ensures only { (t : Terminal) → is_mark t ≡ true → terminal_text t ≡ byte ∷ []
+        → result ≡ Some t }
 {
     match byte {
         b'{' => Some(Terminal::LeftBrace),

@@ -147,16 +147,17 @@ impl Tree {
 
     /// The class of a node.
     pub fn class(&self, node: u32) -> u32
-        requires { node < size self.now }
-        ensures { result ≡ class_at self.now (node_at self.now node) }
+        requires node { node < size self.now }
+        ensures class { result ≡ class_at self.now (node_at self.now node) }
     {
         self.row(node).class
     }
 
     /// The number of a node's parent; none for the root.
     pub fn parent(&self, node: u32) -> Option<u32>
-        requires { node < size self.now }
-        ensures { result ≡ option_map (number_of self.now) (parent_of (node_at self.now node)) }
+        requires node { node < size self.now }
+        ensures parent { result
+            ≡ option_map (number_of self.now) (parent_of (node_at self.now node)) }
     {
         if node == 0 {
             return None;
@@ -180,8 +181,8 @@ impl Tree {
 
     /// How many nodes the tree at a node has, the node itself counted.
     pub fn subtree_size(&self, node: u32) -> u32
-        requires { node < size self.now }
-        ensures { result ≡ size_at self.now (node_at self.now node) }
+        requires node { node < size self.now }
+        ensures size { result ≡ size_at self.now (node_at self.now node) }
     {
         self.row(node).size
     }
@@ -192,7 +193,7 @@ impl Tree {
     pub fn input(&self, node: u32, attr: u32) -> i64
         requires node { node < size self.now }
         requires attr { IsInputAt self.now (node_at self.now node) attr }
-        ensures { input_value stack (class_at self.now (node_at self.now node)) attr
+        ensures input { input_value stack (class_at self.now (node_at self.now node)) attr
             (inputs_at self.now (node_at self.now node))
             ≡ number result }
     {
@@ -213,7 +214,7 @@ fn attribute_place(class: u32, attr: u32) -> u32
 impl Tree {
     /// How many attribute instances the tree has.
     pub fn instance_count(&self) -> u32
-        ensures { result ≡ instance_count stack self.now }
+        ensures count { result ≡ instance_count stack self.now }
     {
         self.instance_count
     }
@@ -223,7 +224,8 @@ impl Tree {
         requires node { node < size self.now }
         requires attr { Contains (attributes_of stack (class_at self.now (node_at self.now node)))
             attr }
-        ensures { result ≡ instance_number stack self.now (instance_of (node_at self.now node) attr) }
+        ensures instance { result
+            ≡ instance_number stack self.now (instance_of (node_at self.now node) attr) }
     {
         let offsets = self.offsets[node as usize];
         offsets.instance + attribute_place(self.class(node), attr)

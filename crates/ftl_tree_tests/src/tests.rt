@@ -4,8 +4,8 @@ use std::test::Fail;
 
 const HEADING: &str = "%page 1\n%grammar stack\n%schedule auto\n%document\n";
 
-const TWO_WORDS: &str =
-    "%page 1\n%grammar stack\n%schedule auto\n%document\nSheet { body = Column { kids = [ Word { iw = 20 ih = 10 } Word { iw = 30 ih = 15 } ] } }\n";
+const TWO_WORDS: &str = "%page 1\n%grammar stack\n%schedule auto\n%document\n\
+    Sheet { body = Column { kids = [ Word { iw = 20 ih = 10 } Word { iw = 30 ih = 15 } ] } }\n";
 
 /// A page with a column of so many words.
 fn column(alloc: Global, words: u32) -> Result<String, AllocError> {

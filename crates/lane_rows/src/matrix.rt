@@ -31,7 +31,7 @@ impl Model for BitMatrix {
 impl BitMatrix {
     /// A matrix of this size without an entry.
     pub fn new(alloc: Global, size: u32) -> Result<BitMatrix, AllocError>
-        requires { size ≤ 2048 }
+        requires size { size ≤ 2048 }
         ensures size { IfOk result (λ m. length m ≡ size) }
         ensures none { IfOk result (λ m. (a b : ℕ) → entry m a b ≡ false) }
     {

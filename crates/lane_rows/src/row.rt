@@ -36,7 +36,7 @@ impl BitRow {
 
     /// Adds a number.
     pub fn put(&mut self, bit: u32)
-        requires { bit < 2048 }
+        requires bit { bit < 2048 }
         ensures added { self.new ≡ set.insert self.old bit }
     {
         self.words[(bit / 64) as usize] |= 1 << (bit % 64);
@@ -44,7 +44,7 @@ impl BitRow {
 
     /// Whether the number is in the set.
     pub fn has(&self, bit: u32) -> bool
-        requires { bit < 2048 }
+        requires bit { bit < 2048 }
         ensures member { result ≡ set.contains self.now bit }
     {
         (self.words[(bit / 64) as usize] >> (bit % 64)) & 1 == 1

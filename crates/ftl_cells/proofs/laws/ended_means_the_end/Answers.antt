@@ -2,4 +2,7 @@ use Rattle.ftl_cells.proofs.Consequences.{ended_tells}
 use Rattle.ftl_cells.proofs.laws.ended_means_the_end.Goals as goal
 
 pub returns : goal.returns
-returns c = ended_tells
+returns c = record {
+  end =
+      ended_tells;
+}

@@ -2,4 +2,7 @@ use Rattle.ftl_cells.proofs.Runs.{mine_wins}
 use Rattle.ftl_cells.proofs.laws.mine_wins_the_claim.Goals as goal
 
 pub returns : goal.returns
-returns c = mine_wins
+returns c = record {
+  wins =
+      mine_wins;
+}

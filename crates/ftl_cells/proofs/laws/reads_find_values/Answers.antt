@@ -2,4 +2,7 @@ use Rattle.ftl_cells.proofs.Consequences.{read_finds}
 use Rattle.ftl_cells.proofs.laws.reads_find_values.Goals as goal
 
 pub returns : goal.returns
-returns c = λ m words hands law k h i j r. read_finds m words hands h i j r law k
+returns c = record {
+  values =
+      λ m words hands law k h i j r. read_finds m words hands h i j r law k;
+}

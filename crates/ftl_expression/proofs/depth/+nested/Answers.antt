@@ -9,7 +9,7 @@ deeper f n some = let e : suc (n - 1) ≡ n = omega arith in ap f e
 
 pub expr-returns-then-depth-eq0 : goal.expr-returns-then-depth-eq0
 unfolding expr
-expr-returns-then-depth-eq0 t c = λ _. ap (λ n. expr n c.args.input.now) c.if-depth-eq0.true
+expr-returns-then-depth-eq0 t c = record { reads = λ _. ap (λ n. expr n c.args.input.now) c.if-depth-eq0.true }
 
 pub cond-returns-then-depth-eq0 : goal.cond-returns-then-depth-eq0
 unfolding cond
@@ -17,10 +17,12 @@ cond-returns-then-depth-eq0 t c = λ _. ap (λ n. cond n c.args.input.now) c.if-
 
 pub expr-returns : goal.expr-returns
 unfolding expr
-expr-returns t c =
-    let some : 0 < c.args.depth = omega arith in
-    let e = deeper (λ n. expr n c.args.input.now) c.args.depth some in
-    subst (λ o. Reads o c.expr_level.result c.expr_level.new.input) e c.expr_level.ensures
+expr-returns t c = record {
+  reads =
+      let some : 0 < c.args.depth = omega arith in
+      let e = deeper (λ n. expr n c.args.input.now) c.args.depth some in
+      subst (λ o. Reads o c.expr_level.result c.expr_level.new.input) e c.expr_level.ensures;
+}
 
 pub cond-returns : goal.cond-returns
 unfolding cond

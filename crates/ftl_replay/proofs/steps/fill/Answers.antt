@@ -42,7 +42,7 @@ returns-clause-step g c =
     (Working c.in-Working.item (c.in-Working.step + 1) 0))
     (ap (λ a. set c.args.row.now.items (1 + a) (solved_word (g.W.Meant.meaning c.args.work.now) (target_of
     (g.W.Meant.meaning c.args.work.now) c.in-Working.item c.in-Working.step)))
-    (sym c.target.ensures)
+    (sym c.target.ensures.target)
     ∙ ap (λ x. set c.args.row.now.items (1 + c.target.result) x)
     (sym (c.word_of.ensures.word ∙ ap word_of_value c.result_of-val.ensures.value)))
     (fills_target (g.W.Meant.meaning c.args.work.now) c.args.row.now.items hand c.in-Working.item c.in-Working.step

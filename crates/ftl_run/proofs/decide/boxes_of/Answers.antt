@@ -11,5 +11,5 @@ pub returns : goal.returns
 returns c =
     lays_out c.args.tree.now (table_of c.args.tree.now c.as_slice-areas.result.now) (answer_of (record { status = c.done-status.result; text = c.in_ok-text.text })) c.requires
     (subst (λ (areas : List Area). Solves stack c.args.tree.now (table_of c.args.tree.now areas)) (sym c.as_slice-areas.ensures.value) c.in_ok-solved.ensures.solves)
-    (c.done-status.ensures ∙ ap (λ b. cond b 8 0) c.shows_overflow.ensures)
-    c.in_ok-text.ensures
+    (c.done-status.ensures ∙ ap (λ b. cond b 8 0) c.shows_overflow.ensures.shown)
+    c.in_ok-text.ensures.text

@@ -15,7 +15,7 @@ bounds-areas-node c =
     omega (
       arith,
       c.requires.areas.count,
-      (body c.args.tree.now c.args.node at (sym c.class.ensures ∙ c.in-0.is)).within,
+      (body c.args.tree.now c.args.node at (sym c.class.ensures.class ∙ c.in-0.is)).within,
     )
 
 pub bounds-areas-node-in-0 : goal.bounds-areas-node-in-0
@@ -24,7 +24,7 @@ bounds-areas-node-in-0 c =
     omega (
       arith,
       c.requires.areas.count,
-      (body c.args.tree.now c.args.node at (sym c.class.ensures ∙ c.in-0.is)).within,
+      (body c.args.tree.now c.args.node at (sym c.class.ensures.class ∙ c.in-0.is)).within,
     )
 
 pub input-requires-clause-attr : goal.input-requires-clause-attr
@@ -32,7 +32,7 @@ input-requires-clause-attr c =
     let t = c.args.tree.now in
     let at = node t c.args.node c.requires.areas.is_tree c.requires.node in
     let class : class_at t (node_at t c.args.node) ≡ word = omega
-    (arith, class_known t c.args.node at, c.class.ensures) in
+    (arith, class_known t c.args.node at, c.class.ensures.class) in
     (class, inl refl)
 
 pub input-requires-in_default-clause-attr : goal.input-requires-in_default-clause-attr
@@ -40,7 +40,7 @@ input-requires-in_default-clause-attr c =
     let t = c.args.tree.now in
     let at = node t c.args.node c.requires.areas.is_tree c.requires.node in
     let class : class_at t (node_at t c.args.node) ≡ word = omega
-    (arith, class_known t c.args.node at, c.class.ensures) in
+    (arith, class_known t c.args.node at, c.class.ensures.class) in
     (class, inr refl)
 
 pub returns-in-0-clause-h : goal.returns-in-0-clause-h
@@ -48,7 +48,7 @@ returns-in-0-clause-h c =
     let t = c.args.tree.now in
     let areas = c.args.areas.now in
     let at = node t c.args.node c.requires.areas.is_tree c.requires.node in
-    let class = sym c.class.ensures ∙ c.in-0.is in
+    let class = sym c.class.ensures.class ∙ c.in-0.is in
     let read = get_or_default areas (c.args.node + 1) c.index-areas-node.result no_area
     (omega (arith, c.requires.areas.count, (body t c.args.node at class).within)) in
     sheet_height t areas c.args.node (get_or areas (c.args.node + 1) c.index-areas-node.result) at class read
@@ -58,10 +58,10 @@ returns-in_default-clause-w c _ =
     let t = c.args.tree.now in
     let p = node_at t c.args.node in
     let at = node t c.args.node c.requires.areas.is_tree c.requires.node in
-    let class : class_at t p ≡ word = omega (arith, class_known t c.args.node at, c.class.ensures) in
+    let class : class_at t p ≡ word = omega (arith, class_known t c.args.node at, c.class.ensures.class) in
     let fits : SFits w64 c.input.result = search rules in
     c.num-in_default.ensures.value ∙ ap (value_of 140737488355327) (to_z-of_z w64 c.input.result fits)
-    ∙ given_value t c.args.node word_iw c.input.result at c.input.ensures
+    ∙ given_value t c.args.node word_iw c.input.result at c.input.ensures.input
     ∙ sym (word_width t c.args.areas.now p class)
 
 pub returns-in_default-clause-h : goal.returns-in_default-clause-h
@@ -69,8 +69,8 @@ returns-in_default-clause-h c =
     let t = c.args.tree.now in
     let p = node_at t c.args.node in
     let at = node t c.args.node c.requires.areas.is_tree c.requires.node in
-    let class : class_at t p ≡ word = omega (arith, class_known t c.args.node at, c.class.ensures) in
+    let class : class_at t p ≡ word = omega (arith, class_known t c.args.node at, c.class.ensures.class) in
     let fits : SFits w64 c.input-in_default.result = search rules in
     c.num-in_default-2.ensures.value ∙ ap (value_of 140737488355327) (to_z-of_z w64 c.input-in_default.result fits)
-    ∙ given_value t c.args.node word_ih c.input-in_default.result at c.input-in_default.ensures
+    ∙ given_value t c.args.node word_ih c.input-in_default.result at c.input-in_default.ensures.input
     ∙ sym (word_height t c.args.areas.now p class)

@@ -10,5 +10,5 @@ returns-in_default-clause-placed c k has =
     let t = c.args.tree.now in
     let at = node t c.args.node c.requires.areas.is_tree c.requires.node in
     let class : class_at t (node_at t c.args.node) ≡ word = omega
-    (arith, class_known t c.args.node at, c.class.ensures) in
+    (arith, class_known t c.args.node at, c.class.ensures.class) in
     absurd (word_kids t c.args.node k at class has)

@@ -22,11 +22,13 @@ index-requires c =
     omega (arith, w.within)
 
 pub returns : goal.returns
-returns c =
-    let lists = rows_inside c.self.inside in
-    let h = kept lists c.args.self.now c.self.invariant.rows c.self.view_is in
-    let w = input_at lists c.args.self.now c.self.inside.offsets.items c.args.node c.args.attr c.index-offsets.result.now.input h c.self.invariant.offsets c.requires.node c.requires.attr.0 c.requires.attr.1 c.index-offsets.result.now (ap (λ (o : Offsets). o.input) c.index-offsets.ensures) in
-    let read = c.index.ensures in
-    let from = c.from.ensures in
-    w.value ∙ ap number (get_or_default lists.inputs (c.index-offsets.result.now.input + (c.args.attr - 5)) (pos 0) c.index.result.now w.within
-    ∙ sym read ∙ (let fits : SFits w32 c.index.result.now = search rules in omega (arith, ints, from)))
+returns c = record {
+  input =
+      let lists = rows_inside c.self.inside in
+      let h = kept lists c.args.self.now c.self.invariant.rows c.self.view_is in
+      let w = input_at lists c.args.self.now c.self.inside.offsets.items c.args.node c.args.attr c.index-offsets.result.now.input h c.self.invariant.offsets c.requires.node c.requires.attr.0 c.requires.attr.1 c.index-offsets.result.now (ap (λ (o : Offsets). o.input) c.index-offsets.ensures) in
+      let read = c.index.ensures in
+      let from = c.from.ensures in
+      w.value ∙ ap number (get_or_default lists.inputs (c.index-offsets.result.now.input + (c.args.attr - 5)) (pos 0) c.index.result.now w.within
+      ∙ sym read ∙ (let fits : SFits w32 c.index.result.now = search rules in omega (arith, ints, from)));
+}

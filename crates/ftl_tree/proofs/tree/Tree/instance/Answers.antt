@@ -25,9 +25,11 @@ overflow_add-result c =
     omega (arith, small, place, c.attribute_place.ensures, c.requires.node, h.large)
 
 pub returns : goal.returns
-returns c =
-    let lists = rows_inside c.self.inside in
-    let h = kept lists c.args.self.now c.self.invariant.rows c.self.view_is in
-    ap (λ n. n + c.attribute_place.result) (offset_is lists c.args.self.now c.self.inside.offsets.items c.args.node c.index-offsets.result.now h c.self.invariant.offsets c.requires.node c.index-offsets.ensures)
-    ∙ ap (λ n. first_instance stack c.args.self.now (node_at c.args.self.now c.args.node) + n)
-    (c.attribute_place.ensures ∙ ap (λ k. place_in (attributes_of stack k) c.args.attr) c.class.ensures)
+returns c = record {
+  instance =
+      let lists = rows_inside c.self.inside in
+      let h = kept lists c.args.self.now c.self.invariant.rows c.self.view_is in
+      ap (λ n. n + c.attribute_place.result) (offset_is lists c.args.self.now c.self.inside.offsets.items c.args.node c.index-offsets.result.now h c.self.invariant.offsets c.requires.node c.index-offsets.ensures)
+      ∙ ap (λ n. first_instance stack c.args.self.now (node_at c.args.self.now c.args.node) + n)
+      (c.attribute_place.ensures ∙ ap (λ k. place_in (attributes_of stack k) c.args.attr) c.class.ensures.class);
+}

@@ -5,7 +5,9 @@ use Rattle.ftl_tree.proofs.InstanceOffsets.{all_instances}
 use Rattle.ftl_tree.proofs.tree.Tree.instance_count.Goals as goal
 
 pub returns : goal.returns
-returns c =
-    let lists = rows_inside c.self.inside in
-    let h = kept lists c.args.self.now c.self.invariant.rows c.self.view_is in
-    c.self.invariant.count ∙ all_instances lists c.args.self.now h
+returns c = record {
+  count =
+      let lists = rows_inside c.self.inside in
+      let h = kept lists c.args.self.now c.self.invariant.rows c.self.view_is in
+      c.self.invariant.count ∙ all_instances lists c.args.self.now h;
+}

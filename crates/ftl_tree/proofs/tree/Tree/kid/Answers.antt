@@ -55,10 +55,12 @@ prove-unreachable-requires c =
     omega (arith, this.end, ap (λ (r : Row). r.size) c.row.ensures.row, c.if-prove.true)
 
 pub returns : goal.returns
-returns c =
-    let t = c.args.self.now in
-    let first = first_child _ c.args.child c.requires.child in
-    let all : c.loop-passed._passed ≡ c.args.k = omega (arith, c.loop-passed-test.false) in
-    sym c.loop-passed.invariant.number
-    ∙ ap (λ k. number_of t (down 0 k (node_at t c.args.node))) all
-    ∙ ap (λ d. number_of t (down d c.args.k (node_at t c.args.node))) (sym first)
+returns c = record {
+  kid =
+      let t = c.args.self.now in
+      let first = first_child _ c.args.child c.requires.child in
+      let all : c.loop-passed._passed ≡ c.args.k = omega (arith, c.loop-passed-test.false) in
+      sym c.loop-passed.invariant.number
+      ∙ ap (λ k. number_of t (down 0 k (node_at t c.args.node))) all
+      ∙ ap (λ d. number_of t (down d c.args.k (node_at t c.args.node))) (sym first);
+}

@@ -53,10 +53,12 @@ loop-kid-preserved c =
     }
 
 pub returns : goal.returns
-returns c =
-    let t = c.args.self.now in
-    let at = node t c.args.node c.row.ensures.is_tree c.requires.node in
-    let size = ap (λ (r : Row). r.size) c.row.ensures.row in
-    let past : c.args.node + size_at t (node_at t c.args.node) ≤ c.loop-kid.kid = omega (arith, size, c.loop-kid-test.false) in
-    all_passed t c.args.node c.loop-kid.count c.loop-kid.kid at c.loop-kid.invariant.passed past
-    ∙ ap (kids_at t (node_at t c.args.node)) (sym (first_child _ c.args.child c.requires.child))
+returns c = record {
+  count =
+      let t = c.args.self.now in
+      let at = node t c.args.node c.row.ensures.is_tree c.requires.node in
+      let size = ap (λ (r : Row). r.size) c.row.ensures.row in
+      let past : c.args.node + size_at t (node_at t c.args.node) ≤ c.loop-kid.kid = omega (arith, size, c.loop-kid-test.false) in
+      all_passed t c.args.node c.loop-kid.count c.loop-kid.kid at c.loop-kid.invariant.passed past
+      ∙ ap (kids_at t (node_at t c.args.node)) (sym (first_child _ c.args.child c.requires.child));
+}

@@ -4,6 +4,8 @@ use Rattle.ftl_tree.proofs.Access.{parent_is}
 use Rattle.ftl_tree.proofs.tree.Tree.parent.Goals as goal
 
 pub returns : goal.returns
-returns c =
-    ap (λ (r : Node). Some r.parent) c.row.ensures.row
-    ∙ parent_is c.args.self.now c.args.node c.row.ensures.is_tree c.requires c.if-node-eq0.false
+returns c = record {
+  parent =
+      ap (λ (r : Node). Some r.parent) c.row.ensures.row
+      ∙ parent_is c.args.self.now c.args.node c.row.ensures.is_tree c.requires.node c.if-node-eq0.false;
+}

@@ -1,0 +1,13 @@
+-- Worked grammars have no fault.
+use Rattle.std.proofs.Common.{refl}
+use Rattle.ftl_checked.specs.Worked as written
+use Rattle.ftl_checked.proofs.WorkedFormulas.{of-adding, of-num, of-reading, of-stacked, of-widest}
+use Rattle.ftl_lawful.specs.Faultless.{IsFaultless}
+use Rattle.ftl_lawful.proofs.WorkedKinds.{kinds_by}
+
+pub stack_faultless : IsFaultless written.stack
+stack_faultless =
+    record {
+      faults = simp (of-num, of-reading, of-adding, of-stacked, of-widest) refl;
+      kinds = kinds_by written.stack ((tt, tt), ((tt, (tt, (tt, (tt, tt)))), tt)) (tt, (tt, ((tt, (tt, tt)), tt)));
+    }

@@ -1,0 +1,32 @@
+//! Laws on grammars without a fault.
+
+ghost use Rattle.ftl_order.specs.Lawful.{IsLawful};
+ghost use Rattle.ftl_lawful.specs.Faultless.{SpelledAreFaultless};
+ghost use Rattle.ftl_lawful.specs.LawfulOf.{OfFaultless, HasOneTable, HasOneList, StaysInRange};
+ghost use Rattle.ftl_lawful.specs.Limits.{IsWithinLimits};
+ghost use Rattle.ftl_lawful.specs.Kept.{RulesAreKept, RulesAreWritten};
+ghost use Rattle.ftl_lawful.specs.TextOrder.{ReadsStandInTextOrder};
+
+/// A law: a grammar without a fault is lawful, with its names gone and in either width. So exactly
+/// one table solves each of its trees under each ordered schedule, with values in the range.
+pub fn faultless_grammars_are_lawful()
+    ensures lawful { OfFaultless IsLawful }
+    ensures one_table { OfFaultless HasOneTable }
+    ensures one_list { OfFaultless HasOneList }
+    ensures in_range { OfFaultless StaysInRange }
+    ensures spelled { SpelledAreFaultless }
+{}
+
+/// A law: nothing of a grammar without a fault is lost where its names go. Each rule is the one for
+/// what it is for, with its reads in the order of the text, and each attribute that a rule has to
+/// define has one.
+pub fn rules_are_kept()
+    ensures kept { RulesAreKept }
+    ensures written { RulesAreWritten }
+    ensures text_order { ReadsStandInTextOrder }
+{}
+
+/// A law: a grammar without a fault keeps to the limits, with its names gone.
+pub fn faultless_grammars_are_small()
+    ensures limits { OfFaultless IsWithinLimits }
+{}

@@ -1,0 +1,12 @@
+//! Why the meaning of a grammar is lawful. Goes in: grammars without a fault, by `ftl_checked`,
+//! and their meaning, by `ftl_meaning`. Comes out: laws, stated by empty functions, in the words of
+//! `specs/`. There is no code here.
+#![tactic(auto)]
+
+mod alike;
+mod lawful;
+mod worked;
+
+pub use alike::{alike_grammars, the_written_stack_solves};
+pub use lawful::{faultless_grammars_are_lawful, faultless_grammars_are_small, rules_are_kept};
+pub use worked::{grammars_without_a_fault, words_of_attributes};

@@ -1,0 +1,5 @@
+pub mod Meaning
+pub mod GrammarOf
+pub mod Alike
+pub mod Worked
+pub use Rattle.ftl_checked.specs.FirstFault

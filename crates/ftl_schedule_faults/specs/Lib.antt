@@ -1,0 +1,3 @@
+pub mod OrderedReads
+pub mod FirstFault
+pub mod FaultLaws

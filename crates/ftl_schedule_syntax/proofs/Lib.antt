@@ -1,0 +1,5 @@
+pub mod KindWords
+pub mod Told
+pub mod Went
+pub mod OneAhead
+pub mod Schedules

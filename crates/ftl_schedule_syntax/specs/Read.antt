@@ -1,0 +1,19 @@
+-- What the reader of schedules answers: the schedule that the tokens spell, or the place at which they go wrong.
+use Rattle.std.specs.Prelude.{ℕ, Result, Ok, Err}
+use Rattle.ftl_tokens.specs.Tokenized.{Tokenized, symbols_of}
+use Rattle.ftl_reading.specs.Place.{IsPlaceOf}
+use Rattle.ftl_schedule_syntax.specs.declared.types.WrittenSchedule.{WrittenSchedule}
+use Rattle.ftl_schedule_syntax.specs.declared.fault.WrittenFault.{WrittenFault}
+use Rattle.ftl_schedule_syntax.specs.declared.fault.WrittenFault.TheVariants.{Syntax, OutOfMemory}
+use Rattle.ftl_schedule_syntax.specs.Spelling.{SpellsSchedule}
+
+-- the tokens spell no schedule, and this is the place at which they go wrong
+pub record IsNoSchedule (scanned : Tokenized) (at : ℕ) : Type 0 where
+  pub none : (s : WrittenSchedule) → SpellsSchedule (symbols_of scanned) s → ⊥
+  pub place : IsPlaceOf SpellsSchedule scanned at
+
+-- a schedule is the one that the tokens spell, and a fault of syntax has its cause at its place
+abbrev pub ReadsSchedule : Tokenized → Result WrittenSchedule WrittenFault → Type 0
+ReadsSchedule scanned (Ok s) = SpellsSchedule (symbols_of scanned) s
+ReadsSchedule scanned (Err (Syntax at)) = IsNoSchedule scanned at
+ReadsSchedule scanned (Err OutOfMemory) = Unit {0}
