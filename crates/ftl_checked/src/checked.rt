@@ -3,9 +3,11 @@ ghost use Rattle.std.specs.Prelude.{◌≡◌, ◌<◌, None, length};
 ghost use Rattle.ftl_checked.specs.Checked.{all_attributes, all_rules, attribute_at, attribute_info};
 ghost use Rattle.ftl_checked.specs.Checked.{child_info};
 ghost use Rattle.ftl_checked.specs.Checked.{rule_told};
+ghost use Rattle.ftl_checked.specs.Counts.{HasSmallCounts};
 ghost use Rattle.ftl_checked.specs.FirstFault.{first_fault};
 ghost use Rattle.ftl_checked.specs.Kept.{IsKept};
 ghost use Rattle.ftl_checked.specs.Numbering.{class_at, child_at, interface_number, interface_of};
+ghost use Rattle.ftl_checked.specs.Tables.{tables_of};
 
 use crate::find::{child_of, class_table};
 use crate::info::{AttrInfo, ChildInfo, RuleInfo};
@@ -72,6 +74,13 @@ impl Checked {
         &self.grammar
     }
 
+    pub(crate) fn tables(&self) -> &Tables
+        ensures tables { result.now ≡ tables_of self.now.grammar }
+        ensures small { HasSmallCounts self.now.grammar }
+    {
+        &self.tables
+    }
+
     pub fn width(&self) -> Width
         ensures width { result ≡ self.now.width }
     {
@@ -136,7 +145,9 @@ impl Checked {
         requires within { class < length self.now.grammar.classes }
         ensures count { result ≡ length (class_at self.now.grammar class).children }
     {
-        self.grammar.classes.as_slice()[class as usize].children.len() as u32
+        self.grammar.classes.as_slice()[class as usize]
+            .children
+            .len() as u32
     }
 
     pub fn child(&self, class: u32, child: u32) -> ChildInfo
