@@ -39,8 +39,12 @@ pub(crate) fn may_read(
 {
     match read.kind() {
         ReadKind::Own(attr) => class_attr(grammar, tables, class, attr.text()).is_some(),
-        ReadKind::This(attr) => { kid_attr(grammar, tables, class, this_child(at), attr.text()) }
-        ReadKind::Prev(attr) => { kid_attr(grammar, tables, class, prev_child(at), attr.text()) }
+        ReadKind::This(attr) => {
+            kid_attr(grammar, tables, class, this_child(at), attr.text())
+        }
+        ReadKind::Prev(attr) => {
+            kid_attr(grammar, tables, class, prev_child(at), attr.text())
+        }
         ReadKind::Of(name, attr) => {
             single_attr(grammar, tables, class, name.text(), attr.text())
         }
@@ -90,7 +94,13 @@ pub(crate) fn reads_acc(at: At) -> bool
 }
 
 /// Whether the kid's interface has the attribute, where there is a kid.
-fn kid_attr(grammar: &Grammar, tables: &Tables, class: u32, kid: Option<u32>, attr: &str) -> bool
+fn kid_attr(
+    grammar: &Grammar,
+    tables: &Tables,
+    class: u32,
+    kid: Option<u32>,
+    attr: &str,
+) -> bool
     requires small { HasSmallCounts grammar.now }
     requires tables { tables.now ≡ tables_of grammar.now }
     requires within { class < length grammar.now.classes }
@@ -108,7 +118,13 @@ fn kid_attr(grammar: &Grammar, tables: &Tables, class: u32, kid: Option<u32>, at
 }
 
 /// Whether there is such a single child, with such an attribute.
-fn single_attr(grammar: &Grammar, tables: &Tables, class: u32, name: &str, attr: &str) -> bool
+fn single_attr(
+    grammar: &Grammar,
+    tables: &Tables,
+    class: u32,
+    name: &str,
+    attr: &str,
+) -> bool
     requires small { HasSmallCounts grammar.now }
     requires tables { tables.now ≡ tables_of grammar.now }
     requires within { class < length grammar.now.classes }
@@ -117,14 +133,21 @@ fn single_attr(grammar: &Grammar, tables: &Tables, class: u32, name: &str, attr:
 {
     match child(grammar, tables, class, name) {
         Some(found) => {
-            !found.info.many && shared_attr(grammar, tables, found.info.interface, attr).is_some()
+            !found.info.many
+                && shared_attr(grammar, tables, found.info.interface, attr).is_some()
         }
         None => false,
     }
 }
 
 /// Whether there is such a list, with such an attribute.
-fn list_attr(grammar: &Grammar, tables: &Tables, class: u32, name: &str, attr: &str) -> bool
+fn list_attr(
+    grammar: &Grammar,
+    tables: &Tables,
+    class: u32,
+    name: &str,
+    attr: &str,
+) -> bool
     requires small { HasSmallCounts grammar.now }
     requires tables { tables.now ≡ tables_of grammar.now }
     requires within { class < length grammar.now.classes }
@@ -133,7 +156,8 @@ fn list_attr(grammar: &Grammar, tables: &Tables, class: u32, name: &str, attr: &
 {
     match child(grammar, tables, class, name) {
         Some(found) => {
-            found.info.many && shared_attr(grammar, tables, found.info.interface, attr).is_some()
+            found.info.many
+                && shared_attr(grammar, tables, found.info.interface, attr).is_some()
         }
         None => false,
     }
