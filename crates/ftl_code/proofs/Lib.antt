@@ -1,3 +1,4 @@
 mod DepthLemmas
 mod RowLemmas
 mod RunLemmas
+mod StandLemmas

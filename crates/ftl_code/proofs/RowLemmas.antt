@@ -1,5 +1,6 @@
 -- What a row says of the stack that stands in it.
-use Rattle.std.proofs.Common.{◌≡◌, ℕ, suc, ◌+◌, ◌-◌, ◌<◌, ◌≤◌, List, [], ◌∷◌, ◌++◌, set, reverse, take, length, get_or, arith, ap, sym, ◌∙◌, take-suc, add-one}
+use Rattle.std.proofs.Common.{◌≡◌, ℕ, suc, ◌+◌, ◌-◌, ◌<◌, ◌≤◌, List, [], ◌∷◌, ◌++◌, set}
+use Rattle.std.proofs.Common.{reverse, take, length, get_or, arith, ap, sym, ◌∙◌, take-suc}
 use Rattle.std.proofs.lemmas.List.{reverse-append}
 use Rattle.std.proofs.lemmas.Grind.{common_steps}
 
@@ -15,5 +16,7 @@ pub under_at : {X : Type 0} (row : List X) (n : ℕ) (d : X) → 1 ≤ n → n �
     → reverse (take n row) ≡ get_or row (n - 1) d ∷ reverse (take (n - 1) row)
 under_at row n d h k =
     let up : suc (n - 1) ≡ n = omega (arith, h) in
-    let e : take (suc (n - 1)) row ≡ take (n - 1) row ++ get_or row (n - 1) d ∷ [] = take-suc row (n - 1) d (omega (arith, h, k)) in
-    ap (λ m. reverse (take m row)) (sym up) ∙ ap reverse e ∙ reverse-append (take (n - 1) row) (get_or row (n - 1) d ∷ [])
+    let e : take (suc (n - 1)) row ≡ take (n - 1) row ++ get_or row (n - 1) d ∷ [] =
+    take-suc row (n - 1) d (omega (arith, h, k)) in
+    ap (λ m. reverse (take m row)) (sym up) ∙ ap reverse e
+    ∙ reverse-append (take (n - 1) row) (get_or row (n - 1) d ∷ [])

@@ -1,10 +1,10 @@
 -- Running the code of a formula pushes its value, that of a question its truth.
-use Rattle.std.proofs.Common.{◌≡◌, ℕ, Bool, true, false, List, [], ◌∷◌, ◌++◌, map, Option, Some, None, refl, ap, sym, arith, ◌∙◌, append_assoc}
+use Rattle.std.proofs.Common.{◌≡◌, ℕ, Bool, true, false, List, [], ◌∷◌, ◌++◌, map, Option, Some, None}
+use Rattle.std.proofs.Common.{refl, ap, sym, arith, ◌∙◌, append_assoc}
 use Rattle.std.proofs.lemmas.List.{append-nil, map-append}
 use Rattle.std.specs.Option.{unwrap_or}
 use Rattle.ftl_model.specs.Values.{Value, overflow}
 use Rattle.ftl_base.specs.declared.truth.Truth.{Truth}
-use Rattle.ftl_base.specs.declared.truth.Truth.TheVariants as truths
 use Rattle.ftl_base.specs.Truths.{choice_of}
 use Rattle.ftl_formula.specs.Formula.{Formula, literal, read, read_or, negated, sum, difference, product, quotient}
 use Rattle.ftl_formula.specs.Formula.{least, greatest, choice, Question, compared, denied, both, either}
@@ -12,7 +12,7 @@ use Rattle.ftl_meaning.specs.Meaning.{value_by, truth_by}
 use Rattle.ftl_code.specs.declared.instruction.Instruction.{Instruction}
 use Rattle.ftl_code.specs.declared.instruction.Instruction.TheVariants as instruction
 use Rattle.ftl_code.specs.Code.{code_of, code_in, taken_by, taken_in, HasDivisors, AsksDivisors, IsDivisor}
-use Rattle.ftl_code.specs.Machine.{Computes, State, state, run, is_there, is_divisor}
+use Rattle.ftl_code.specs.Machine.{Computes, state, run, is_there, is_divisor}
 
 module _ {R : Type 0} (g : ℕ) (acc : Value) (a : R → Bool) (look : R → Option Value)
     (so_far : (r : R) → a r ≡ true → look r ≡ Some acc) where

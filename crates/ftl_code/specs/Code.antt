@@ -1,6 +1,6 @@
 -- The code of a formula: each operator stands after its operands, and reads are taken one after the other, in the
 -- order of the text. R is what stands for a read; some reads are what a fold has so far, and these are not taken.
-use Rattle.std.specs.Prelude.{ℕ, Bool, true, false, if◌then◌else◌, List, [], ◌∷◌, ◌++◌, ◌≤◌}
+use Rattle.std.specs.Prelude.{ℕ, Bool, if◌then◌else◌, List, [], ◌∷◌, ◌++◌, ◌≤◌}
 use Rattle.ftl_formula.specs.Formula.{Formula, literal, read, read_or, negated, sum, difference, product, quotient}
 use Rattle.ftl_formula.specs.Formula.{least, greatest, choice, Question, compared, denied, both, either}
 use Rattle.ftl_code.specs.declared.instruction.Instruction.{Instruction}

@@ -6,8 +6,8 @@ pub enum Instruction {
     Number(u32),
     /// The next of the reads.
     Read,
-    /// The next of the reads, where there may be nothing: whether there is something, and its value.
-    /// The code of what stands for it where there is nothing follows, and then `Choose`.
+    /// The next of the reads, where there may be nothing: whether there is something, and its
+    /// value. The code of what stands for it where there is nothing follows, and then `Choose`.
     Last,
     /// What a fold has so far.
     Accumulator,

@@ -21,5 +21,9 @@ loop-instruction-preserved c =
     let here : drop k c.args.code.now ≡ i ∷ left = grind (arith, common_steps) in
     let same : max d (deepest (i ∷ left) n t) ≡ max d (deepest (drop k c.args.code.now) n t) =
     ap (λ code. max d (deepest code n t)) (sym here) in
-    let m : c.max-depth.result ≡ max d (max (values_after i n) (truths_after i t)) = grind (arith, a, b) in
-    (rw (m, a, b) (turn i left d n t seen ∙ same ∙ depth), omega (arith, a, v), omega (arith, b, u), omega (arith, m, a, b))
+    let m : c.max-depth.result ≡ max d (max (values_after i n) (truths_after i t)) = grind (arith, a, b) in (
+      rw (m, a, b) (turn i left d n t seen ∙ same ∙ depth),
+      omega (arith, a, v),
+      omega (arith, b, u),
+      omega (arith, m, a, b),
+    )

@@ -1,4 +1,4 @@
-use Rattle.std.proofs.Common.{◌≡◌, ◌≤◌, ◌+◌, max, drop, length}
+use Rattle.std.proofs.Common.{◌≡◌, ◌≤◌, max, drop}
 use Rattle.ftl_code.specs.Depth.{deepest, depth_of}
 use Rattle.ftl_code.proofs.depth.depth_of.Given as goal
 
