@@ -1,9 +1,11 @@
 //! Laws on lists that fit, and on the automatic schedule.
 
-ghost use Rattle.ftl_automatic.specs.AutomaticLaws.{JoinedListsFit, ListsOfKindsAreOne, ListsOfKindsExist};
+ghost use Rattle.ftl_automatic.specs.AutomaticLaws.{JoinedListsFit, ListsOfKindsAreOne};
+ghost use Rattle.ftl_automatic.specs.AutomaticLaws.{ListsOfKindsExist};
 ghost use Rattle.ftl_automatic.specs.AutomaticLaws.{ChainsAreOne, AutomaticIsOne, LeftIsOne};
 ghost use Rattle.ftl_automatic.specs.AutomaticLaws.{NotBoth, OneOfBoth, AutomaticIsOrdered};
-ghost use Rattle.ftl_automatic.specs.AutomaticLaws.{FoundWhereOneIsOrdered, StuckWhereNoneIsOrdered};
+ghost use Rattle.ftl_automatic.specs.AutomaticLaws.{FoundWhereOneIsOrdered};
+ghost use Rattle.ftl_automatic.specs.AutomaticLaws.{StuckWhereNoneIsOrdered};
 
 /// A law: lists of one kind that fit, joined, fit; and the largest set has one least list.
 pub fn lists_that_fit()

@@ -1,7 +1,7 @@
 //! The automatic schedule. Goes in: a grammar with its names gone, of `ftl_model`, with pairs and
 //! ordered schedules of `ftl_order`. Comes out: `specs/Fitting.antt`, the lists that fit a kind of
-//! pass and the least list of the largest set; `specs/Automatic.antt`, the chain of such passes, the
-//! automatic schedule, and what is left where it is stuck. There is no code here.
+//! pass and the least list of the largest set; `specs/Automatic.antt`, the chain of such passes,
+//! the automatic schedule, and what is left where it is stuck. There is no code here.
 #![tactic(auto)]
 
 mod laws;

@@ -1,5 +1,6 @@
 -- A lawful grammar with its width, and what its numbers stand for.
-use Rattle.std.specs.Prelude.{ℕ, ◌&&◌, Bool, true, false, not, if◌then◌else◌, List, [], ◌++◌, map, flat_map, slice_index_or, Option, Some, None, Result, Ok, Err}
+use Rattle.std.specs.Prelude.{ℕ, ◌&&◌, Bool, true, false, not, if◌then◌else◌, List, [], ◌++◌, map, flat_map}
+use Rattle.std.specs.Prelude.{slice_index_or, Option, Some, None, Result, Ok, Err}
 use Rattle.std.specs.List.{position}
 use Rattle.std.specs.Option.{option_map}
 use Rattle.std.specs.Str.{bytes_eq}
@@ -18,7 +19,8 @@ use Rattle.ftl_checked.specs.declared.info.ChildInfo.{ChildInfo}
 use Rattle.ftl_checked.specs.declared.info.RuleInfo.{RuleInfo}
 use Rattle.ftl_checked.specs.declared.info.Field.{Field}
 use Rattle.ftl_checked.specs.declared.info.Field.TheVariants as field
-use Rattle.ftl_checked.specs.Numbering.{class_at, class_attributes, class_names, find_attribute, find_child, interface_at, interface_number, is_among, numbered}
+use Rattle.ftl_checked.specs.Numbering.{class_at, class_attributes, class_names, find_attribute, find_child}
+use Rattle.ftl_checked.specs.Numbering.{interface_at, interface_number, is_among, numbered}
 use Rattle.ftl_checked.specs.RuleForms.{Slot, own_slot, kid_slot, slot_of}
 use Rattle.ftl_checked.specs.FirstFault.{first_fault}
 

@@ -8,7 +8,8 @@ use Rattle.ftl_checked.specs.declared.find.FoundAttr.{FoundAttr}
 use Rattle.ftl_checked.specs.declared.find.FoundChild.{FoundChild}
 use Rattle.ftl_checked.specs.declared.reading.At.{At}
 use Rattle.ftl_checked.specs.declared.reading.At.TheVariants as at
-use Rattle.ftl_checked.specs.Allowed.{Position, prev_form, this_form, for_kids, for_later, for_self, for_single, in_step}
+use Rattle.ftl_checked.specs.Allowed.{Position, prev_form, this_form, for_kids, for_later, for_self, for_single}
+use Rattle.ftl_checked.specs.Allowed.{in_step}
 use Rattle.ftl_checked.specs.Numbering.{class_at}
 use Rattle.ftl_checked.specs.Checked.{child_info}
 

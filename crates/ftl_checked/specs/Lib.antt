@@ -12,4 +12,5 @@ pub mod Slots
 pub mod Needs
 pub mod NameFaults
 pub mod Kept
+pub mod ReadNumbers
 pub mod Told

@@ -7,7 +7,8 @@ use Rattle.ftl_syntax.specs.declared.rules.Grammar.{Grammar}
 use Rattle.ftl_syntax.specs.declared.rules.Interface.{Interface}
 use Rattle.ftl_checked.specs.declared.fault.GrammarFault.{GrammarFault}
 use Rattle.ftl_checked.specs.declared.fault.GrammarFault.TheVariants as fault
-use Rattle.ftl_checked.specs.FirstFault.{attribute_names, fault_if, first_of, first_there, twice_in_class, twice_in_interface}
+use Rattle.ftl_checked.specs.FirstFault.{attribute_names, fault_if, first_of, first_there, twice_in_class}
+use Rattle.ftl_checked.specs.FirstFault.{twice_in_interface}
 use Rattle.ftl_checked.specs.Numbering.{interface_names, is_among, numbered}
 
 -- a name that is none of those that are known

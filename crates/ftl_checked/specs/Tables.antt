@@ -6,7 +6,8 @@ use Rattle.ftl_syntax.specs.declared.rules.Interface.{Interface}
 use Rattle.ftl_checked.specs.declared.tables.InterfaceTable.{InterfaceTable}
 use Rattle.ftl_checked.specs.declared.tables.ClassTable.{ClassTable}
 use Rattle.ftl_checked.specs.declared.tables.Tables.{Tables}
-use Rattle.ftl_checked.specs.Numbering.{class_names, interface_names, interface_number, numbered, own_count, shared_count}
+use Rattle.ftl_checked.specs.Numbering.{class_names, interface_names, interface_number, numbered, own_count}
+use Rattle.ftl_checked.specs.Numbering.{shared_count}
 use Rattle.ftl_checked.specs.FirstFault.{attribute_names}
 use Rattle.ftl_checked.specs.Checked.{child_info}
 

@@ -4,9 +4,11 @@ ghost use Rattle.ftl_checked.specs.Checked.{all_attributes, all_rules, attribute
 ghost use Rattle.ftl_checked.specs.Checked.{attribute_info};
 ghost use Rattle.ftl_checked.specs.Checked.{child_info, class_named, field_named};
 ghost use Rattle.ftl_checked.specs.Checked.{rule_told};
+ghost use Rattle.ftl_checked.specs.Counts.{HasSmallCounts};
 ghost use Rattle.ftl_checked.specs.FirstFault.{first_fault};
 ghost use Rattle.ftl_checked.specs.Kept.{IsKept};
 ghost use Rattle.ftl_checked.specs.Numbering.{class_at, child_at, interface_number, interface_of};
+ghost use Rattle.ftl_checked.specs.Tables.{tables_of};
 
 use crate::fields::field_in;
 use crate::find::{child_of, class_table};
@@ -72,6 +74,13 @@ impl Checked {
         ensures lawful { first_fault self.now.grammar ≡ None }
     {
         &self.grammar
+    }
+
+    pub(crate) fn tables(&self) -> &Tables
+        ensures tables { result.now ≡ tables_of self.now.grammar }
+        ensures small { HasSmallCounts self.now.grammar }
+    {
+        &self.tables
     }
 
     pub fn width(&self) -> Width

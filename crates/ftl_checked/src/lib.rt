@@ -17,6 +17,7 @@ mod info;
 mod limits;
 mod names;
 mod needs;
+mod numbered_read;
 mod reading;
 mod rule_name;
 mod rules;
@@ -29,6 +30,8 @@ pub use checked::Checked;
 pub use fault::{GrammarFault, What};
 pub use ftl_formula::ReadName;
 pub use info::{AttrInfo, ChildInfo, Field, PassKind, RuleInfo};
+pub use numbered_read::{NumberedRead, PartReads};
+pub use reading::At;
 pub use rule_name::RuleName;
 pub use worked::{
     bad_reads, faults_of_names, faults_of_one_child, faults_of_one_class, faults_of_targets,

@@ -71,7 +71,7 @@ fn prev_child(at: At) -> Option<u32>
     }
 }
 
-fn reads_last(at: At) -> bool
+pub(crate) fn reads_last(at: At) -> bool
     ensures last { result ≡ may_read_last (position_of at) }
 {
     match at {
@@ -80,7 +80,7 @@ fn reads_last(at: At) -> bool
     }
 }
 
-fn reads_acc(at: At) -> bool
+pub(crate) fn reads_acc(at: At) -> bool
     ensures acc { result ≡ may_read_acc (position_of at) }
 {
     match at {

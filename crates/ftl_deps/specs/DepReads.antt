@@ -1,7 +1,9 @@
 -- What each rule reads, in the order of the text: which attribute, where it is written, how it is read, and of which
 -- child.
 use Rattle.std.specs.Prelude.{ℕ, List, ◌++◌, map, Some, None}
-use Rattle.ftl_model.specs.AttributeGrammar.{AttributeGrammar, Parts, Read, RuleName, Sort, each_read, first_then, fold_over, inherited, input, last_read, local, plain, prev_read, self_read, single_read, synthesized, this_read}
+use Rattle.ftl_model.specs.AttributeGrammar.{AttributeGrammar, Parts, Read, RuleName, Sort, each_read, first_then}
+use Rattle.ftl_model.specs.AttributeGrammar.{fold_over, inherited, input, last_read, local, plain, prev_read, self_read}
+use Rattle.ftl_model.specs.AttributeGrammar.{single_read, synthesized, this_read}
 use Rattle.ftl_model.specs.Solves.{rule_named}
 use Rattle.ftl_deps.specs.declared.dep_read.DepRead.{DepRead}
 use Rattle.ftl_deps.specs.declared.dep_read.Form.{Form}

@@ -1,5 +1,6 @@
 -- The grammar that a text means, with its names gone, and its names for printing.
-use Rattle.std.specs.Prelude.{ℕ, ◌+◌, Bool, List, [], ◌++◌, length, map, filter, flat_map, slice_index_or, Option, Some, None}
+use Rattle.std.specs.Prelude.{ℕ, ◌+◌, Bool, List, [], ◌++◌, length, map, filter, flat_map, slice_index_or, Option, Some}
+use Rattle.std.specs.Prelude.{None}
 use Rattle.std.specs.List.{find, list_any}
 use Rattle.std.specs.Option.{option_and_then, option_map, option_to_list}
 use Rattle.ftl_model.specs.AttributeGrammar as model
@@ -13,7 +14,8 @@ use Rattle.ftl_syntax.specs.declared.rules.AttrKind.TheVariants as kinds
 use Rattle.ftl_syntax.specs.declared.rules.Grammar.{Grammar}
 use Rattle.ftl_syntax.specs.declared.rules.Rule as written
 use Rattle.ftl_checked.specs.FirstFault.{same_slot}
-use Rattle.ftl_checked.specs.Numbering.{child_at, class_at, interface_at, interface_number, interface_of, is_among, numbered, own_attributes, own_count, shared_attributes, shared_count}
+use Rattle.ftl_checked.specs.Numbering.{child_at, class_at, interface_at, interface_number, interface_of, is_among}
+use Rattle.ftl_checked.specs.Numbering.{numbered, own_attributes, own_count, shared_attributes, shared_count}
 use Rattle.ftl_checked.specs.RuleForms.{Form, Slot, form_of, kid_slot, own_slot, slot_of}
 use Rattle.ftl_meaning.specs.Meaning.{rule_of_form}
 

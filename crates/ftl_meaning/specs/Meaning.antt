@@ -6,14 +6,16 @@ use Rattle.ftl_base.specs.Truths.{both_of, choice_of, comparison_of, either_of, 
 use Rattle.ftl_base.specs.declared.truth.Truth.{Truth}
 use Rattle.ftl_model.specs.AttributeGrammar.{Occurrence, Parts, Read, Rule, first_then, fold_over, occurrences, plain}
 use Rattle.ftl_model.specs.Folds.{fold_kids}
-use Rattle.ftl_model.specs.Values.{Value, difference_of, greatest_of, least_of, negated_of, overflow, product_of, quotient_of, sum_of, value_of}
+use Rattle.ftl_model.specs.Values.{Value, difference_of, greatest_of, least_of, negated_of, overflow, product_of}
+use Rattle.ftl_model.specs.Values.{quotient_of, sum_of, value_of}
 use Rattle.ftl_syntax.specs.declared.expression.Expr.{Expr}
 use Rattle.ftl_syntax.specs.declared.rules.Grammar.{Grammar}
 use Rattle.ftl_formula.specs.Expressions.{formula_of}
 use Rattle.ftl_formula.specs.Formula as formula
 use Rattle.ftl_formula.specs.Formula.{Formula, Question, reads_of}
 use Rattle.ftl_formula.specs.declared.read_name.ReadName.{ReadName}
-use Rattle.ftl_checked.specs.Allowed.{Leaf, Position, accumulator, for_kids, for_later, for_self, in_step, leaf_of, of_read}
+use Rattle.ftl_checked.specs.Allowed.{Leaf, Position, accumulator, for_kids, for_later, for_self, in_step, leaf_of}
+use Rattle.ftl_checked.specs.Allowed.{of_read}
 use Rattle.ftl_checked.specs.RuleForms.{Form, first_form, fold_form, one_form}
 
 -- ---- formulas

@@ -3,3 +3,4 @@ pub mod Plays
 pub mod Putting
 pub mod Deques
 pub mod Taking
+pub mod Thieves

@@ -1,5 +1,5 @@
 -- The count of waiting items that the holds of a pool share, and its steps.
-use Rattle.std.specs.Prelude.{◌≡◌, ◌≢◌, ℕ, suc, ◌+◌, ◌<◌, ◌≤◌, List, [], ◌∷◌, ◌++◌, length, slice_set, Option, Some, None}
+use Rattle.std.specs.Prelude.{◌≡◌, ℕ, suc, ◌+◌, ◌<◌, ◌≤◌, List, [], ◌∷◌, ◌++◌, length, slice_set, Option, Some, None}
 use Rattle.std.specs.List.{sum_by}
 use mathlib.Core.Option.{some}
 use lib.ListN.{get_elem?}
@@ -99,7 +99,8 @@ pub record IsBalanced (items n : ℕ) (holds : List Counted) : Type 0 where
   pub each : (id : ℕ) (h : Counted) → get_elem? holds id ≡ some h → (h.items ≡ items) × (h.puts ≤ items)
   pub few : length holds + sum_by (λ h. h.spare) holds ≤ most_holds
 
--- there was a moment between two steps at which the count was this number, and one of its holds this one
+-- the steps of some pool of as many items as this hold's lead to a state in which the count is this number and one of
+-- the holds is this one
 pub record IsMoment (n : ℕ) (v : Counted) : Type 0 where
   pub holds : List Counted
   pub reached : IsReached v.items n holds
@@ -120,7 +121,7 @@ pub record TallyModel : Type 0 where
 abbrev pub IsTallyOf : PoolModel → TallyModel → Type 0
 IsTallyOf pool tally = (tally.table ≡ pool.table) × (tally.state.items ≡ pool.items)
 
--- nothing was taken: the last load held 0, at a moment between two steps
+-- nothing was taken: the last load held 0, in a state that steps lead to
 pub record TakesNone (v w : Counted) : Type 0 where
   pub puts : w.puts ≡ v.puts
   pub takes : w.takes ≡ v.takes
@@ -129,12 +130,15 @@ pub record TakesNone (v w : Counted) : Type 0 where
   pub moment : IsMoment 0 before
   pub is : w ≡ after_load before 0
 
--- an item was taken: the last load held another number than 0
+-- an item was taken: the last load held a number that is not 0, in a state that steps lead to, and the take followed
 pub record TakesOne (v w : Counted) : Type 0 where
   pub puts : w.puts ≡ v.puts
   pub takes : w.takes ≡ v.takes + 1
   pub loads : v.loads < w.loads
-  pub last : w.last ≢ Some 0
+  pub left : ℕ
+  pub before : Counted
+  pub moment : IsMoment (suc left) before
+  pub is : w ≡ after_take (after_load before (suc left))
 
 -- what a take does to the count, by its answer
 abbrev pub Takes : Counted → Option ℕ → Counted → Type 0

@@ -1,5 +1,6 @@
 -- What passes of a deque put and took, and the rule that each deque keeps.
-use Rattle.std.specs.Prelude.{◌≡◌, ℕ, ◌+◌, ◌<◌, ◌≤◌, List, [], ◌∷◌, ◌++◌, length, cond, eqb, slice_index_or, slice_set, Option, Some, None}
+use Rattle.std.specs.Prelude.{◌≡◌, ℕ, ◌+◌, ◌<◌, ◌≤◌, List, [], ◌∷◌, ◌++◌, length, cond, eqb, slice_index_or, slice_set}
+use Rattle.std.specs.Prelude.{Option, Some, None}
 use Rattle.std.specs.List.{sum_by, All}
 
 -- a pass of a deque: the items that it put, and those that it took
@@ -57,18 +58,18 @@ TakesFromOne taken (Some item) next = (deque : ℕ) × (deque < length taken)
     × (next ≡ slice_set taken deque (slice_index_or taken deque [] ++ item ∷ []))
 
 -- what was taken from a deque grew by items alone that are none of the pool's
-pub record Skips (items : ℕ) (taken next : List ℕ) : Type 0 where
+pub record TakesOutside (items : ℕ) (taken next : List ℕ) : Type 0 where
   pub more : List ℕ
   pub is : next ≡ taken ++ more
   pub over : All (λ x. items ≤ x) more
 
 -- the same for each of these deques
-pub record AllSkip (items : ℕ) (taken next : List (List ℕ)) : Type 0 where
+pub record AllTakeOutside (items : ℕ) (taken next : List (List ℕ)) : Type 0 where
   pub count : length next ≡ length taken
-  pub each : (deque : ℕ) → Skips items (slice_index_or taken deque []) (slice_index_or next deque [])
+  pub each : (deque : ℕ) → TakesOutside items (slice_index_or taken deque []) (slice_index_or next deque [])
 
 -- the item joined what was taken from one of these deques, and beside it nothing was taken that is an item of the pool
 pub record Joins (items : ℕ) (taken : List (List ℕ)) (item : ℕ) (next : List (List ℕ)) : Type 0 where
   pub before : List (List ℕ)
-  pub skips : AllSkip items taken before
+  pub outside : AllTakeOutside items taken before
   pub joins : TakesFromOne before (Some item) next

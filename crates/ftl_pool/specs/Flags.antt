@@ -1,5 +1,6 @@
 -- A row of flags, of which the first that is up is put down.
-use Rattle.std.specs.Prelude.{◌≡◌, ℕ, ◌<◌, Bool, true, false, List, length, slice_index_or, slice_set, Option, Some, None}
+use Rattle.std.specs.Prelude.{◌≡◌, ℕ, ◌<◌, Bool, true, false, List, length, slice_index_or, slice_set, Option, Some}
+use Rattle.std.specs.Prelude.{None}
 
 -- all flags below this place are down
 abbrev pub AreDownBelow : List Bool → ℕ → Type 0

@@ -1,5 +1,5 @@
 -- The holds of a pool as contracts see them, and what they put.
-use Rattle.std.specs.Prelude.{◌≡◌, ◌≢◌, ℕ, ◌<◌, List, [], length, eqb}
+use Rattle.std.specs.Prelude.{◌≡◌, ◌≢◌, ℕ, ◌<◌, List, [], length, map, eqb, None}
 use Rattle.std.specs.List.{All, IsDistinct}
 use Rattle.atomic_table.specs.Seated.{TableId}
 use Rattle.ftl_pool.specs.Count.{Counted, PoolModel}
@@ -25,6 +25,7 @@ pub record IsFreshHoldOf (pool : PoolModel) (hold : HoldModel) : Type 0 where
   pub put : hold.state.puts ≡ 0
   pub takes : hold.state.takes ≡ 0
   pub loads : hold.state.loads ≡ 0
+  pub last : hold.state.last ≡ None
 
 -- these items were put through a hold, each once
 pub record ArePut (state : Counted) (puts : List ℕ) : Type 0 where
@@ -41,3 +42,11 @@ pub record StealHoldModel : Type 0 where
 pub record IsFreshStealHoldOf (pool : PoolModel) (steal : StealHoldModel) : Type 0 where
   pub hold : IsFreshHoldOf pool steal.hold
   pub taken : All (λ items. items ≡ []) steal.taken
+
+-- it has so many deques to take from, of which the first is its own
+abbrev pub HasDeques : ℕ → StealHoldModel → Type 0
+HasDeques count steal = length steal.taken ≡ count
+
+-- how many deques each of these holds has to take from
+abbrev pub deque_counts : List StealHoldModel → List ℕ
+deque_counts holds = map (λ (h : StealHoldModel). length h.taken) holds

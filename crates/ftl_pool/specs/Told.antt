@@ -7,11 +7,15 @@ use Rattle.ftl_pool.specs.Count.{Counted, IsMoment, after_load, after_put, after
 abbrev pub Known : Type 0
 Known = Me ℕ Counted
 
+-- a load tells the seat what the count held, in a state that steps lead to
 abbrev pub load_told : Step ℕ → Known → ℕ → Known → Type 0
 load_told st me n new = IsMoment n me.0 × (new ≡ (after_load me.0 n, me.1))
 
+-- an addition tells the seat that it put one more item
 abbrev pub put_told : Step ℕ → Known → ℕ → Known → Type 0
 put_told st me n new = new ≡ (after_put me.0, me.1)
 
+-- a compare-exchange tells the seat that it took one more item where the count was the number that it compares with,
+-- and nothing where it was another
 abbrev pub take_told : Step ℕ → Known → ℕ → Known → Type 0
 take_told st me n new = (n ≡ st.first → new ≡ (after_take me.0, me.1)) × (n ≢ st.first → new ≡ me)

@@ -1,4 +1,4 @@
-// A deque of items under its rule: its owner's end, and the way to it from another hold.
+// A deque of items under its rule: its owner's end, and the thieves of other holds.
 ghost use Rattle.std.specs.Prelude.{◌≡◌, ◌+◌, ◌<◌, ◌≤◌, [], ◌∷◌, ◌++◌, length, IfOk};
 ghost use Rattle.ftl_pool.specs.Deque.{TakesItem, PassTakes, OnePassTakes, new_pass};
 
@@ -114,41 +114,41 @@ impl Own {
         self.deque.pop_as::<Takes>()
     }
 
-    /// A way to this deque, for another hold.
-    pub(crate) fn way(&self) -> Result<Way, AllocError>
-        ensures { IfOk result (λ w. w ≡ new_pass) }
+    /// A thief of this deque, for another hold.
+    pub(crate) fn thief(&self) -> Result<Thief, AllocError>
+        ensures { IfOk result (λ t. t ≡ new_pass) }
     {
-        let thief = self.deque.stealer()?;
-        let pass = thief.pass();
-        Ok(Way { thief, pass })
+        let stealer = self.deque.stealer()?;
+        let pass = stealer.pass();
+        Ok(Thief { stealer, pass })
     }
 }
 
-/// A way to the deque of another hold.
+/// What takes items from the deque of another hold.
 #[derive(Drop)]
-pub(crate) struct Way {
-    thief: Stealer<u32, Global, Passed, Fair>,
+pub(crate) struct Thief {
+    stealer: Stealer<u32, Global, Passed, Fair>,
     pass: Pass<u32, Passed>,
 }
 
-impl Model for Way {
+impl Model for Thief {
     ghost use Rattle.crossbeam_deque.specs.Handles.{IsPassOf, stealer_deque};
     ghost use Rattle.crossbeam_deque.specs.Handles.{view as pass_view};
     ghost use Rattle.ftl_pool.specs.Deque.{PassModel};
 
     ghost Value = { PassModel };
 
-    ghost view = { λ w. pass_view w.pass };
+    ghost view = { λ t. pass_view t.pass };
 
-    ghost invariant = { λ w. IsPassOf (stealer_deque w.thief) w.pass };
+    ghost invariant = { λ t. IsPassOf (stealer_deque t.stealer) t.pass };
 }
 
-impl Way {
+impl Thief {
     /// Takes the first item of the deque, or none where it found none or another took it.
     pub(crate) fn steal(&mut self) -> Option<u32>
         ensures { PassTakes self.old result self.new }
     {
-        match self.thief.steal_as::<Takes>(&mut self.pass) {
+        match self.stealer.steal_as::<Takes>(&mut self.pass) {
             Steal::Success(item) => Some(item),
             Steal::Empty | Steal::Retry => None,
         }
@@ -156,11 +156,11 @@ impl Way {
 }
 
 /// Looks once into each deque.
-pub(crate) fn steal_once(ways: &mut Vec<Way>) -> Option<u32>
-    ensures { OnePassTakes ways.old.items result ways.new.items }
+pub(crate) fn steal_once(thieves: &mut Vec<Thief>) -> Option<u32>
+    ensures { OnePassTakes thieves.old.items result thieves.new.items }
 {
-    for at in 0..ways.len() {
-        if let Some(item) = ways[at].steal() {
+    for at in 0..thieves.len() {
+        if let Some(item) = thieves[at].steal() {
             return Some(item);
         }
     }

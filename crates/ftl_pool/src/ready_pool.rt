@@ -21,8 +21,9 @@ pub trait ReadyPool: Sync {
         ensures puts { (hold_of hold.new).puts ≡ (hold_of hold.old).puts ++ item ∷ [] }
         ensures counted { (hold_of hold.new).state ≡ after_put (hold_of hold.old).state };
 
-    /// Takes an item that was put, through whatever hold. None comes where the last load of the
-    /// count in this call held 0.
+    /// Takes one from the count, and then looks for an item until it has one. None comes where the
+    /// last load of the count in this call held 0. No clause here says that the item was put: what
+    /// a pool takes it from says that, or nothing does.
     fn take<R: Wait>(&self, rt: &R, hold: &mut Self::Hold) -> Option<u32>
         requires made { IsHoldOf (pool_of self.now) (hold_of hold.old) }
         ensures made { IsHoldOf (pool_of self.now) (hold_of hold.new) }

@@ -1,12 +1,14 @@
-ghost use Rattle.std.specs.Prelude.{◌≡◌, ◌<◌, ◌≤◌, [], ◌∷◌, ◌++◌, vec_len};
-ghost use Rattle.std.specs.Prelude.{IfOk, IfSome, IfNone, OnOk, OnErr};
+ghost use Rattle.std.specs.Prelude.{◌≡◌, ◌+◌, ◌<◌, ◌≤◌, [], ◌∷◌, ◌++◌, vec_len};
+ghost use Rattle.std.specs.Prelude.{slice_index_or, slice_set};
+ghost use Rattle.std.specs.Prelude.{IfOk, IfSome, IfNone, OnOk, OnErr, None};
 ghost use Rattle.std.specs.List.{All};
-ghost use Rattle.ftl_pool.specs.Count.{IsTallyOf, Takes, first_hold};
-ghost use Rattle.ftl_pool.specs.Pool.{IsHoldOf, IsFreshStealHoldOf};
+ghost use Rattle.ftl_pool.specs.Count.{IsTallyOf, Takes, first_hold, after_put};
+ghost use Rattle.ftl_pool.specs.Pool.{IsHoldOf, IsNew, IsFreshStealHoldOf};
+ghost use Rattle.ftl_pool.specs.Pool.{HasDeques, deque_counts};
 ghost use Rattle.ftl_pool.specs.Deque.{TakesFromOne, Joins};
 
 use crate::count::{Count, Tally};
-use crate::deque::{Own, Way, steal_once};
+use crate::deque::{Own, Thief, steal_once};
 use crate::ready_pool::ReadyPool;
 use std::alloc::{AllocError, Global};
 use std::marker::Model;
@@ -32,12 +34,12 @@ impl Model for StealPool {
     ghost invariant = { λ p. p.items ≡ p.count.items };
 }
 
-/// What one worker puts and takes through: its own deque, and a way to each other one.
+/// What one worker puts and takes through: its own deque, and a thief of each other one.
 #[derive(Drop)]
 pub struct StealHold {
     tally: Tally,
     own: Own,
-    ways: Vec<Way>,
+    thieves: Vec<Thief>,
 }
 
 impl Model for StealHold {
@@ -48,7 +50,7 @@ impl Model for StealHold {
 
     ghost view = { λ h. record {
       hold = record { table = h.tally.table; state = h.tally.state; puts = h.own.put };
-      taken = h.own.taken ∷ map (λ w. w.taken) h.ways.items;
+      taken = h.own.taken ∷ map (λ t. t.taken) h.thieves.items;
     } };
 
     ghost invariant = { λ h. ArePut h.tally.state h.own.put
@@ -67,10 +69,11 @@ impl StealPool {
         ensures items { IfOk result (λ r. r.0.items ≡ items) }
         ensures holds { IfOk result (λ r. vec_len r.1 ≡ workers) }
         ensures fresh { IfOk result (λ r. All (IsFreshStealHoldOf r.0) r.1.items) }
+        ensures deques { IfOk result (λ r. All (HasDeques workers) r.1.items) }
     {
         let (count, tally) = Count::new(alloc, items)?;
         let mut holds = make_holds(alloc, &count, tally, workers, items)?;
-        meet_all(&count, &mut holds)?;
+        add_thieves(&count, &mut holds)?;
         Ok((StealPool { count, items }, holds))
     }
 }
@@ -82,7 +85,17 @@ impl ReadyPool for StealPool {
 
     ghost hold_of = { λ h. h.hold };
 
-    fn put<R: Wait>(&self, rt: &R, hold: &mut StealHold, item: u32) {
+    fn put<R: Wait>(&self, rt: &R, hold: &mut StealHold, item: u32)
+        requires made { IsHoldOf self.now hold.old.hold }
+        requires item { item < self.now.items }
+        requires new { IsNew item hold.old.hold.puts }
+        ensures made { IsHoldOf self.now hold.new.hold }
+        ensures puts { hold.new.hold.puts ≡ hold.old.hold.puts ++ item ∷ [] }
+        ensures counted { hold.new.hold.state ≡ after_put hold.old.hold.state }
+
+        // Nothing is taken.
+        ensures stays { hold.new.taken ≡ hold.old.taken }
+    {
         hold.own.push(item);
         self.count.add(&mut hold.tally, hold.own.count());
     }
@@ -108,8 +121,8 @@ impl ReadyPool for StealPool {
 }
 
 impl StealHold {
-    /// Through which nothing was put, with no way to another deque.
-    fn new(alloc: Global, tally: Tally, items: u32, ways: usize) -> Result<StealHold, AllocError>
+    /// Through which nothing was put, with no thief of another deque.
+    fn new(alloc: Global, tally: Tally, items: u32, thieves: usize) -> Result<StealHold, AllocError>
         requires items { tally.state.items ≡ items }
         requires puts { tally.state.puts ≡ 0 }
         ensures table { IfOk result (λ h. h.hold.table ≡ tally.table) }
@@ -118,17 +131,21 @@ impl StealHold {
         ensures taken { IfOk result (λ h. h.taken ≡ [] ∷ []) }
     {
         let own = Own::new(alloc, items)?;
-        let ways = Vec::with_capacity(alloc, ways)?;
-        Ok(StealHold { tally, own, ways })
+        let thieves = Vec::with_capacity(alloc, thieves)?;
+        Ok(StealHold {
+            tally,
+            own,
+            thieves,
+        })
     }
 
-    /// Adds a way to another deque.
-    fn meet(&mut self, way: Way) -> Result<(), AllocError>
+    /// Adds a thief of another deque.
+    fn add_thief(&mut self, thief: Thief) -> Result<(), AllocError>
         ensures hold { self.new.hold ≡ self.old.hold }
-        ensures taken { OnOk result (self.new.taken ≡ self.old.taken ++ way.taken ∷ []) }
+        ensures taken { OnOk result (self.new.taken ≡ self.old.taken ++ thief.taken ∷ []) }
         ensures stays { OnErr result (self.new.taken ≡ self.old.taken) }
     {
-        self.ways.push(way)?;
+        self.thieves.push(thief)?;
         Ok(())
     }
 
@@ -140,10 +157,10 @@ impl StealHold {
         if let Some(item) = self.own.pop() {
             return Some(item);
         }
-        steal_once(&mut self.ways)
+        steal_once(&mut self.thieves)
     }
 
-    #[tactic(auto, using(crate::proofs::Taking::none_skipped))]
+    #[tactic(auto, using(crate::proofs::Taking::none_outside))]
     /// Looks until it has an item below this number.
     fn find<R: Wait>(&mut self, rt: &R, items: u32) -> u32
         ensures item { result < items }
@@ -179,54 +196,59 @@ fn make_holds(
     requires few { workers ≤ 64 }
     ensures holds { IfOk result (λ holds. vec_len holds ≡ workers) }
     ensures fresh { IfOk result (λ holds. All (IsFreshStealHoldOf count.now) holds.items) }
+    ensures deques { IfOk result (λ holds. All (HasDeques 1) holds.items) }
 {
-    let ways = workers as usize - 1;
+    let thieves = workers as usize - 1;
     let mut holds = Vec::with_capacity(alloc, workers as usize)?;
     for _ in 1..workers {
         let other = count.another(&mut tally);
-        holds.push(make_hold(alloc, count, other, items, ways)?)?;
+        holds.push(make_hold(alloc, count, other, items, thieves)?)?;
     }
-    holds.push(make_hold(alloc, count, tally, items, ways)?)?;
+    holds.push(make_hold(alloc, count, tally, items, thieves)?)?;
     Ok(holds)
 }
 
-#[tactic(auto, using(crate::proofs::Putting::is_fresh))]
+#[tactic(auto, using(crate::proofs::Putting::is_fresh, crate::proofs::Putting::one_deque))]
 /// A hold through which nothing was put or taken.
 fn make_hold(
     alloc: Global,
     _count: &Count,
     tally: Tally,
     items: u32,
-    ways: usize,
+    thieves: usize,
 ) -> Result<StealHold, AllocError>
     requires items { _count.now.items ≡ items }
     requires made { IsTallyOf _count.now tally }
     requires puts { tally.state.puts ≡ 0 }
     requires takes { tally.state.takes ≡ 0 }
     requires loads { tally.state.loads ≡ 0 }
+    requires last { tally.state.last ≡ None }
     ensures fresh { IfOk result (IsFreshStealHoldOf _count.now) }
+    ensures deques { IfOk result (HasDeques 1) }
 {
-    let hold = StealHold::new(alloc, tally, items, ways)?;
+    let hold = StealHold::new(alloc, tally, items, thieves)?;
     Ok(hold)
 }
 
-/// Gives each hold a way to each other deque, beginning with that of the next worker.
-fn meet_all(count: &Count, holds: &mut Vec<StealHold>) -> Result<(), AllocError>
-    requires { All (IsFreshStealHoldOf count.now) holds.old.items }
+/// Gives each hold a thief of each other deque, beginning with that of the next worker.
+fn add_thieves(count: &Count, holds: &mut Vec<StealHold>) -> Result<(), AllocError>
+    requires fresh { All (IsFreshStealHoldOf count.now) holds.old.items }
+    requires deques { All (HasDeques 1) holds.old.items }
     ensures holds { vec_len holds.new ≡ vec_len holds.old }
     ensures fresh { All (IsFreshStealHoldOf count.now) holds.new.items }
+    ensures deques { OnOk result (All (HasDeques (vec_len holds.new)) holds.new.items) }
 {
     let workers = holds.len();
     for worker in 0..workers {
         for step in 1..workers {
-            meet_one(count, holds, worker, (worker + step) % workers)?;
+            add_thief_of(count, holds, worker, (worker + step) % workers)?;
         }
     }
     Ok(())
 }
 
-/// Gives one hold a way to the deque of another.
-fn meet_one(
+/// Gives one hold a thief of the deque of another.
+fn add_thief_of(
     _count: &Count,
     holds: &mut Vec<StealHold>,
     worker: usize,
@@ -237,8 +259,11 @@ fn meet_one(
     requires other { other < vec_len holds.old }
     ensures holds { vec_len holds.new ≡ vec_len holds.old }
     ensures fresh { All (IsFreshStealHoldOf _count.now) holds.new.items }
+    ensures deques { OnOk result (deque_counts holds.new.items
+        ≡ slice_set (deque_counts holds.old.items) worker
+        (slice_index_or (deque_counts holds.old.items) worker 0 + 1)) }
 {
-    let way = holds[other].own.way()?;
-    holds[worker].meet(way)?;
+    let thief = holds[other].own.thief()?;
+    holds[worker].add_thief(thief)?;
     Ok(())
 }

@@ -22,14 +22,7 @@ pub fn postfix<'a>(alloc: Global, expr: &'a Expr) -> Result<Vec<Entry<'a>>, Allo
 }
 
 #[cycle(code)]
-#[tactic(
-    auto,
-    unfolding(
-        ftl_formula::specs::Expressions::formula_of,
-        ftl_formula::specs::Expressions::sum_formula,
-        ftl_formula::specs::Expressions::cond_question,
-    )
-)]
+#[tactic(auto, unfolding(ftl_formula::specs::Expressions::formula_of, ftl_formula::specs::Expressions::sum_formula, ftl_formula::specs::Expressions::cond_question))]
 fn push_expr<'a>(out: &mut Vec<Entry<'a>>, expr: &'a Expr) -> Result<(), AllocError>
     ensures { OnOk result (out.new.items ≡ out.old.items ++ code_of (formula_of expr.now)) }
 {
@@ -46,14 +39,7 @@ fn push_expr<'a>(out: &mut Vec<Entry<'a>>, expr: &'a Expr) -> Result<(), AllocEr
 }
 
 #[cycle(code)]
-#[tactic(
-    auto,
-    unfolding(
-        ftl_formula::specs::Expressions::sum_formula,
-        ftl_formula::specs::Expressions::term_formula,
-        ftl_formula::specs::Expressions::signed_step,
-    )
-)]
+#[tactic(auto, unfolding(ftl_formula::specs::Expressions::sum_formula, ftl_formula::specs::Expressions::term_formula, ftl_formula::specs::Expressions::signed_step))]
 fn push_sum<'a>(out: &mut Vec<Entry<'a>>, sum: &'a Sum) -> Result<(), AllocError>
     ensures { OnOk result (out.new.items ≡ out.old.items ++ code_of (sum_formula sum.now)) }
 {
@@ -70,14 +56,7 @@ fn push_sum<'a>(out: &mut Vec<Entry<'a>>, sum: &'a Sum) -> Result<(), AllocError
 }
 
 #[cycle(code)]
-#[tactic(
-    auto,
-    unfolding(
-        ftl_formula::specs::Expressions::term_formula,
-        ftl_formula::specs::Expressions::unary_formula,
-        ftl_formula::specs::Expressions::factor_step,
-    )
-)]
+#[tactic(auto, unfolding(ftl_formula::specs::Expressions::term_formula, ftl_formula::specs::Expressions::unary_formula, ftl_formula::specs::Expressions::factor_step))]
 fn push_term<'a>(out: &mut Vec<Entry<'a>>, term: &'a Term) -> Result<(), AllocError>
     ensures { OnOk result (out.new.items ≡ out.old.items ++ code_of (term_formula term.now)) }
 {
@@ -95,13 +74,7 @@ fn push_term<'a>(out: &mut Vec<Entry<'a>>, term: &'a Term) -> Result<(), AllocEr
 }
 
 #[cycle(code)]
-#[tactic(
-    auto,
-    unfolding(
-        ftl_formula::specs::Expressions::unary_formula,
-        ftl_formula::specs::Expressions::atom_formula,
-    )
-)]
+#[tactic(auto, unfolding(ftl_formula::specs::Expressions::unary_formula, ftl_formula::specs::Expressions::atom_formula))]
 fn push_unary<'a>(out: &mut Vec<Entry<'a>>, unary: &'a Unary) -> Result<(), AllocError>
     ensures { OnOk result (out.new.items ≡ out.old.items ++ code_of (unary_formula unary.now)) }
 {
@@ -113,13 +86,7 @@ fn push_unary<'a>(out: &mut Vec<Entry<'a>>, unary: &'a Unary) -> Result<(), Allo
 }
 
 #[cycle(code)]
-#[tactic(
-    auto,
-    unfolding(
-        ftl_formula::specs::Expressions::atom_formula,
-        ftl_formula::specs::Expressions::formula_of,
-    )
-)]
+#[tactic(auto, unfolding(ftl_formula::specs::Expressions::atom_formula, ftl_formula::specs::Expressions::formula_of))]
 fn push_atom<'a>(out: &mut Vec<Entry<'a>>, atom: &'a Atom) -> Result<(), AllocError>
     ensures { OnOk result (out.new.items ≡ out.old.items ++ code_of (atom_formula atom.now)) }
 {
@@ -159,13 +126,7 @@ fn read_ref<'a>(read: &'a Read) -> ReadRef<'a>
 }
 
 #[cycle(code)]
-#[tactic(
-    auto,
-    unfolding(
-        ftl_formula::specs::Expressions::cond_question,
-        ftl_formula::specs::Expressions::conj_question,
-    )
-)]
+#[tactic(auto, unfolding(ftl_formula::specs::Expressions::cond_question, ftl_formula::specs::Expressions::conj_question))]
 fn push_cond<'a>(out: &mut Vec<Entry<'a>>, cond: &'a Cond) -> Result<(), AllocError>
     ensures { OnOk result (out.new.items ≡ out.old.items ++ code_in (cond_question cond.now)) }
 {
@@ -181,13 +142,7 @@ fn push_cond<'a>(out: &mut Vec<Entry<'a>>, cond: &'a Cond) -> Result<(), AllocEr
 }
 
 #[cycle(code)]
-#[tactic(
-    auto,
-    unfolding(
-        ftl_formula::specs::Expressions::conj_question,
-        ftl_formula::specs::Expressions::test_question,
-    )
-)]
+#[tactic(auto, unfolding(ftl_formula::specs::Expressions::conj_question, ftl_formula::specs::Expressions::test_question))]
 fn push_conj<'a>(out: &mut Vec<Entry<'a>>, conj: &'a Conj) -> Result<(), AllocError>
     ensures { OnOk result (out.new.items ≡ out.old.items ++ code_in (conj_question conj.now)) }
 {
@@ -203,14 +158,7 @@ fn push_conj<'a>(out: &mut Vec<Entry<'a>>, conj: &'a Conj) -> Result<(), AllocEr
 }
 
 #[cycle(code)]
-#[tactic(
-    auto,
-    unfolding(
-        ftl_formula::specs::Expressions::test_question,
-        ftl_formula::specs::Expressions::cond_question,
-        ftl_formula::specs::Expressions::sum_formula,
-    )
-)]
+#[tactic(auto, unfolding(ftl_formula::specs::Expressions::test_question, ftl_formula::specs::Expressions::cond_question, ftl_formula::specs::Expressions::sum_formula))]
 fn push_test<'a>(out: &mut Vec<Entry<'a>>, test: &'a Test) -> Result<(), AllocError>
     ensures { OnOk result (out.new.items ≡ out.old.items ++ code_in (test_question test.now)) }
 {

@@ -9,7 +9,8 @@ use Rattle.ftl_deps.specs.declared.dep_read.Form.TheVariants as forms
 use Rattle.ftl_deps.specs.declared.dep_read.Site.{Site}
 use Rattle.ftl_deps.specs.declared.dep_read.Site.TheVariants as sites
 
--- whether the key is smaller: the attribute stands earlier in the list, or is the same and the child is declared earlier
+-- whether the key is smaller: the attribute stands earlier in the list, or is the same and the child is declared
+-- earlier
 abbrev pub has_smaller_key : Placing → VisitPlace → VisitPlace → Bool
 has_smaller_key at x y =
     nat_lt (at x.attribute).index (at y.attribute).index

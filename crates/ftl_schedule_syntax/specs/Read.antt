@@ -1,5 +1,5 @@
--- What the reader of schedules answers: the schedule that the tokens spell, or the place at which they go wrong, or that
--- memory ran out.
+-- What the reader of schedules answers: the schedule that the tokens spell, or the place at which they go wrong, or
+-- that memory ran out.
 use Rattle.std.specs.Prelude.{ℕ, Result, Ok, Err}
 use Rattle.ftl_tokens.specs.Tokenized.{Tokenized, symbols_of}
 use Rattle.ftl_reading.specs.Place.{IsPlaceOf}

@@ -7,8 +7,8 @@ use Rattle.ftl_cells.specs.declared.kind.CellKind.TheVariants.{Given, Later}
 abbrev pub IsBefore : ℕ → ℕ → ℕ → ℕ → Type 0
 IsBefore k l item step = (k < item) ⊎ ((k ≡ item) × (l < step))
 
--- the cells hold the solution's words where they are Given or the target of a step before this one, and 0 where they
--- are Later
+-- the work is lawful, there is a word for each cell, and the cells hold the solution's words where they are Given or
+-- the target of a step before this one, and 0 where they are Later
 pub record IsFilledTo (m : Meaning) (words : List ℕ) (item step : ℕ) : Type 0 where
   pub lawful : IsLawfulWork m
   pub count : length words ≡ cell_total m

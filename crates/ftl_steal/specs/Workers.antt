@@ -57,7 +57,7 @@ pub record IsDealtBelow (m : Meaning) (table : TableId) (pool : PoolModel) (item
   pub none : (padded_value worker).hand.state.released ≡ []
   pub below : All (λ x. x < item) (padded_value worker).hold.hold.puts
 
--- its hand is one of these cells, and found the end
+-- its hand is one of these cells, made a step at least, and found the end
 pub record IsEndedMember (m : Meaning) (table : TableId) (worker : CachePadded Member) : Type 0 where
   pub made : IsMadeBy m table (padded_value worker).hand
   pub ended : (padded_value worker).hand.state.place ≡ live Ended

@@ -22,8 +22,9 @@ use std::alloc::{AllocError, Global};
 use std::sync::Wait;
 use std::thread::{Threads, for_each_mut};
 
-/// Fills the cells of a work by so many workers, or as many as it has items where these are fewer.
-/// All memory is taken before a worker starts, and each thread is joined.
+/// Fills the cells of a work by so many workers, or as many as it has items where these are fewer,
+/// and by one where it has none. All memory is taken before a worker starts, and each thread is
+/// joined.
 pub fn run_stage<R: Threads + Wait + Sync, W: Work, G: Gate>(
     rt: &R,
     alloc: Global,
@@ -39,8 +40,9 @@ pub fn run_stage<R: Threads + Wait + Sync, W: Work, G: Gate>(
     ensures made { IfOk result (IsMadeBy (W.meaning cells.now.1) cells.now.0) }
     ensures ended { IfOk result (λ h. h.state.place ≡ live Ended) }
 
-    // All hands are given up to the one that comes back: for each worker its hand was made, found
-    // the end and was taken in.
+    // Beside the steps of the hand that went in, the one that comes back counts three at least for
+    // each worker: as many as it takes to make a hand for it, to find the end with this hand, and
+    // to take it in.
     ensures given_up { IfOk result (λ h. steps_of hand.state
         + 3 * min workers (max (item_total (W.meaning cells.now.1)) 1) ≤ steps_of h.state) }
 {

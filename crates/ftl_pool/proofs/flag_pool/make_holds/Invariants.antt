@@ -1,4 +1,4 @@
-use Rattle.std.proofs.Common.{◌≡◌, ◌+◌, vec_len}
+use Rattle.std.proofs.Common.{◌≡◌, ◌+◌, vec_len, None}
 use Rattle.std.specs.List.{All}
 use Rattle.ftl_pool.specs.Count.{IsTallyOf}
 use Rattle.ftl_pool.specs.Pool.{IsFreshHoldOf}
@@ -10,6 +10,7 @@ invariant-loop l = record {
   puts : l.tally.state.puts ≡ 0;
   takes : l.tally.state.takes ≡ 0;
   loads : l.tally.state.loads ≡ 0;
+  last : l.tally.state.last ≡ None;
   spare : l.tally.state.spare + l.counter ≡ 64;
   holds : vec_len l.holds + 1 ≡ l.counter;
   fresh : All (IsFreshHoldOf l.count) l.holds.items;

@@ -1,7 +1,7 @@
-use Rattle.std.proofs.Common.{◌≡◌, ◌+◌, vec_len}
+use Rattle.std.proofs.Common.{◌≡◌, ◌+◌, vec_len, None}
 use Rattle.std.specs.List.{All}
 use Rattle.ftl_pool.specs.Count.{IsTallyOf}
-use Rattle.ftl_pool.specs.Pool.{IsFreshStealHoldOf}
+use Rattle.ftl_pool.specs.Pool.{IsFreshStealHoldOf, HasDeques}
 use Rattle.ftl_pool.proofs.steal_pool.make_holds.Given as goal
 
 abbrev pub invariant-loop : goal.invariant-loop
@@ -10,7 +10,9 @@ invariant-loop l = record {
   puts : l.tally.state.puts ≡ 0;
   takes : l.tally.state.takes ≡ 0;
   loads : l.tally.state.loads ≡ 0;
+  last : l.tally.state.last ≡ None;
   spare : l.tally.state.spare + l.counter ≡ 64;
   holds : vec_len l.holds + 1 ≡ l.counter;
   fresh : All (IsFreshStealHoldOf l.count) l.holds.items;
+  deques : All (HasDeques 1) l.holds.items;
 }

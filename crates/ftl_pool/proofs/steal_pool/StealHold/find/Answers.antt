@@ -1,5 +1,5 @@
 use Rattle.std.proofs.Common.{◌∙◌, arith}
-use Rattle.ftl_pool.proofs.Taking.{all_skip_more}
+use Rattle.ftl_pool.proofs.Taking.{all_more_outside}
 use Rattle.ftl_pool.proofs.steal_pool.StealHold.find.Goals as goal
 
 -- an item that is none of the pool's is looked past
@@ -8,7 +8,7 @@ loop-preserved-else-item-items g c = record {
   can = tt;
   finite = tt;
   hold = c.find_once-found.ensures.hold ∙ c.loop.invariant.hold;
-  skips = all_skip_more c.args.items c.in-Some-found.item c.args.self.now.taken c.loop.self.taken
-      c.find_once-found.new.self.taken (omega (arith, c.if-item-items.false)) c.loop.invariant.skips
+  outside = all_more_outside c.args.items c.in-Some-found.item c.args.self.now.taken c.loop.self.taken
+      c.find_once-found.new.self.taken (omega (arith, c.if-item-items.false)) c.loop.invariant.outside
       c.in-Some-found.ensures.taken;
 }

@@ -1,14 +1,14 @@
 use Rattle.std.proofs.Common.{subst, ◌∷◌}
 use Rattle.ftl_pool.specs.Pool.{StealHoldModel}
 use Rattle.ftl_pool.specs.Deque.{TakesFromOne}
-use Rattle.ftl_pool.proofs.Taking.{ways_take, by_ways}
+use Rattle.ftl_pool.proofs.Taking.{thieves_take, by_thieves}
 use Rattle.ftl_pool.proofs.steal_pool.StealHold.find_once.Goals as goal
 
 -- the own deque gave nothing
 pub returns-clause-taken : goal.returns-clause-taken
 returns-clause-taken c =
-    let took = ways_take c.self.inside.own.taken c.pop.new.self.taken c.self.inside.ways.items
-    c.steal_once.new.ways.items
+    let took = thieves_take c.self.inside.own.taken c.pop.new.self.taken c.self.inside.thieves.items
+    c.steal_once.new.thieves.items
     c.steal_once.result c.in_default.ensures.taken c.steal_once.ensures in
     subst (λ (h : StealHoldModel). TakesFromOne h.taken c.steal_once.result
-    (c.pop.new.self.taken ∷ by_ways c.steal_once.new.ways.items)) c.self.view_is took
+    (c.pop.new.self.taken ∷ by_thieves c.steal_once.new.thieves.items)) c.self.view_is took

@@ -1,0 +1,3 @@
+pub mod AttrKinds
+pub mod WrittenDeps
+pub mod DepRows

@@ -1,0 +1,2 @@
+pub mod Meant
+pub use Rattle.ftl_deps.specs.DepReads

@@ -1,0 +1,31 @@
+-- What the rules of a checked grammar read, by number.
+use Rattle.std.specs.Prelude.{ℕ, List, map, flat_map}
+use Rattle.std.specs.Option.{option_map, option_to_list}
+use Rattle.ftl_base.specs.Widths.{greatest_of_width}
+use Rattle.ftl_model.specs.AttributeGrammar.{AttributeGrammar}
+use Rattle.ftl_syntax.specs.declared.rules.Rule.{Rule}
+use Rattle.ftl_checked.specs.Checked.{CheckedGrammar}
+use Rattle.ftl_checked.specs.ReadNumbers.{leaf_in, rule_parts}
+use Rattle.ftl_checked.specs.declared.numbered_read.NumberedRead.{NumberedRead}
+use Rattle.ftl_checked.specs.declared.numbered_read.PartReads.{PartReads}
+use Rattle.ftl_deps.specs.DepReads.{dep_read}
+use Rattle.ftl_deps.specs.declared.dep_read.DepRead.{DepRead}
+use Rattle.ftl_meaning.specs.GrammarOf.{grammar_of}
+use Rattle.ftl_meaning.specs.Meaning.{expression_reads, read_of}
+
+-- the grammar with its names gone, in its width
+abbrev pub meant : CheckedGrammar → AttributeGrammar
+meant c = grammar_of (greatest_of_width c.width) c.grammar
+
+-- the reads among some names by number
+abbrev pub deps_in : AttributeGrammar → List NumberedRead → List DepRead
+deps_in m reads = flat_map (λ r. option_to_list (option_map (dep_read m) (read_of (leaf_in r)))) reads
+
+-- the same of a part of a rule
+abbrev pub part_deps : AttributeGrammar → PartReads → List DepRead
+part_deps m part = deps_in m part.reads
+
+-- what the expressions of a rule read, one after the other
+abbrev pub written_deps : CheckedGrammar → (class : ℕ) → Rule → List DepRead
+written_deps c k r =
+    map (dep_read (meant c)) (flat_map (λ part. expression_reads c.grammar k part.0 part.1) (rule_parts c.grammar k r))

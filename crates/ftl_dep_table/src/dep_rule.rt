@@ -1,0 +1,55 @@
+//! The reads of one rule.
+ghost use Rattle.std.specs.Prelude.{◌≡◌, ◌<◌, ◌++◌, flat_map, length, IfOk, OnOk};
+ghost use Rattle.ftl_dep_table.specs.Meant.{deps_in, meant, part_deps, written_deps};
+
+use crate::dep_sites::dep_of;
+use ftl_checked::{Checked, NumberedRead, PartReads};
+use ftl_deps::DepRead;
+use ftl_syntax::Rule;
+use sqlite_items::Items;
+use std::alloc::{AllocError, Global};
+
+/// What a rule of this class reads, in the order of the text.
+#[tactic(auto, using(crate::proofs::WrittenDeps::parts_are))]
+pub(crate) fn rule_deps(
+    alloc: Global,
+    checked: &Checked,
+    class: u32,
+    rule: &Rule,
+) -> Result<Items<DepRead>, AllocError>
+    requires within { class < length checked.now.grammar.classes }
+    ensures deps { IfOk result (λ deps. deps ≡ written_deps checked.now class rule.now) }
+{
+    let parts = checked.rule_reads(alloc, class, rule)?;
+    deps_of_parts(alloc, checked, parts.as_slice())
+}
+
+fn deps_of_parts(
+    alloc: Global,
+    checked: &Checked,
+    parts: &[PartReads],
+) -> Result<Items<DepRead>, AllocError>
+    ensures deps { IfOk result (λ deps. deps
+        ≡ flat_map (part_deps (meant checked.now)) parts.now) }
+{
+    let mut deps = Items::new(alloc);
+    for part in parts {
+        add_deps(checked, part.reads.as_slice(), &mut deps)?;
+    }
+    Ok(deps)
+}
+
+fn add_deps(
+    checked: &Checked,
+    reads: &[NumberedRead],
+    deps: &mut Items<DepRead>,
+) -> Result<(), AllocError>
+    ensures added { OnOk result (deps.new ≡ deps.old ++ deps_in (meant checked.now) reads.now) }
+{
+    for read in reads {
+        if let Some(dep) = dep_of(checked, *read) {
+            deps.push(dep)?;
+        }
+    }
+    Ok(())
+}

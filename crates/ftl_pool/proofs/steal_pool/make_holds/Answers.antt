@@ -1,0 +1,40 @@
+use Rattle.std.proofs.Common.{List, ap, subst, sym, ◌∙◌, arith}
+use Rattle.std.specs.List.{All}
+use Rattle.std.proofs.lemmas.List.Elements.{All-push}
+use Rattle.ftl_pool.specs.Count.{Counted}
+use Rattle.ftl_pool.specs.Pool.{StealHoldModel, IsFreshStealHoldOf, HasDeques}
+use Rattle.ftl_pool.proofs.steal_pool.make_holds.Goals as goal
+
+-- one more hold is made
+pub loop-preserved : goal.loop-preserved
+loop-preserved c =
+    let inv = c.loop.invariant in
+    let told = c.another-other.ensures.told in
+    let P = IsFreshStealHoldOf c.args.count.now in record {
+      made = c.another-other.ensures.made;
+      puts = ap (λ (s : Counted). s.puts) told ∙ inv.puts;
+      takes = ap (λ (s : Counted). s.takes) told ∙ inv.takes;
+      loads = ap (λ (s : Counted). s.loads) told ∙ inv.loads;
+      last = ap (λ (s : Counted). s.last) told ∙ inv.last;
+      spare = omega (
+        arith,
+        ap (λ (s : Counted). s.spare) told,
+        inv.spare,
+        c.loop-test.true,
+        c.requires.few,
+      );
+      holds = omega (arith, c.in_ok-push.ensures.len, inv.holds);
+      fresh = subst (All P) (sym {A = List StealHoldModel} c.in_ok-push.ensures.items)
+          (All-push P c.loop.holds.items c.in_ok-make_hold.field-0 inv.fresh c.in_ok-make_hold.ensures.fresh);
+      deques = subst (All (HasDeques 1)) (sym {A = List StealHoldModel} c.in_ok-push.ensures.items)
+          (All-push (HasDeques 1) c.loop.holds.items c.in_ok-make_hold.field-0 inv.deques
+          c.in_ok-make_hold.ensures.deques);
+    }
+
+-- the last hold
+pub returns-clause-fresh : goal.returns-clause-fresh
+returns-clause-fresh c =
+    let P = IsFreshStealHoldOf c.args.count.now in
+    subst (All P) (sym {A = List StealHoldModel} c.in_ok-push-2.ensures.items)
+    (All-push P c.loop.holds.items c.in_ok-make_hold-2.field-0 c.loop.invariant.fresh
+    c.in_ok-make_hold-2.ensures.fresh)
