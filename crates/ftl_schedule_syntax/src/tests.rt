@@ -48,11 +48,9 @@ fn places_at_which_texts_go_wrong(rt: HostRuntime) -> Result<(), Fail> {
 fn a_text_cut_at_each_byte(rt: HostRuntime) -> Result<(), Fail> {
     let text = "inorder { A.b }";
     let places: [u32; 14] = [0, 0, 0, 0, 0, 0, 7, 7, 9, 9, 11, 12, 13, 13];
-    let mut cut = 1;
-    for place in places {
+    for cut in 1..15 {
         let front = text.get(0..cut).unwrap_or("");
-        assert_eq!(rt; place_of(&rt, front)?, Some(place));
-        cut += 1;
+        assert_eq!(rt; place_of(&rt, front)?, Some(places[cut - 1]));
     }
     assert_eq!(rt; place_of(&rt, text)?, None);
     Ok(())
