@@ -1,4 +1,4 @@
--- Nothing of a grammar without a fault is lost where its names go: each rule as it is written is the one rule for
+-- No rule of a grammar without a fault is lost where its names go: each rule as it is written is the one rule for
 -- what it defines, and each attribute that has to have a rule has one.
 use Rattle.std.specs.Prelude.{◌≡◌, ℕ, ◌<◌, true, length, Some, None}
 use Rattle.std.specs.List.{All, slice_get}
