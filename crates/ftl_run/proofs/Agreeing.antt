@@ -15,7 +15,7 @@ use Rattle.ftl_model.specs.Tree.{Forest}
 use Rattle.ftl_model.specs.TreeOf.{IsTreeOf}
 use Rattle.ftl_model.specs.Values.{Value}
 use Rattle.ftl_model.proofs.Numbering.{has-preorder}
-use Rattle.ftl_tree.proofs.Access.{is_tree}
+use Rattle.ftl_stack_page.proofs.Access.{is_tree}
 
 -- each element of a list is contained in it
 each_contained : (front xs : List ℕ) → AllByRecursion (λ a. Contains (front ++ xs) a) xs

@@ -2,8 +2,8 @@
 use Rattle.std.proofs.Common.{◌≡◌, ℕ, ◌<◌, ◌≤◌, Bool, true, false, List, [], ◌∷◌, length, Option, Some, None, IfSome, ◌⊎◌, inl, inr, refl, sym, ap, ◌∙◌, subst, arith}
 use Rattle.std.specs.Prelude.{codes}
 use Rattle.std.proofs.lemmas.Bool.{cases_lt}
-use Rattle.ftl_tree.specs.Scanning.{same_bytes}
-use Rattle.ftl_tree.proofs.ScanningLemmas.{same_bytes-true}
+use Rattle.ftl_stack_page.specs.Scanning.{same_bytes}
+use Rattle.ftl_stack_page.proofs.ScanningLemmas.{same_bytes-true}
 use Rattle.ftl_run.proofs.PageDecided.{Decided, page_decided, same_bytes_of}
 use Rattle.ftl_model.specs.Stack.{stack}
 use Rattle.ftl_model.specs.Table.{SolvesList}
@@ -11,8 +11,8 @@ use Rattle.ftl_model.specs.Tree.{Forest}
 use Rattle.ftl_model.specs.TreeOf.{IsTreeOf}
 use Rattle.ftl_model.specs.Values.{Value}
 use Rattle.ftl_order_worked.proofs.StackSchedules.{one_stack_list}
-use Rattle.ftl_tree.specs.FirstForm.{IsInFirstForm}
-use Rattle.ftl_tree.proofs.Documents.{document_is_tree, one_page}
+use Rattle.ftl_stack_page.specs.FirstForm.{IsInFirstForm}
+use Rattle.ftl_stack_page.proofs.Documents.{document_is_tree, one_page}
 use Rattle.ftl_run.specs.Headline.{OfAnswer, OneTable, IsPageStatus}
 use Rattle.ftl_run.specs.Answer.{Answer, IsAnswer, bad_words, too_long, not_built, boxes_of, refused, run_words, laid_out, HasOneAnswer}
 

@@ -16,7 +16,7 @@ use Rattle.ftl_run.specs.Answer.{Answer, run_words}
 use Rattle.ftl_run.specs.Headline.{texts, IsPageStatus}
 use Rattle.ftl_run.specs.Deciding.{LaysOut}
 use Rattle.ftl_run.proofs.Agreeing.{boxes-same, shows_overflow-same}
-use Rattle.ftl_tree.proofs.Documents.{pointwise-true}
+use Rattle.ftl_stack_page.proofs.Documents.{pointwise-true}
 
 -- the boxes of a table that solves are those of the one list that does
 pub lays_out : (t : Forest) (s : Instance → Value) (a : Answer) → IsTreeOf stack t → Solves stack t s → a.status ≡ cond (shows_overflow stack_names t s) 8 0 → a.text ≡ boxes stack_names t s → LaysOut t a

@@ -3,14 +3,14 @@ use Rattle.std.proofs.Common.{◌≡◌, ℕ, ◌≤◌, ◌&&◌, Bool, true, f
 use Rattle.std.proofs.lemmas.Bool.{eq-eqb}
 use Rattle.std.proofs.lemmas.List.{take_at}
 use Rattle.ftl_model.specs.Tree.{Forest}
-use Rattle.ftl_tree.specs.declared.symbol.Symbol.{Symbol}
-use Rattle.ftl_tree.specs.Scanning.{Scanned, scanned, no_symbols, same_bytes}
-use Rattle.ftl_tree.specs.Reading.{State, state, sheet_rows}
-use Rattle.ftl_tree.specs.Document.{IsDocument}
-use Rattle.ftl_tree.specs.FirstForm.{IsInFirstForm, heading}
-use Rattle.ftl_tree.proofs.ScanningLemmas.{same_bytes-true}
-use Rattle.ftl_tree.proofs.SpelledRows.{no_rows}
-use Rattle.ftl_tree.proofs.Documents.{no_document, no_document_with_more, document_found, page_found, page_document}
+use Rattle.ftl_stack_page.specs.declared.symbol.Symbol.{Symbol}
+use Rattle.ftl_stack_page.specs.Scanning.{Scanned, scanned, no_symbols, same_bytes}
+use Rattle.ftl_stack_page.specs.Reading.{State, state, sheet_rows}
+use Rattle.ftl_stack_page.specs.Document.{IsDocument}
+use Rattle.ftl_stack_page.specs.FirstForm.{IsInFirstForm, heading}
+use Rattle.ftl_stack_page.proofs.ScanningLemmas.{same_bytes-true}
+use Rattle.ftl_stack_page.proofs.SpelledRows.{no_rows}
+use Rattle.ftl_stack_page.proofs.Documents.{no_document, no_document_with_more, document_found, page_found, page_document}
 
 -- some tree, or none
 abbrev pub Decided : (Forest → Type 0) → Type 0

@@ -6,7 +6,7 @@ use Rattle.ftl_model.specs.StackNames.{stack_names}
 use Rattle.ftl_model.specs.Table.{SolvesList, value_in}
 use Rattle.ftl_model.specs.Tree.{Forest}
 use Rattle.ftl_model.specs.Values.{Value}
-use Rattle.ftl_tree.specs.FirstForm.{IsInFirstForm}
+use Rattle.ftl_stack_page.specs.FirstForm.{IsInFirstForm}
 
 pub record Answer : Type 0 where
   pub status : ℕ

@@ -6,7 +6,7 @@ use Rattle.ftl_edge.specs.Sink.{AppendsFront}
 use Rattle.ftl_model.specs.Stack.{stack}
 use Rattle.ftl_model.specs.Tree.{Forest}
 use Rattle.ftl_order.specs.OneTable.{ExactlyOneList}
-use Rattle.ftl_tree.specs.FirstForm.{IsInFirstForm}
+use Rattle.ftl_stack_page.specs.FirstForm.{IsInFirstForm}
 use Rattle.ftl_run.specs.Answer.{Answer, IsAnswer, run_words, refused}
 
 abbrev pub texts : {A : Type 0} → List (String A) → List (List ℕ)

@@ -12,7 +12,7 @@ ghost use Rattle.ftl_run.specs.Deciding.{answer_of, LaysOut};
 use crate::status::Status;
 use ftl_edge::{ReadAllFault, Source, read_all};
 use ftl_stack::{print_boxes, shows_overflow, solve};
-use ftl_tree::{StackFault, Tree, read_stack_page};
+use ftl_stack_page::{StackFault, Tree, read_stack_page};
 use std::alloc::{AllocError, Global};
 
 /// The most bytes of a page.

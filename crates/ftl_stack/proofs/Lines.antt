@@ -13,7 +13,7 @@ use Rattle.ftl_model.specs.Tree.{Forest, size}
 use Rattle.ftl_model.specs.TreeOf.{IsTreeOf}
 use Rattle.ftl_model.specs.Values.{overflow}
 use Rattle.ftl_model.proofs.Numbering.{length-preorder, number_of-node_at}
-use Rattle.ftl_tree.proofs.Access.{size-one}
+use Rattle.ftl_stack_page.proofs.Access.{size-one}
 use Rattle.ftl_stack.specs.declared.area.Area.{Area}
 use Rattle.ftl_stack.specs.TableOf.{area_at, table_of}
 use Rattle.ftl_stack.specs.Text.{shown_value, value_field, area_fields, area_line, area_overflows}

@@ -9,7 +9,7 @@ use Rattle.ftl_model.specs.Values.{Value, narrow, sum_of, value_of, wide}
 use Rattle.ftl_stack.specs.declared.area.Area.{Area}
 use Rattle.ftl_stack.specs.TableOf.{area_at, table_of}
 use Rattle.ftl_stack.specs.Solving.{kid_x_by, kid_y_by, IsPlaced, KidsPlaced, SameSizes, OnlyKids}
-use Rattle.ftl_tree.proofs.Walk.{Node, node-of, one_node, Passed, Kid, passed_none, kid_counted, kid_is_counted, kid_before, parent_smaller}
+use Rattle.ftl_stack_page.proofs.Walk.{Node, node-of, one_node, Passed, Kid, passed_none, kid_counted, kid_is_counted, kid_before, parent_smaller}
 use Rattle.ftl_stack.proofs.Sizing.{no_area, area_at-number, area_at-set_same, area_at-set_other}
 
 kid_x_by-same : (t : Forest) (old new : List Area) (p : Path) (k : ℕ) → area_at t new p ≡ area_at t old p

@@ -16,7 +16,7 @@ use Rattle.ftl_model.proofs.Fits.{fits_at}
 use Rattle.ftl_stack.specs.declared.area.Area.{Area}
 use Rattle.ftl_stack.specs.TableOf.{area_at, table_of}
 use Rattle.ftl_stack.specs.Solving.{width_by, height_by, IsSized, SameSizes}
-use Rattle.ftl_tree.proofs.Walk.{Node, node-of, Passed, passed_none, kid_here, all_passed, body}
+use Rattle.ftl_stack_page.proofs.Walk.{Node, node-of, Passed, passed_none, kid_here, all_passed, body}
 
 -- the area of a node that is not there
 abbrev pub no_area : Area

@@ -13,7 +13,7 @@ use Rattle.ftl_model.proofs.Standing.{has_parent}
 use Rattle.ftl_stack.specs.declared.area.Area.{Area}
 use Rattle.ftl_stack.specs.TableOf.{table_of}
 use Rattle.ftl_stack.specs.Solving.{IsSized, AllSized, AllPlaced}
-use Rattle.ftl_tree.proofs.Walk.{first_child}
+use Rattle.ftl_stack_page.proofs.Walk.{first_child}
 
 -- the attribute is one that a node of the class has
 data HasAttribute (class a : ℕ) : Type 0 where

@@ -10,7 +10,7 @@ ghost use Rattle.ftl_stack.specs.Text.{area_overflows};
 
 use crate::area::Area;
 use ftl_base::Val;
-use ftl_tree::Tree;
+use ftl_stack_page::Tree;
 use itoa::Buffer;
 use std::alloc::{AllocError, Global};
 

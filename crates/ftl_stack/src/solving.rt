@@ -9,7 +9,7 @@ ghost use Rattle.ftl_stack.specs.Solving.{AllPlaced, SameSizes, OnlyKids};
 
 use crate::area::Area;
 use ftl_base::{Val, Width, add, greatest};
-use ftl_tree::Tree;
+use ftl_stack_page::Tree;
 use std::alloc::{AllocError, Global};
 
 const SHEET: u32 = 0;

@@ -2,7 +2,7 @@
 use Rattle.std.proofs.Common.{◌+◌, ◌<◌, arith}
 use Rattle.std.proofs.lemmas.List.{get_or_read}
 use Rattle.ftl_model.specs.Path.{node_at, size_at}
-use Rattle.ftl_tree.proofs.Walk.{node, kid_here}
+use Rattle.ftl_stack_page.proofs.Walk.{node, kid_here}
 use Rattle.ftl_stack.proofs.Sizing.{no_area, folded_none, folded_more, folded_all}
 use Rattle.ftl_stack.proofs.solving.column_extent.Goals as goal
 

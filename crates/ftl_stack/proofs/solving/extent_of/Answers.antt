@@ -5,7 +5,7 @@ use Rattle.std.proofs.lemmas.List.{get_or_default}
 use Rattle.ftl_model.specs.Path.{class_at, node_at}
 use Rattle.ftl_model.specs.Stack.{word, word_ih, word_iw}
 use Rattle.ftl_model.specs.Values.{value_of}
-use Rattle.ftl_tree.proofs.Walk.{node, body, class_known}
+use Rattle.ftl_stack_page.proofs.Walk.{node, body, class_known}
 use Rattle.ftl_stack.proofs.Sizing.{no_area, sheet_height, given_value, word_width, word_height}
 use Rattle.ftl_stack.proofs.solving.extent_of.Goals as goal
 

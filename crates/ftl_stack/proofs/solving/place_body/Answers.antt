@@ -2,7 +2,7 @@
 use Rattle.std.proofs.Common.{◌+◌, sym, arith}
 use Rattle.std.proofs.lemmas.List.{get_or_read}
 use Rattle.ftl_model.specs.Path.{node_at, size_at}
-use Rattle.ftl_tree.proofs.Walk.{node, body, sheet_kids}
+use Rattle.ftl_stack_page.proofs.Walk.{node, body, sheet_kids}
 use Rattle.ftl_stack.proofs.Sizing.{no_area}
 use Rattle.ftl_stack.proofs.Placing.{body_placed, placing_all}
 use Rattle.ftl_stack.proofs.solving.place_body.Goals as goal

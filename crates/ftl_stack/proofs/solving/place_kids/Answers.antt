@@ -2,7 +2,7 @@
 use Rattle.std.proofs.Common.{◌≡◌, arith}
 use Rattle.ftl_model.specs.Path.{class_at, node_at}
 use Rattle.ftl_model.specs.Stack.{word}
-use Rattle.ftl_tree.proofs.Walk.{node, class_known, word_kids}
+use Rattle.ftl_stack_page.proofs.Walk.{node, class_known, word_kids}
 use Rattle.ftl_stack.proofs.solving.place_kids.Goals as goal
 
 pub returns-in_default-clause-placed : goal.returns-in_default-clause-placed

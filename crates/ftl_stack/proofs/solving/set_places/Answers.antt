@@ -1,6 +1,6 @@
 -- The kids of each node in turn get their places, and the other nodes keep theirs.
 use Rattle.std.proofs.Common.{◌∙◌, arith}
-use Rattle.ftl_tree.proofs.Walk.{node, end_within}
+use Rattle.ftl_stack_page.proofs.Walk.{node, end_within}
 use Rattle.ftl_stack.proofs.Placing.{placed_more}
 use Rattle.ftl_stack.proofs.solving.set_places.Goals as goal
 

@@ -1,7 +1,7 @@
 -- Each node takes its size from its kids, which have larger numbers.
 use Rattle.std.proofs.Common.{◌≡◌, ℕ, ◌+◌, ◌-◌, sym, subst, arith}
 use Rattle.ftl_stack.specs.declared.area.Area.{Area}
-use Rattle.ftl_tree.proofs.Walk.{end_within}
+use Rattle.ftl_stack_page.proofs.Walk.{end_within}
 use Rattle.ftl_stack.proofs.Sizing.{SizedFrom, sized_more}
 use Rattle.ftl_stack.proofs.solving.set_sizes.Goals as goal
 

@@ -3,7 +3,7 @@ use Rattle.std.proofs.Common.{◌≡◌, ◌+◌, ◌<◌, length, ap, ◌∙◌
 use Rattle.std.proofs.lemmas.List.{get_or_read}
 use Rattle.ftl_model.specs.Path.{node_at, size_at}
 use Rattle.ftl_stack.specs.declared.area.Area.{Area}
-use Rattle.ftl_tree.proofs.Walk.{node, kid_here, all_passed}
+use Rattle.ftl_stack_page.proofs.Walk.{node, kid_here, all_passed}
 use Rattle.ftl_stack.proofs.Sizing.{no_area}
 use Rattle.ftl_stack.proofs.Placing.{stacked_none, stacked_more, placing_all}
 use Rattle.ftl_stack.proofs.solving.stack_kids.Goals as goal
