@@ -22,3 +22,7 @@ mutual
 pub record WrittenNode : Type 0 where
   pub class : NameText
   pub fields : WrittenFields
+
+-- a node of this class with these fields
+abbrev pub written_node : (class : NameText) → WrittenFields → WrittenNode
+written_node class fields = record { class = class; fields = fields }
