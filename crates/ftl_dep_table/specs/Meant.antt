@@ -1,10 +1,12 @@
 -- What the rules of a checked grammar read, by number.
-use Rattle.std.specs.Prelude.{ℕ, List, map, flat_map}
+use Rattle.std.specs.Prelude.{ℕ, ◌<◌, List, length, map, flat_map, IfSome}
 use Rattle.std.specs.Option.{option_map, option_to_list}
 use Rattle.ftl_base.specs.Widths.{greatest_of_width}
 use Rattle.ftl_model.specs.AttributeGrammar.{AttributeGrammar}
+use Rattle.ftl_syntax.specs.declared.rules.Grammar.{Grammar}
 use Rattle.ftl_syntax.specs.declared.rules.Rule.{Rule}
 use Rattle.ftl_checked.specs.Checked.{CheckedGrammar}
+use Rattle.ftl_checked.specs.Numbering.{class_at}
 use Rattle.ftl_checked.specs.ReadNumbers.{leaf_in, rule_parts}
 use Rattle.ftl_checked.specs.declared.numbered_read.NumberedRead.{NumberedRead}
 use Rattle.ftl_checked.specs.declared.numbered_read.PartReads.{PartReads}
@@ -29,3 +31,7 @@ part_deps m part = deps_in m part.reads
 abbrev pub written_deps : CheckedGrammar → (class : ℕ) → Rule → List DepRead
 written_deps c k r =
     map (dep_read (meant c)) (flat_map (λ part. expression_reads c.grammar k part.0 part.1) (rule_parts c.grammar k r))
+
+-- the child that is read, where there is one, is a child of this class
+abbrev pub HasKnownChild : Grammar → (class : ℕ) → DepRead → Type 0
+HasKnownChild g k d = IfSome d.child (λ c. c < length (class_at g k).children)

@@ -121,7 +121,7 @@ module _ (w : ℕ) (g : Grammar) where
       ap class_of_rule (sym s.2) ∙ class_of_name k s.0
 
   -- each rule of the list is a rule
-  rule_is : (name : RuleName) → Contains meant.rules name → IsRule meant name
+  pub rule_is : (name : RuleName) → Contains meant.rules name → IsRule meant name
   rule_is name h =
       let i = in_flat_map (λ (k : ℕ × Class). rules_of_class g k.0) (numbered 0 g.classes) name h in
       let stands = in_numbered 0 g.classes i.0 i.1 in
