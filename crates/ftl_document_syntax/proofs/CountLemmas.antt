@@ -1,12 +1,11 @@
 -- How many tokens and how many marks `{` a text has.
-use Rattle.std.proofs.Common.{◌≡◌, ℕ, suc, ◌+◌, ◌-◌, ◌<◌, ◌≤◌, Bool, true, false, List, [], ◌∷◌, length, map, slice_get}
-use Rattle.std.proofs.Common.{count_by, cond, ◌||◌, refl, sym, ap, ◌∙◌, subst, arith}
+use Rattle.std.proofs.Common.{◌≡◌, ℕ, suc, ◌+◌, ◌-◌, ◌≤◌, Bool, true, false, List, [], ◌∷◌, length, map, slice_get}
+use Rattle.std.proofs.Common.{count_by, cond, ◌||◌, refl, sym, ap, ◌∙◌, arith}
 use Rattle.ftl_tokens.specs.declared.kind.Token.{Token}
-use Rattle.ftl_tokens.specs.Tokenized.{Tokenized, symbol_of, symbols_of, AreTokensOf}
+use Rattle.ftl_tokens.specs.Tokenized.{Tokenized, symbol_of, AreTokensOf}
 use Rattle.ftl_reading.specs.Place.{place_of, byte_at}
-use Rattle.ftl_tokens.specs.declared.kind.Kind.{Kind}
 use Rattle.ftl_tokens.specs.declared.kind.Kind.TheVariants as kind
-use Rattle.ftl_tokens.specs.Tokenized.{symbol, token_text, kind_of_symbol}
+use Rattle.ftl_tokens.specs.Tokenized.{token_text, kind_of_symbol}
 use Rattle.ftl_reading.specs.Reader.{same_kind}
 use Rattle.ftl_reading.specs.Depth.{is_among, count_of}
 use Rattle.ftl_reading.proofs.InputLemmas.{kind-symbol}

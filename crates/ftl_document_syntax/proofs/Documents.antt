@@ -1,10 +1,10 @@
 -- What the reader of documents answers, in the words of the syntax.
-use Rattle.std.proofs.Common.{◌≡◌, ℕ, suc, ◌+◌, ◌-◌, ◌<◌, ◌≤◌, List, [], ◌∷◌, ◌++◌, length, Ok, Err, refl, sym, ap, ◌∙◌, subst}
+use Rattle.std.proofs.Common.{◌≡◌, ℕ, ◌+◌, ◌-◌, ◌≤◌, ◌++◌, length, Ok, Err, refl, sym, ap, ◌∙◌, subst}
 use Rattle.std.proofs.Common.{append-nil, arith}
 use Rattle.std.specs.List.{All}
 use Rattle.std.proofs.lemmas.List.{length-map}
 use Rattle.ftl_tokens.specs.Tokenized.{Tokenized, WideTokenized, symbol_of, symbols_of}
-use Rattle.ftl_reading.specs.Reader.{Tokens, ReadResult, Reader, and_then, pure, AreAtMost}
+use Rattle.ftl_reading.specs.Reader.{Tokens, ReadResult, and_then, pure, AreAtMost}
 use Rattle.ftl_reading.specs.Place.{place_of}
 use Rattle.ftl_reading.proofs.Told.{Taken, Tells, Grown}
 use Rattle.ftl_reading.proofs.Alike.{left}
@@ -13,10 +13,10 @@ use Rattle.ftl_reading.proofs.WholeLists.{ReadsAll, bind_reads_all, end_reads_al
 use Rattle.ftl_document_syntax.specs.Written.{WrittenNode}
 use Rattle.ftl_document_syntax.specs.Spelling.{SpellsNode}
 use Rattle.ftl_document_syntax.specs.Rows.{DocumentRows, document_rows, rows_of_fields}
-use Rattle.ftl_document_syntax.specs.Braces.{deepest, most_nodes}
+use Rattle.ftl_document_syntax.specs.Braces.{most_nodes}
 use Rattle.ftl_document_syntax.specs.Read.{IsNotTooDeep, opened_in, IsDocument, IsNoDocument}
 use Rattle.ftl_document_syntax.specs.Sizes.{RowIsWithin}
-use Rattle.ftl_document_syntax.specs.Reading.{node, fields_to, document_to, document}
+use Rattle.ftl_document_syntax.proofs.Reading.{node, fields_to, document_to, document}
 use Rattle.ftl_document_syntax.specs.RowReading as by_rows
 use Rattle.ftl_document_syntax.proofs.Heights.{height, shallow_height}
 use Rattle.ftl_document_syntax.proofs.Told.{document_told}

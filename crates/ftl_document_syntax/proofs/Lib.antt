@@ -1,3 +1,4 @@
+pub mod Reading
 pub mod RowTurns
 pub mod CountLemmas
 pub mod Parts
@@ -9,3 +10,4 @@ pub mod RowLemmas
 pub mod SizeLemmas
 pub mod NumberLemmas
 pub mod Documents
+pub mod AnswerLemmas

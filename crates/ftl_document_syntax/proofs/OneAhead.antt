@@ -1,5 +1,5 @@
 -- The readers of documents look one token ahead: `x_alike` says it of the reader `x`.
-use Rattle.std.proofs.Common.{ℕ, zero, suc, ◌≤◌, ◌<◌, length, [], ◌∷◌, Option, Some, None, refl, pos, neg_ℤ, arith}
+use Rattle.std.proofs.Common.{ℕ, zero, suc, ◌≤◌, ◌<◌, length, Option, Some, refl, arith}
 use Rattle.ftl_tokens.specs.declared.kind.Kind.{Kind}
 use Rattle.ftl_tokens.specs.declared.kind.Kind.TheVariants as kind
 use Rattle.ftl_reading.specs.Reader.{Tokens, Reader, next_kind}
@@ -10,9 +10,9 @@ use Rattle.ftl_reading.proofs.TokenAlike.{past_alike, name_alike, number_alike, 
 use Rattle.ftl_reading.proofs.ChainAlike.{TakesSome, takes_some, chain_alike}
 use Rattle.ftl_document_syntax.specs.Written.{NameText, WrittenFields, no_fields, no_nodes, written_node}
 use Rattle.ftl_document_syntax.specs.Spelling.{SpellsFields}
-use Rattle.ftl_document_syntax.specs.Reading as reading
-use Rattle.ftl_document_syntax.specs.Reading.{append_fields, add_node, one_number, one_single, one_list, more_by, braced}
-use Rattle.ftl_document_syntax.specs.Reading.{node, list, value_by, value, field, fields_level, fields_to, document_to}
+use Rattle.ftl_document_syntax.proofs.Reading as reading
+use Rattle.ftl_document_syntax.proofs.Reading.{append_fields, add_node, one_number, one_single, one_list, more_by, braced}
+use Rattle.ftl_document_syntax.proofs.Reading.{node, list, value_by, value, field, fields_level, fields_to, document_to}
 use Rattle.ftl_document_syntax.proofs.Heights.{height, past_plain, past_open, past_close, past_name, past_number}
 use Rattle.ftl_document_syntax.proofs.Told.{more_told, node_told, field_told, fields_told}
 use Rattle.ftl_document_syntax.proofs.Went.{some_node, some_field}

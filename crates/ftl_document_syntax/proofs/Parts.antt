@@ -1,5 +1,5 @@
 -- The parts of documents that have a reader and no line of the syntax, and chains of them.
-use Rattle.std.proofs.Common.{◌≡◌, ℕ, ℤ, [], ◌∷◌, ◌++◌, refl, sym, ap, ◌∙◌, subst, append_assoc}
+use Rattle.std.proofs.Common.{◌≡◌, ℤ, [], ◌∷◌, ◌++◌, refl, sym, ap, ◌∙◌, subst, append_assoc}
 use Rattle.ftl_tokens.specs.declared.kind.Kind.TheVariants as kind
 use Rattle.ftl_tokens.specs.Tokenized.{name, fixed}
 use Rattle.ftl_reading.specs.Reader.{Tokens}
@@ -9,7 +9,7 @@ use Rattle.ftl_document_syntax.specs.Written.{number_field, node_field, list_fie
 use Rattle.ftl_document_syntax.specs.Spelling.{SpellsNumber, SpellsFields, SpellsNodes, SpellsNode, no_more, number_and}
 use Rattle.ftl_document_syntax.specs.Spelling.{single_and, list_and, node_more, node_of}
 use Rattle.ftl_document_syntax.specs.Spelling as spelling
-use Rattle.ftl_document_syntax.specs.Reading.{append_fields, append_nodes, add_node, one_number, one_single, one_list}
+use Rattle.ftl_document_syntax.proofs.Reading.{append_fields, append_nodes, add_node, one_number, one_single, one_list}
 
 -- fields in braces
 pub data SpellsBraced : Tokens → WrittenFields → Type 0 where

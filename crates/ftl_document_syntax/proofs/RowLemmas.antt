@@ -1,6 +1,6 @@
 -- The rows that are read are those of what is read, with `below` no more than 32 bits hold.
-use Rattle.std.proofs.Common.{◌≡◌, ℕ, zero, suc, ◌+◌, ◌-◌, ◌≤◌, min, ℤ, pos, neg_ℤ, List, [], ◌∷◌, ◌++◌, length, set, Option}
-use Rattle.std.proofs.Common.{Some, None, Ok, Err, refl, sym, ap, ◌∙◌, subst, append_assoc, append-nil, length-append, arith}
+use Rattle.std.proofs.Common.{◌≡◌, ℕ, zero, suc, min, pos, neg_ℤ, [], ◌∷◌, ◌++◌, length, set, Option}
+use Rattle.std.proofs.Common.{Some, Ok, Err, refl, sym, ap, ◌∙◌, append_assoc, append-nil, length-append, arith}
 use Rattle.std.proofs.lemmas.List.{set_at}
 use Rattle.ftl_tokens.specs.declared.kind.Kind.{Kind}
 use Rattle.ftl_tokens.specs.declared.kind.Kind.TheVariants as kind
@@ -11,9 +11,9 @@ use Rattle.ftl_document_syntax.specs.declared.row.WrittenRow.TheVariants as rows
 use Rattle.ftl_document_syntax.specs.Written.{NameText, WrittenFields, WrittenNode, WrittenNodes, no_fields, number_field}
 use Rattle.ftl_document_syntax.specs.Written.{node_field, list_field, no_nodes, node_and, written_node}
 use Rattle.ftl_document_syntax.specs.Rows.{DocumentRows, document_rows}
-use Rattle.ftl_document_syntax.specs.Reading as reading
-use Rattle.ftl_document_syntax.specs.Reading.{append_fields, append_nodes, add_node, one_number, one_single, one_list}
-use Rattle.ftl_document_syntax.specs.Reading.{more_by}
+use Rattle.ftl_document_syntax.proofs.Reading as reading
+use Rattle.ftl_document_syntax.proofs.Reading.{append_fields, append_nodes, add_node, one_number, one_single, one_list}
+use Rattle.ftl_document_syntax.proofs.Reading.{more_by}
 use Rattle.ftl_document_syntax.specs.RowReading as by_rows
 use Rattle.ftl_document_syntax.specs.RowReading.{Found, RowReader, below, round_by, rounds, rounds_of}
 

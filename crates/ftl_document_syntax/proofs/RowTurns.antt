@@ -1,6 +1,6 @@
 -- Rounds beside loops that count their turns: what is read in all, after each turn.
 use Rattle.std.proofs.Common.{◌≡◌, ℕ, suc, ◌+◌, ◌-◌, ◌<◌, ◌≤◌, Ok, length, ap, ◌∙◌, arith}
-use Rattle.ftl_reading.specs.Reader.{Tokens, ReadResult, next_kind}
+use Rattle.ftl_reading.specs.Reader.{Tokens, next_kind}
 use Rattle.ftl_document_syntax.specs.RowReading.{Found, RowReader, round_by, rounds, rounds_of}
 
 -- what the rounds that are left give is what all of them give, and no row is lost

@@ -1,28 +1,20 @@
 -- How the sizes of a document are bounded by the tokens that spell it.
-use Rattle.std.proofs.Common.{◌≡◌, ℕ, zero, suc, ◌+◌, ◌-◌, ◌<◌, ◌≤◌, min, max, ℤ, pos, neg_ℤ, ◌≤ℤ◌, Bool, true, false, cond, List, []}
-use Rattle.std.proofs.Common.{◌∷◌, ◌++◌, length, refl, sym, ap, ◌∙◌, subst, append_assoc, length-append, arith}
-use Rattle.std.specs.List.{All}
-use Rattle.std.proofs.Math.Nat.{min-eq_left}
-use Rattle.std.proofs.lemmas.List.Elements.{All-append}
+use Rattle.std.proofs.Common.{◌≡◌, ℕ, suc, ◌+◌, ◌≤◌, max, ℤ, Bool, true, false, cond, []}
+use Rattle.std.proofs.Common.{◌∷◌, ◌++◌, refl, sym, ap, ◌∙◌, append_assoc, arith}
 use Rattle.std.proofs.lemmas.List.Sums.{sum_by-cons, sum_by-append}
 use Rattle.ftl_tokens.specs.declared.kind.Kind.{Kind}
 use Rattle.ftl_tokens.specs.declared.kind.Kind.TheVariants as kind
 use Rattle.ftl_tokens.specs.Tokenized.{Symbol, name, number, fixed}
-use Rattle.ftl_reading.specs.Reader.{Tokens, same_kind, AreAtMost}
+use Rattle.ftl_reading.specs.Reader.{Tokens, same_kind}
 use Rattle.ftl_reading.specs.Depth.{is_among, count_of}
-use Rattle.ftl_document_syntax.specs.declared.row.WrittenRow.{WrittenRow}
-use Rattle.ftl_document_syntax.specs.declared.row.WrittenRow.TheVariants as rows
 use Rattle.ftl_document_syntax.specs.Braces.{braces}
-use Rattle.ftl_document_syntax.specs.Written.{NameText, WrittenFields, WrittenNode, WrittenNodes, no_fields, number_field}
-use Rattle.ftl_document_syntax.specs.Written.{node_field, list_field, no_nodes, node_and}
+use Rattle.ftl_document_syntax.specs.Written.{NameText, WrittenFields, WrittenNode, WrittenNodes}
 use Rattle.ftl_document_syntax.specs.Spelling.{SpellsNumber, SpellsFields, SpellsNodes, SpellsNode, plain, negative}
 use Rattle.ftl_document_syntax.specs.Spelling.{no_more, number_and, single_and, list_and, none, node_more, node_of}
-use Rattle.ftl_document_syntax.specs.Rows.{rows_of_fields, rows_of_nodes}
 use Rattle.ftl_document_syntax.specs.Sizes.{nodes_in_fields, nodes_in_list, node_count, levels_of_fields, levels_of_list}
 use Rattle.ftl_document_syntax.specs.Sizes.{levels_of}
-use Rattle.ftl_document_syntax.proofs.Heights.{height, is_plain, height_plain, height_open, height_close, height_name}
+use Rattle.ftl_document_syntax.proofs.Heights.{height, height_plain, height_open, height_close, height_name}
 use Rattle.ftl_document_syntax.proofs.Heights.{height_number}
-use Rattle.ftl_document_syntax.proofs.RowLemmas.{cut, cut_fields, cut_nodes}
 
 -- ---- how many nodes
 

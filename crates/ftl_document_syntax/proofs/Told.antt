@@ -1,6 +1,6 @@
 -- What the readers of documents tell: `x_told` of the reader `x`.
-use Rattle.std.proofs.Common.{◌≡◌, ℕ, zero, suc, pos, neg_ℤ, [], ◌∷◌, ◌++◌, Option, Some, None, refl, sym, subst}
-use Rattle.std.proofs.Common.{ap, ◌∙◌, append_assoc, append-nil}
+use Rattle.std.proofs.Common.{ℕ, zero, suc, pos, neg_ℤ, [], ◌∷◌, ◌++◌, Option, Some, refl, sym, subst}
+use Rattle.std.proofs.Common.{append-nil}
 use Rattle.ftl_tokens.specs.declared.kind.Kind.{Kind}
 use Rattle.ftl_tokens.specs.declared.kind.Kind.TheVariants as kind
 use Rattle.ftl_tokens.specs.Tokenized.{name, number, fixed}
@@ -8,16 +8,15 @@ use Rattle.ftl_reading.specs.Reader.{Tokens, Reader}
 use Rattle.ftl_reading.proofs.Told.{Told, ToldAt, After, example, bind_told, map_told, pure_told, refuse_told}
 use Rattle.ftl_reading.proofs.Told.{wider_told, look_told, at_any}
 use Rattle.ftl_reading.proofs.TokenTold.{past_told, name_told, number_told, end_told, at_end_told, skip_told}
-use Rattle.ftl_reading.proofs.ChainTold.{OrNone, Chain, none, more, chain_told}
-use Rattle.ftl_document_syntax.specs.Written.{NameText, WrittenFields, WrittenNode, WrittenNodes, no_fields, no_nodes}
-use Rattle.ftl_document_syntax.specs.Written.{written_node, node_and}
-use Rattle.ftl_document_syntax.specs.Spelling.{SpellsNumber, SpellsFields, SpellsNodes, SpellsNode, plain, negative}
-use Rattle.ftl_document_syntax.specs.Spelling.{no_more, number_and, single_and, list_and, node_more, node_of}
-use Rattle.ftl_document_syntax.specs.Spelling as spelling
-use Rattle.ftl_document_syntax.specs.Reading as reading
-use Rattle.ftl_document_syntax.specs.Reading.{append_fields, append_nodes, add_node, one_number, one_single, one_list}
-use Rattle.ftl_document_syntax.specs.Reading.{more_by, braced, node, list, value_by, value, field, fields_level}
-use Rattle.ftl_document_syntax.specs.Reading.{fields_to, document_to}
+use Rattle.ftl_reading.proofs.ChainTold.{OrNone, chain_told}
+use Rattle.ftl_document_syntax.specs.Written.{NameText, WrittenFields, WrittenNode, no_fields, no_nodes}
+use Rattle.ftl_document_syntax.specs.Written.{written_node}
+use Rattle.ftl_document_syntax.specs.Spelling.{SpellsFields, SpellsNode, plain, negative}
+use Rattle.ftl_document_syntax.specs.Spelling.{no_more, node_of}
+use Rattle.ftl_document_syntax.proofs.Reading as reading
+use Rattle.ftl_document_syntax.proofs.Reading.{append_fields, append_nodes, add_node, one_number, one_single, one_list}
+use Rattle.ftl_document_syntax.proofs.Reading.{more_by, braced, node, list, value_by, value, field, fields_level}
+use Rattle.ftl_document_syntax.proofs.Reading.{fields_to, document_to}
 use Rattle.ftl_document_syntax.proofs.Parts.{SpellsBraced, braced_of, SpellsOne, number_alone, single_alone, list_alone}
 use Rattle.ftl_document_syntax.proofs.Parts.{fields_spelled, nodes_spelled}
 

@@ -1,10 +1,10 @@
 -- What spells a document is read whole: `x_went` by the reader `x`.
 use Rattle.std.proofs.Common.{◌≡◌, ℕ, zero, suc, pos, neg_ℤ, ◌<◌, [], ◌∷◌, ◌++◌, length, Option, Some, None, refl, sym}
-use Rattle.std.proofs.Common.{ap, ◌∙◌, subst, append_assoc, append-nil, arith}
+use Rattle.std.proofs.Common.{ap, subst, append_assoc, append-nil, arith}
 use Rattle.ftl_tokens.specs.declared.kind.Kind.{Kind}
 use Rattle.ftl_tokens.specs.declared.kind.Kind.TheVariants as kind
 use Rattle.ftl_tokens.specs.Tokenized.{name, number, fixed}
-use Rattle.ftl_reading.specs.Reader.{Tokens, Reader, ◌>>=◌, ◌>>◌, pure, next_kind, expect, at_end, chain_of}
+use Rattle.ftl_reading.specs.Reader.{Tokens, Reader, ◌>>=◌, ◌>>◌, pure, next_kind, expect, at_end}
 use Rattle.ftl_reading.proofs.Went.{got, Went, Complete, went_bind, went_map, went_pure, went_past, went_skip, went_name}
 use Rattle.ftl_reading.proofs.Went.{went_number, went_by, went_at, went_grouped}
 use Rattle.ftl_reading.proofs.ChainWent.{CompleteItem, chain_went}
@@ -12,9 +12,9 @@ use Rattle.ftl_document_syntax.specs.Written.{NameText, WrittenFields, WrittenNo
 use Rattle.ftl_document_syntax.specs.Written.{written_node}
 use Rattle.ftl_document_syntax.specs.Spelling.{SpellsNumber, SpellsFields, SpellsNodes, SpellsNode, plain, negative}
 use Rattle.ftl_document_syntax.specs.Spelling.{node_of}
-use Rattle.ftl_document_syntax.specs.Reading as reading
-use Rattle.ftl_document_syntax.specs.Reading.{append_fields, add_node, one_number, one_single, one_list, more_by, braced}
-use Rattle.ftl_document_syntax.specs.Reading.{node, list, value_by, value, field, fields_level, fields_to, document_to}
+use Rattle.ftl_document_syntax.proofs.Reading as reading
+use Rattle.ftl_document_syntax.proofs.Reading.{append_fields, add_node, one_number, one_single, one_list, more_by, braced}
+use Rattle.ftl_document_syntax.proofs.Reading.{node, list, value_by, value, field, fields_level, fields_to, document_to}
 use Rattle.ftl_document_syntax.proofs.Parts.{SpellsBraced, braced_of, SpellsOne, number_alone, single_alone, list_alone}
 use Rattle.ftl_document_syntax.proofs.Parts.{fields_chain, nodes_chain}
 use Rattle.ftl_document_syntax.proofs.Heights.{height, past_plain, past_open, past_close, past_name, past_number}

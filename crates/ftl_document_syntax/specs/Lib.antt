@@ -4,8 +4,8 @@ pub mod Rows
 pub mod Braces
 pub mod Sizes
 pub mod Read
-pub mod Reading
 pub mod RowReading
 pub mod Nests
+pub mod Worked
 pub use Rattle.ftl_reading.specs.Depth
 pub use Rattle.ftl_reading.specs.Place

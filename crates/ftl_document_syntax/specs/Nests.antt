@@ -17,7 +17,8 @@ Calls F =
 
 -- it can always be called at the depth that is left, and adds the rows of the fields
 pub record IsNested {F : Type 0} (calls : Calls F) (n : Nested F) : Type 0 where
-  pub callable : (rows : MutBor (Vec WrittenRow Global)) (old : MutBor Tokens) → calls.pre n.fields (rows, (old, (n.depth, tt)))
+  pub callable : (rows : MutBor (Vec WrittenRow Global)) (old : MutBor Tokens)
+      → calls.pre n.fields (rows, (old, (n.depth, tt)))
   pub reads : (rows more : MutBor (Vec WrittenRow Global)) (old new : MutBor Tokens) (r : Result (Unit {0}) ReadFault)
       → calls.post n.fields (rows, (old, (n.depth, tt))) (r, (more, (new, tt)))
       → Pushes (fields_to n.depth rows.now.items old.now) r more.now.items new.now

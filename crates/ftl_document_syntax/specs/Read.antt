@@ -1,4 +1,5 @@
--- What the reader of documents answers: the document that the tokens spell, or the first fault, with its place or count.
+-- What the reader of documents answers: the document that the tokens spell, or the first fault, with its place or
+-- count.
 use Rattle.std.specs.Prelude.{◌≡◌, ℕ, ◌<◌, ◌≤◌, Result, Ok, Err}
 use Rattle.std.specs.List.{All}
 use Rattle.ftl_tokens.specs.Tokenized.{Tokenized, WideTokenized, symbols_of}
@@ -12,6 +13,14 @@ use Rattle.ftl_document_syntax.specs.Spelling.{SpellsNode}
 use Rattle.ftl_document_syntax.specs.Rows.{DocumentRows, document_rows, rows_of_fields}
 use Rattle.ftl_document_syntax.specs.Braces.{braces, deepest, most_nodes}
 use Rattle.ftl_document_syntax.specs.Sizes.{node_count, levels_of, FieldsAreWithin, RowIsWithin}
+
+-- why a text is no document
+abbrev pub Fault : Type 0
+Fault = WrittenDocumentFault
+
+-- no memory was left
+abbrev pub out_of_memory : Fault
+out_of_memory = OutOfMemory
 
 -- at no token too many braces are open
 abbrev pub IsNotTooDeep : Tokenized → Type 0

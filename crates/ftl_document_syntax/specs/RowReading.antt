@@ -1,10 +1,10 @@
 -- How the rows of a document are read: each reader here takes the rows that were found before, and gives them with
 -- those of what it reads behind. What stands in the braces of a node is read by the parameter `fields`.
-use Rattle.std.specs.Prelude.{◌≡◌, ◌≢◌, ℕ, zero, suc, ◌+◌, ◌-◌, min, ℤ, pos, neg_ℤ, List, [], ◌∷◌, length, set, Option}
-use Rattle.std.specs.Prelude.{Some, None, Result, Ok, Err}
+use Rattle.std.specs.Prelude.{◌≡◌, ◌≢◌, ℕ, zero, suc, ◌+◌, ◌-◌, min, pos, neg_ℤ, List, [], length, set, Option}
+use Rattle.std.specs.Prelude.{Some, Result, Ok, Err}
 use Rattle.ftl_tokens.specs.declared.kind.Kind.{Kind}
 use Rattle.ftl_tokens.specs.declared.kind.Kind.TheVariants as kind
-use Rattle.ftl_reading.specs.Reader.{Tokens, ReadResult, Reader, Reads, ◌>>=◌, ◌>>◌, ◌<$>◌, pure, refuse, next_kind, skip}
+use Rattle.ftl_reading.specs.Reader.{Tokens, ReadResult, Reader, ◌>>=◌, ◌>>◌, ◌<$>◌, pure, refuse, next_kind, skip}
 use Rattle.ftl_reading.specs.Reader.{expect, take_name, take_number, at_end, push}
 use Rattle.ftl_reading.specs.declared.fault.ReadFault.{ReadFault}
 use Rattle.ftl_reading.specs.declared.fault.ReadFault.TheVariants.{OutOfMemory}

@@ -2,8 +2,8 @@
 use Rattle.std.specs.Prelude.{List, [], ◌∷◌, ◌++◌, length}
 use Rattle.ftl_document_syntax.specs.declared.row.WrittenRow.{WrittenRow}
 use Rattle.ftl_document_syntax.specs.declared.row.WrittenRow.TheVariants as rows
-use Rattle.ftl_document_syntax.specs.Written.{NameText, WrittenFields, WrittenNodes, no_fields, number_field, node_field, list_field}
-use Rattle.ftl_document_syntax.specs.Written.{no_nodes, node_and}
+use Rattle.ftl_document_syntax.specs.Written.{NameText, WrittenFields, WrittenNodes, no_fields, number_field}
+use Rattle.ftl_document_syntax.specs.Written.{node_field, list_field, no_nodes, node_and}
 
 abbrev mutual
   -- the rows of some fields

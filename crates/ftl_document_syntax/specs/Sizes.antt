@@ -52,7 +52,8 @@ abbrev mutual
   -- all numbers in these nodes are
   pub NodesAreWithin : ℕ → WrittenNodes → Type 0
   NodesAreWithin greatest no_nodes = Unit {0}
-  NodesAreWithin greatest (node_and class fields later) = FieldsAreWithin greatest fields × NodesAreWithin greatest later
+  NodesAreWithin greatest (node_and class fields later) =
+      FieldsAreWithin greatest fields × NodesAreWithin greatest later
 
 -- a row's number is one, if it has one
 abbrev pub RowIsWithin : ℕ → WrittenRow → Type 0

@@ -13,10 +13,12 @@ mod name_ref;
 mod nested;
 mod read;
 mod row;
+mod worked;
 
 pub use document::WrittenDocument;
 pub use fault::WrittenDocumentFault;
-pub use laws::{one_place, one_written_document};
+pub use laws::{one_answer, one_place, one_written_document};
 pub use name_ref::NameRef;
 pub use read::read_written_document;
 pub use row::WrittenRow;
+pub use worked::worked_document;

@@ -1,7 +1,7 @@
 //! What stands in the braces of a node is read by a function value, so that each function around
 //! it is proved by itself.
 
-ghost use Rattle.std.specs.Prelude.{◌≤◌, length, set, ◌≡◌, ◌<◌, ℤ, ◌++◌, ◌∷◌, []};
+ghost use Rattle.std.specs.Prelude.{◌≡◌, ◌<◌, ◌≤◌, length};
 ghost use Rattle.ftl_document_syntax.specs.RowReading as spec;
 ghost use Rattle.ftl_document_syntax.specs.RowReading.{Pushes, below, rounds_of};
 ghost use Rattle.ftl_document_syntax.specs.Nests.{IsNested};
@@ -217,7 +217,7 @@ impl<
     }
 }
 
-// How many rows there are behind this one, as a row keeps it.
+// How many rows there are behind this one. They are no more than tokens, whose count 32 bits hold.
 fn below(rows: &[WrittenRow<'_>], at: usize) -> u32
     requires { at < length rows.now }
     ensures { result ≡ below rows.now at }

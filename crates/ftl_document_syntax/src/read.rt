@@ -17,6 +17,7 @@ use std::alloc::Global;
 const OPENING: [Kind; 1] = [Kind::LeftBrace];
 
 const CLOSING: [Kind; 1] = [Kind::RightBrace];
+
 /// How many braces may be open at once.
 const DEEPEST: usize = 512;
 

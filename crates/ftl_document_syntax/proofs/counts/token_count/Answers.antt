@@ -1,4 +1,4 @@
-use Rattle.std.proofs.Common.{◌≡◌, ◌≤◌, ◌-◌, ℕ, List, length, min, ap, ◌∙◌, arith}
+use Rattle.std.proofs.Common.{◌≡◌, ◌-◌, List, length, ap, ◌∙◌, arith}
 use Rattle.ftl_tokens.specs.Tokenized.{Tokenized}
 use Rattle.ftl_tokens.specs.declared.kind.Token.{Token}
 use Rattle.ftl_reading.specs.Place.{place_of}
