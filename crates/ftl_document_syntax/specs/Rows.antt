@@ -2,8 +2,8 @@
 use Rattle.std.specs.Prelude.{List, [], ◌∷◌, ◌++◌, length}
 use Rattle.ftl_document_syntax.specs.declared.row.WrittenRow.{WrittenRow}
 use Rattle.ftl_document_syntax.specs.declared.row.WrittenRow.TheVariants as rows
-use Rattle.ftl_document_syntax.specs.Written.{WrittenFields, WrittenNodes, no_fields, number_field, node_field, list_field}
-use Rattle.ftl_document_syntax.specs.Written.{no_nodes, node_and}
+use Rattle.ftl_document_syntax.specs.Written.{NameText, WrittenFields, WrittenNodes, no_fields, number_field}
+use Rattle.ftl_document_syntax.specs.Written.{node_field, list_field, no_nodes, node_and}
 
 abbrev mutual
   -- the rows of some fields
@@ -20,3 +20,12 @@ abbrev mutual
   rows_of_nodes no_nodes = []
   rows_of_nodes (node_and class fields later) =
       rows.Kid class (length (rows_of_fields fields)) ∷ (rows_of_fields fields ++ rows_of_nodes later)
+
+-- what is kept of a document: the class of its node, and the rows of that node's fields
+pub record DocumentRows : Type 0 where
+  pub class : NameText
+  pub rows : List WrittenRow
+
+-- the class, and these rows
+abbrev pub document_rows : NameText → List WrittenRow → DocumentRows
+document_rows class rows = record { class = class; rows = rows }

@@ -1,0 +1,13 @@
+pub mod Reading
+pub mod RowTurns
+pub mod CountLemmas
+pub mod Parts
+pub mod Heights
+pub mod Told
+pub mod Went
+pub mod OneAhead
+pub mod RowLemmas
+pub mod SizeLemmas
+pub mod NumberLemmas
+pub mod Documents
+pub mod AnswerLemmas
