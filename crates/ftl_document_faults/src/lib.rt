@@ -5,9 +5,11 @@
 #![tactic(auto)]
 
 mod fault;
+mod laws;
 mod worked;
 
 pub use fault::DocFault;
+pub use laws::{faultless_documents_are_trees, faults_are_of_nodes};
 pub use worked::{
     documents_without_a_fault, faults_before_others, faults_of_fields, faults_of_nodes,
     faults_of_order, missing_fields, trees_of_documents,
