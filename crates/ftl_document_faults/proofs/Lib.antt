@@ -1,0 +1,6 @@
+pub mod NoDocFault
+pub mod ChildNames
+pub mod RightChildren
+pub mod RightInputs
+pub mod RightTrees
+pub mod FaultKinds

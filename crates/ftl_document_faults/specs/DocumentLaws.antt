@@ -1,0 +1,37 @@
+-- What follows of a document's first fault.
+use Rattle.std.specs.Prelude.{◌≡◌, ℕ, Some, None}
+use Rattle.ftl_model.specs.TreeOf.{IsTreeOf}
+use Rattle.ftl_syntax.specs.declared.rules.Grammar.{Grammar}
+use Rattle.ftl_checked.specs.FirstFault as grammars
+use Rattle.ftl_meaning.specs.GrammarOf.{grammar_of}
+use Rattle.ftl_document_syntax.specs.Written.{WrittenNode}
+use Rattle.ftl_document_faults.specs.DocumentTree.{tree_of}
+use Rattle.ftl_document_faults.specs.FirstFault.{first_fault, first_node_fault}
+use Rattle.ftl_document_faults.specs.Within.{IsWithin}
+use Rattle.ftl_document_faults.specs.declared.fault.DocFault.{DocFault}
+use Rattle.ftl_document_faults.specs.declared.fault.DocFault.TheVariants as fault
+
+-- a document whose nodes have no fault, of a grammar without one, is a tree of the grammar
+abbrev pub FaultlessAreTrees : Type 0
+FaultlessAreTrees =
+    (g : Grammar) (greatest : ℕ) (node : WrittenNode) → grammars.first_fault g ≡ None
+    → first_node_fault g node ≡ None → IsWithin greatest node → IsTreeOf (grammar_of greatest g) (tree_of g node)
+
+-- a fault of what the text spells, and not of the text itself or of memory
+abbrev pub IsOfNodes : DocFault → Type 0
+IsOfNodes (fault.TooDeep at) = ⊥
+IsOfNodes (fault.TooManyNodes count) = ⊥
+IsOfNodes (fault.Syntax at) = ⊥
+IsOfNodes (fault.UnknownClass node name) = Unit {0}
+IsOfNodes (fault.WrongInterface node class wanted) = Unit {0}
+IsOfNodes (fault.UnknownField node name) = Unit {0}
+IsOfNodes (fault.FieldTwice node name) = Unit {0}
+IsOfNodes (fault.FieldForm node name) = Unit {0}
+IsOfNodes (fault.FieldOrder node name) = Unit {0}
+IsOfNodes (fault.FieldMissing node name) = Unit {0}
+IsOfNodes (fault.TooManyInstances count) = Unit {0}
+IsOfNodes fault.OutOfMemory = ⊥
+
+-- the first fault is one of these
+abbrev pub FaultsAreOfNodes : Type 0
+FaultsAreOfNodes = (g : Grammar) (node : WrittenNode) (x : DocFault) → first_fault g node ≡ Some x → IsOfNodes x
