@@ -1,4 +1,4 @@
-mod DepthLemmas
+pub mod DepthLemmas
 mod RowLemmas
-mod RunLemmas
-mod StandLemmas
+pub mod RunLemmas
+pub mod StandLemmas

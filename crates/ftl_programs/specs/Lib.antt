@@ -1,0 +1,4 @@
+pub mod RuleCode
+pub mod Entries
+pub mod Compilable
+pub mod Pieces

@@ -1,0 +1,20 @@
+//! The code of rules. Goes in: a grammar that `ftl_checked` accepted. Comes out: `Programs`, the
+//! code of `ftl_code` for each part of each rule, in one row of instructions. `specs/RuleCode.antt`
+//! says which code that is, `specs/Compilable.antt` what the call asks for, and `has_code` gives it
+//! for a grammar that was read.
+#![tactic(auto)]
+
+mod built;
+mod compiling;
+mod part;
+mod part_code;
+mod programs;
+mod ranges;
+mod spelled;
+mod translate;
+
+pub use compiling::compile;
+pub use part::Part;
+pub use part_code::{Code, run_code};
+pub use programs::Programs;
+pub use spelled::{has_code, spelled_grammars_have_code};
