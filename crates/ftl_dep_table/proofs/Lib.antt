@@ -6,3 +6,4 @@ pub mod ProductTests
 pub mod RuleNumbers
 pub mod ReadKids
 pub mod WriterRows
+pub mod RowLaws

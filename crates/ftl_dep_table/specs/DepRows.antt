@@ -1,5 +1,6 @@
 -- What each rule reads, and which rule writes that first.
-use Rattle.std.specs.Prelude.{◌≡◌, ℕ, List, [], length, map, slice_index_or, Option, None}
+use Rattle.std.specs.Prelude.{◌≡◌, ℕ, List, [], length, map, slice_index_or, Option, Some, None}
+use Rattle.std.specs.List.{slice_get}
 use Rattle.ftl_model.specs.AttributeGrammar.{AttributeGrammar, RuleName}
 use Rattle.ftl_order.specs.Lawful.{class_of_rule}
 use Rattle.ftl_deps.specs.DepReads.{dep_table, rule_reads}
@@ -39,3 +40,15 @@ writer_at t r k = slice_index_or (writers_at t r) k None
 pub record IsAligned (reads : List (List DepRead)) (writers : List (List (Option ℕ))) : Type 0 where
   pub rules : length writers ≡ length reads
   pub each : (rule : ℕ) → length (slice_index_or writers rule []) ≡ length (slice_index_or reads rule [])
+
+-- the rows are those of the rules, by number
+abbrev pub RowsAreOfRules : Type 0
+RowsAreOfRules =
+    (g : AttributeGrammar) (r : ℕ) (w : RuleName) → slice_get g.rules r ≡ Some w
+    → reads_at (dep_rows g) r ≡ rule_reads g w
+
+-- at each place of a row stands the first writer of what the rule reads there
+abbrev pub WritersAreFirst : Type 0
+WritersAreFirst =
+    (g : AttributeGrammar) (r k : ℕ) (w : RuleName) (d : DepRead) → slice_get g.rules r ≡ Some w
+    → slice_get (rule_reads g w) k ≡ Some d → writer_at (dep_rows g) r k ≡ first_writer g (class_of_rule w) d

@@ -9,7 +9,9 @@ mod dep_rule;
 mod dep_sites;
 mod dep_writers;
 mod first_rules;
+mod laws;
 mod product;
 mod table;
 
+pub use laws::rows_are_of_rules;
 pub use table::{DepTable, dep_table};
