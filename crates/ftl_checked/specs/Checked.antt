@@ -2,7 +2,7 @@
 use Rattle.std.specs.Prelude.{ℕ, ◌&&◌, Bool, true, false, not, if◌then◌else◌, List, [], ◌++◌, map, flat_map}
 use Rattle.std.specs.Prelude.{slice_index_or, Option, Some, None, Result, Ok, Err}
 use Rattle.std.specs.List.{position}
-use Rattle.std.specs.Option.{option_map}
+use Rattle.std.specs.Option.{option_and_then, option_map, option_or}
 use Rattle.std.specs.Str.{bytes_eq}
 use Rattle.ftl_base.specs.declared.width.Width.{Width}
 use Rattle.ftl_syntax.specs.Trees.{NameText}
@@ -20,7 +20,8 @@ use Rattle.ftl_checked.specs.declared.info.RuleInfo.{RuleInfo}
 use Rattle.ftl_checked.specs.declared.info.Field.{Field}
 use Rattle.ftl_checked.specs.declared.info.Field.TheVariants as field
 use Rattle.ftl_checked.specs.Numbering.{class_at, class_attributes, class_names, find_attribute, find_child}
-use Rattle.ftl_checked.specs.Numbering.{interface_at, interface_number, is_among, numbered}
+use Rattle.ftl_checked.specs.Numbering.{interface_at, interface_number, is_among, numbered, own_attributes}
+use Rattle.ftl_checked.specs.Numbering.{shared_attributes}
 use Rattle.ftl_checked.specs.RuleForms.{Slot, own_slot, kid_slot, slot_of}
 use Rattle.ftl_checked.specs.FirstFault.{first_fault}
 
@@ -123,3 +124,38 @@ field_by None child = option_map (λ c. field.Child c.0) child
 -- the input or child of this name, which a document's field may name
 abbrev pub field_named : Grammar → (class : ℕ) → NameText → Option Field
 field_named g k name = field_by (find_attribute name (class_attributes g k)) (find_child g k name)
+
+-- ---- what a schedule names
+
+-- an attribute of an interface that a rule computes
+abbrev pub is_shared_computed : AttrKind → Bool
+is_shared_computed kinds.Inh = true
+is_shared_computed kinds.Syn = true
+is_shared_computed kinds.Input = false
+is_shared_computed kinds.Local = false
+
+-- an attribute of a class's own that a rule computes
+abbrev pub is_own_computed : AttrKind → Bool
+is_own_computed kinds.Inh = false
+is_own_computed kinds.Syn = false
+is_own_computed kinds.Input = false
+is_own_computed kinds.Local = true
+
+-- the number of an attribute of such a kind; none of the other kinds
+abbrev pub number_if : (AttrKind → Bool) → ℕ × AttrDecl → Option ℕ
+number_if may a = if may a.1.kind then Some a.0 else None
+
+-- the inherited or synthesized attribute of this name of an interface
+abbrev pub shared_named : Grammar → (interface : ℕ) → NameText → Option ℕ
+shared_named g i name = option_and_then (number_if is_shared_computed) (find_attribute name (shared_attributes g i))
+
+-- the local of this name of a class
+abbrev pub local_named : Grammar → (class : ℕ) → NameText → Option ℕ
+local_named g k name = option_and_then (number_if is_own_computed) (find_attribute name (own_attributes g k))
+
+-- the computed attribute that `owner.name` names in a schedule: an inherited or synthesized one of the interface of that
+-- name, or else a local of the class of that name
+abbrev pub attribute_named : Grammar → (owner name : NameText) → Option ℕ
+attribute_named g owner name =
+    option_or (shared_named g (interface_number g owner) name)
+    (option_and_then (λ k. local_named g k name) (class_named g owner))

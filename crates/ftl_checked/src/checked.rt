@@ -1,7 +1,7 @@
 //! A lawful grammar, with its numbers.
 ghost use Rattle.std.specs.Prelude.{◌≡◌, ◌<◌, None, length};
 ghost use Rattle.ftl_checked.specs.Checked.{all_attributes, all_rules, attribute_at};
-ghost use Rattle.ftl_checked.specs.Checked.{attribute_info};
+ghost use Rattle.ftl_checked.specs.Checked.{attribute_info, attribute_named};
 ghost use Rattle.ftl_checked.specs.Checked.{child_info, class_named, field_named};
 ghost use Rattle.ftl_checked.specs.Checked.{rule_told};
 ghost use Rattle.ftl_checked.specs.Counts.{HasSmallCounts};
@@ -13,6 +13,7 @@ ghost use Rattle.ftl_checked.specs.Tables.{tables_of};
 use crate::fields::field_in;
 use crate::find::{child_of, class_table};
 use crate::info::{AttrInfo, ChildInfo, Field, RuleInfo};
+use crate::scheduled::attribute_in;
 use crate::tables::Tables;
 use ftl_base::Width;
 use ftl_syntax::Grammar;
@@ -173,6 +174,14 @@ impl Checked {
         ensures class { result ≡ class_named self.now.grammar name.now }
     {
         self.tables.class_names.place(name)
+    }
+
+    /// The computed attribute that a schedule names so, by its owner's name and its own: an `inh` or
+    /// `syn` of the interface, or a `local` of the class.
+    pub fn find_attribute(&self, owner: &str, attr: &str) -> Option<u32>
+        ensures attribute { result ≡ attribute_named self.now.grammar owner.now attr.now }
+    {
+        attribute_in(&self.grammar, &self.tables, owner, attr)
     }
 
     /// The input or child that a field of this name is, of a node of this class.

@@ -36,11 +36,3 @@ pub enum Field {
     Input(u32),
     Child(u32),
 }
-
-/// How a traversal goes through a tree.
-#[derive(Clone, Copy, Debug, PartialEq, Eq)]
-pub enum PassKind {
-    TopDown,
-    BottomUp,
-    InOrder,
-}

@@ -208,8 +208,17 @@ pub(crate) fn interface_number(grammar: &Grammar, names: &NameTable, name: &Name
     requires names { names.now ≡ interface_names grammar.now ++ class_names grammar.now }
     ensures number { result ≡ interface_number grammar.now name.now }
 {
+    interface_named(grammar, names, name.text())
+}
+
+/// The same of a name's text.
+pub(crate) fn interface_named(grammar: &Grammar, names: &NameTable, name: &str) -> u32
+    requires interfaces { IsSmall (length grammar.now.interfaces) }
+    requires names { names.now ≡ interface_names grammar.now ++ class_names grammar.now }
+    ensures number { result ≡ interface_number grammar.now name.now }
+{
     let count = grammar.interfaces.len() as u32;
-    place_below(names.place(name.text()), count)
+    place_below(names.place(name), count)
 }
 
 /// The place, where it is below the count, and else the count.

@@ -1,7 +1,7 @@
 //! What the check of a grammar's text answers, in words.
 
 use ftl_base::Width;
-use ftl_checked::{Checked, GrammarFault, RuleName, check_grammar};
+use ftl_checked::{Checked, GrammarFault, RuleName, What, check_grammar};
 use ftl_counts::small_counts;
 use ftl_grammar::read_grammar;
 use ftl_tokens::tokens;
@@ -48,7 +48,9 @@ fn write_answer(
 
 fn write_fault(out: &mut String, fault: &GrammarFault) -> Result<(), AllocError> {
     match fault {
-        GrammarFault::TooMany { what: _, count } => write!(out, "{count} are too many"),
+        GrammarFault::TooMany { what, count } => {
+            write!(out, "{count} {} are too many", word_of(*what))
+        }
         GrammarFault::TwiceNamed { name } => write!(out, "twice named {}", name.text()),
         GrammarFault::RootMissing { name } => write!(out, "root missing {}", name.text()),
         GrammarFault::UnknownName { name } => write!(out, "unknown {}", name.text()),
@@ -68,4 +70,15 @@ fn write_rule(out: &mut String, what: &str, rule: &RuleName) -> Result<(), Alloc
         write!(out, ".{}", child.text())?;
     }
     write!(out, ".{}", rule.attr.text())
+}
+
+fn word_of(what: What) -> &'static str {
+    match what {
+        What::Interfaces => "interfaces",
+        What::Classes => "classes",
+        What::Attributes => "attributes",
+        What::Children => "children",
+        What::AllAttributes => "attributes in all",
+        What::Reads => "reads",
+    }
 }

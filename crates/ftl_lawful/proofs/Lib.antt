@@ -18,3 +18,4 @@ pub mod AlikeTrees
 pub mod WorkedGrammars
 pub mod WithinLimits
 pub mod TextReads
+pub mod Causes

@@ -1,6 +1,10 @@
 //! Laws on grammars without a fault.
 
+ghost use Rattle.std.specs.Prelude.{◌≢◌, Some};
 ghost use Rattle.ftl_order.specs.Lawful.{IsLawful};
+ghost use Rattle.ftl_syntax.specs.declared.rules.Grammar.{Grammar};
+ghost use Rattle.ftl_checked.specs.FirstFault.{first_fault};
+ghost use Rattle.ftl_checked.specs.declared.fault.GrammarFault.TheVariants.{OutOfMemory};
 ghost use Rattle.ftl_lawful.specs.Faultless.{SpelledAreFaultless};
 ghost use Rattle.ftl_lawful.specs.LawfulOf.{OfFaultless, HasOneTable, HasOneList, StaysInRange};
 ghost use Rattle.ftl_lawful.specs.Limits.{IsWithinLimits};
@@ -29,4 +33,10 @@ pub fn rules_are_kept()
 /// A law: a grammar without a fault keeps to the limits, with its names gone.
 pub fn faultless_grammars_are_small()
     ensures limits { OfFaultless IsWithinLimits }
+{}
+
+/// A law: the first fault of a grammar is never want of memory, so that where the check of a grammar
+/// tells that, the answer is open.
+pub fn faults_are_of_grammars()
+    ensures memory { (g : Grammar) → first_fault g ≢ Some OutOfMemory }
 {}

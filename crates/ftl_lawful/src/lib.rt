@@ -8,5 +8,8 @@ mod lawful;
 mod worked;
 
 pub use alike::{alike_grammars, the_written_stack_solves};
-pub use lawful::{faultless_grammars_are_lawful, faultless_grammars_are_small, rules_are_kept};
+pub use lawful::{
+    faultless_grammars_are_lawful, faultless_grammars_are_small, faults_are_of_grammars,
+    rules_are_kept,
+};
 pub use worked::{grammars_without_a_fault, words_of_attributes};

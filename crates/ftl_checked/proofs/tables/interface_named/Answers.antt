@@ -1,7 +1,7 @@
 use Rattle.std.proofs.Common.{arith}
 use Rattle.std.proofs.lemmas.Grind.{common_steps}
 use Rattle.ftl_checked.proofs.Places.{clip_is}
-use Rattle.ftl_checked.proofs.tables.interface_number.Goals as goal
+use Rattle.ftl_checked.proofs.tables.interface_named.Goals as goal
 
 pub returns : goal.returns
 returns c =
