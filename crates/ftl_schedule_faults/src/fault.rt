@@ -1,5 +1,10 @@
 //! Why a schedule is not accepted.
 
+ghost use Rattle.std.specs.Prelude.{◌≡◌};
+ghost use Rattle.ftl_schedule_faults.specs.declared.fault.VerifyFault.TheVariants as fault;
+
+use std::alloc::AllocError;
+
 /// Why a schedule is not accepted. Attributes and rules are numbers of the grammar.
 #[derive(Clone, Copy, Debug, PartialEq, Eq)]
 pub enum VerifyFault {
@@ -12,4 +17,12 @@ pub enum VerifyFault {
     Unordered { reader: u32, writer: u32 },
     /// No memory was left to look for a fault.
     OutOfMemory,
+}
+
+impl From<AllocError> for VerifyFault {
+    ghost from_gives = { λ _ e. e ≡ fault.OutOfMemory };
+
+    fn from(_: AllocError) -> Self {
+        VerifyFault::OutOfMemory
+    }
 }

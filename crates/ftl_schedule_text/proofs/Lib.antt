@@ -1,0 +1,3 @@
+mod Dots
+mod Fronts
+mod SpelledSchedule

@@ -1,0 +1,4 @@
+mod EntryLists
+mod Lookup
+mod SpotOf
+mod Filling

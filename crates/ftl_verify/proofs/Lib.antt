@@ -1,0 +1,6 @@
+mod FaultsAlong
+mod AttributeKinds
+mod OneWriter
+mod FirstWriters
+mod RuleCount
+mod AcceptedLaws

@@ -1,0 +1,65 @@
+//! The check of schedules.
+
+ghost use Rattle.std.specs.Prelude.{◌≡◌, IfOk};
+ghost use Rattle.ftl_model.specs.Outcome.{Gives};
+ghost use Rattle.ftl_order.specs.OrderLaws.{LegalOrderExists, OneListSolves, OneTableSolves};
+ghost use Rattle.ftl_order.specs.OrderLaws.{WritersStandBefore};
+ghost use Rattle.ftl_lawful.specs.Faultless.{HasKinds};
+ghost use Rattle.ftl_stages.specs.Stages.{stages_of};
+ghost use Rattle.ftl_dep_table.specs.DepRows.{dep_rows};
+ghost use Rattle.ftl_dep_table.specs.Meant.{meant};
+ghost use Rattle.ftl_schedule_faults.specs.FaultLaws.{AreComputed};
+ghost use Rattle.ftl_schedule_faults.specs.declared.fault.VerifyFault.TheVariants.{OutOfMemory};
+ghost use Rattle.ftl_verify.specs.Accepted.{OnEachTree, later_fault, verified_as};
+
+use crate::accepted::Accepted;
+use crate::kinds::attribute_count;
+use crate::missing::first_missing;
+use crate::unordered::first_unordered;
+use ftl_checked::Checked;
+use ftl_dep_table::DepTable;
+use ftl_schedule_faults::VerifyFault;
+use ftl_spots::Placed;
+use ftl_stages::Schedule;
+use std::alloc::Global;
+
+/// The schedule as one that is accepted, or its first fault. What is promised of the trees of the
+/// grammar stands where each attribute is declared by a word that may stand there, as in each
+/// grammar that tokens spell.
+pub fn verify(
+    alloc: Global,
+    checked: &Checked,
+    deps: &DepTable,
+    schedule: Schedule,
+) -> Result<Accepted, VerifyFault>
+    requires table { deps.now ≡ dep_rows (meant checked.now) }
+    requires computed { AreComputed (meant checked.now) (stages_of schedule) }
+    ensures exact { Gives OutOfMemory (λ a. a) result (verified_as (meant checked.now) schedule) }
+    // what an accepted schedule gives
+    ensures one_table { HasKinds checked.now.grammar
+        → IfOk result (λ a. OnEachTree (meant checked.now) (stages_of a) OneTableSolves) }
+    ensures one_list { HasKinds checked.now.grammar
+        → IfOk result (λ a. OnEachTree (meant checked.now) (stages_of a) OneListSolves) }
+    ensures legal_order { HasKinds checked.now.grammar
+        → IfOk result (λ a. OnEachTree (meant checked.now) (stages_of a) LegalOrderExists) }
+    ensures writers_before { HasKinds checked.now.grammar
+        → IfOk result (λ a. OnEachTree (meant checked.now) (stages_of a) WritersStandBefore) }
+{
+    let _ = checked.grammar();
+    let placed = Placed::new(alloc, attribute_count(checked), schedule)?;
+    match later_fault(checked, deps, &placed) {
+        Some(fault) => Err(fault),
+        None => Ok(Accepted::new(placed)),
+    }
+}
+
+// The first fault where no attribute has two entries.
+fn later_fault(checked: &Checked, deps: &DepTable, placed: &Placed) -> Option<VerifyFault>
+    requires table { deps.now ≡ dep_rows (meant checked.now) }
+    ensures fault { result ≡ later_fault (meant checked.now) (stages_of placed.now) }
+{
+    match first_missing(checked, placed) {
+        Some(fault) => Some(fault),
+        None => first_unordered(checked, deps, placed),
+    }
+}
