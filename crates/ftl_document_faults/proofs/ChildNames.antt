@@ -1,6 +1,6 @@
 -- In a grammar without a fault the name of each child stands for that child.
 use Rattle.std.proofs.Common.{◌≡◌, ℕ, zero, suc, ◌+◌, ◌<◌, Bool, true, false, not, cond, if◌then◌else◌, refl, sym, ◌∙◌, ap, ap₂, subst, ⊎_elim, arith, List, [], ◌∷◌, ◌++◌, length, get_or, map, Contains, Option, Some, None}
-use Rattle.std.specs.List.{find}
+use Rattle.std.specs.List.{AllByRecursion, find}
 use Rattle.std.specs.Option.{option_map}
 use Rattle.std.specs.Str.{bytes_eq}
 use Rattle.std.proofs.lemmas.Bool.{or_parts, true≢false}
@@ -100,32 +100,42 @@ pub names_of_numbered : (n : ℕ) (xs : List Child) → map (λ c. c.1.name) (nu
 names_of_numbered n [] = refl
 names_of_numbered n (x ∷ xs) = ap (λ ns. x.name ∷ ns) (names_of_numbered (suc n) xs)
 
--- no name stands twice in a class of a grammar without a fault
-once_in_class : (g : Grammar) → first_fault g ≡ None → (k : ℕ) → k < length g.classes → twice_in_class g k ≡ None
-once_in_class g none k known =
-    subst (λ m. twice_in_class g m ≡ None) (let z : 0 + k ≡ k = omega arith in z)
-    (none_of (λ p. twice_in_class g p.0) (numbered 0 g.classes) (none_in name_faults names).1.1.1.1.1.0
-    (0 + k, class_at g k) (numbered_has 0 g.classes k (trees.class [] [] [] [] []) known))
-  where
-    name_faults : List (Option GrammarFault)
-    name_faults =
-        twice_among (interface_names g ++ class_names g)
-        ∷ fault_if (not (is_among (interface_names g) g.root)) (fault.RootMissing g.root)
-        ∷ first_of (λ x. unknown_among (attribute_names x.attrs) x.shown) g.interfaces
-        ∷ first_of (λ x. unknown_among (interface_names g) (interfaces_named x)) g.classes
-        ∷ first_of twice_in_interface g.interfaces
-        ∷ first_of (λ k. twice_in_class g k.0) (numbered 0 g.classes)
-        ∷ fault_if (root_inherits g) (fault.RootInherits g.root)
-        ∷ []
+module _ (g : Grammar) (none : first_fault g ≡ None) where
+  abbrev name_faults : List (Option GrammarFault)
+  name_faults =
+      twice_among (interface_names g ++ class_names g)
+      ∷ fault_if (not (is_among (interface_names g) g.root)) (fault.RootMissing g.root)
+      ∷ first_of (λ x. unknown_among (attribute_names x.attrs) x.shown) g.interfaces
+      ∷ first_of (λ x. unknown_among (interface_names g) (interfaces_named x)) g.classes
+      ∷ first_of twice_in_interface g.interfaces
+      ∷ first_of (λ k. twice_in_class g k.0) (numbered 0 g.classes)
+      ∷ fault_if (root_inherits g) (fault.RootInherits g.root)
+      ∷ []
 
-    names : name_fault g ≡ None
-    names =
-        (none_in (limit_fault g ∷ name_fault g ∷ first_of (λ k. class_fault g k.0) (numbered 0 g.classes) ∷ []) none).1.0
+  -- the conditions on names, one by one
+  each_name : AllByRecursion (λ x. x ≡ None) name_faults
+  each_name =
+      none_in name_faults
+      (none_in (limit_fault g ∷ name_fault g ∷ first_of (λ k. class_fault g k.0) (numbered 0 g.classes) ∷ []) none).1.0
+
+  -- no name stands twice in a class
+  once_in_class : (k : ℕ) → k < length g.classes → twice_in_class g k ≡ None
+  once_in_class k known =
+      subst (λ m. twice_in_class g m ≡ None) (let z : 0 + k ≡ k = omega arith in z)
+      (none_of (λ p. twice_in_class g p.0) (numbered 0 g.classes) each_name.1.1.1.1.1.0
+      (0 + k, class_at g k) (numbered_has 0 g.classes k (trees.class [] [] [] [] []) known))
 
 -- no name is told
 none_told : (o : Option NameText) → option_map fault.TwiceNamed o ≡ None → o ≡ None
 none_told None h = refl
 none_told (Some x) h = absurd (none-some (fault.TwiceNamed x) (sym h))
+
+-- the names of classes differ
+pub class_names_once : (g : Grammar) → first_fault g ≡ None → AreDistinct (class_names g)
+class_names_once g none =
+    distinct_right (interface_names g) (class_names g)
+    (distinct_names [] (interface_names g ++ class_names g)
+    (none_told (second_name [] (interface_names g ++ class_names g)) (each_name g none).0)).0
 
 -- the names of a class's attributes
 abbrev pub attribute_names_of : Grammar → ℕ → List NameText

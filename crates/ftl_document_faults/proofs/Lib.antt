@@ -4,3 +4,5 @@ pub mod RightChildren
 pub mod RightInputs
 pub mod RightTrees
 pub mod FaultKinds
+pub mod Groups
+pub mod WrittenTrees

@@ -1,5 +1,6 @@
 -- What follows of a document's first fault.
 use Rattle.std.specs.Prelude.{◌≡◌, ℕ, Some, None}
+use Rattle.ftl_model.specs.Tree.{Forest}
 use Rattle.ftl_model.specs.TreeOf.{IsTreeOf}
 use Rattle.ftl_syntax.specs.declared.rules.Grammar.{Grammar}
 use Rattle.ftl_checked.specs.FirstFault as grammars
@@ -8,6 +9,7 @@ use Rattle.ftl_document_syntax.specs.Written.{WrittenNode}
 use Rattle.ftl_document_faults.specs.DocumentTree.{tree_of}
 use Rattle.ftl_document_faults.specs.FirstFault.{first_fault, first_node_fault}
 use Rattle.ftl_document_faults.specs.Within.{IsWithin}
+use Rattle.ftl_document_faults.specs.WrittenOf.{written_of}
 use Rattle.ftl_document_faults.specs.declared.fault.DocFault.{DocFault}
 use Rattle.ftl_document_faults.specs.declared.fault.DocFault.TheVariants as fault
 
@@ -16,6 +18,24 @@ abbrev pub FaultlessAreTrees : Type 0
 FaultlessAreTrees =
     (g : Grammar) (greatest : ℕ) (node : WrittenNode) → grammars.first_fault g ≡ None
     → first_node_fault g node ≡ None → IsWithin greatest node → IsTreeOf (grammar_of greatest g) (tree_of g node)
+
+-- what holds of each tree of a grammar without a fault
+abbrev pub OfTrees : (Grammar → (greatest : ℕ) → Forest → Type 0) → Type 0
+OfTrees P =
+    (g : Grammar) (greatest : ℕ) (t : Forest) → grammars.first_fault g ≡ None → IsTreeOf (grammar_of greatest g) t
+    → P g greatest t
+
+-- the document of the tree means the tree
+abbrev pub MeansItsTree : Grammar → (greatest : ℕ) → Forest → Type 0
+MeansItsTree g greatest t = tree_of g (written_of g t) ≡ t
+
+-- no node of it has a fault
+abbrev pub IsWrittenRight : Grammar → (greatest : ℕ) → Forest → Type 0
+IsWrittenRight g greatest t = first_node_fault g (written_of g t) ≡ None
+
+-- and its numbers are within the width
+abbrev pub IsWrittenWithin : Grammar → (greatest : ℕ) → Forest → Type 0
+IsWrittenWithin g greatest t = IsWithin greatest (written_of g t)
 
 -- a fault of what the text spells, and not of the text itself or of memory
 abbrev pub IsOfNodes : DocFault → Type 0

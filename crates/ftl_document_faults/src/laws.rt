@@ -1,6 +1,7 @@
 //! Laws on the first fault of documents, and on their trees.
 
 ghost use Rattle.ftl_document_faults.specs.DocumentLaws.{FaultlessAreTrees, FaultsAreOfNodes};
+ghost use Rattle.ftl_document_faults.specs.DocumentLaws.{OfTrees, MeansItsTree};
 
 /// A law: a document whose nodes have no fault is a tree of the grammar.
 pub fn faultless_documents_are_trees()
@@ -10,4 +11,10 @@ pub fn faultless_documents_are_trees()
 /// A law: the first fault is one of the nodes, or of their number of attributes.
 pub fn faults_are_of_nodes()
     ensures kind { FaultsAreOfNodes }
+{}
+
+/// A law: each tree of the grammar is written by a document, in the canonical order, that means the
+/// tree.
+pub fn trees_are_written()
+    ensures tree { OfTrees MeansItsTree }
 {}

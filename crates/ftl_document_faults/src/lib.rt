@@ -9,8 +9,8 @@ mod laws;
 mod worked;
 
 pub use fault::DocFault;
-pub use laws::{faultless_documents_are_trees, faults_are_of_nodes};
+pub use laws::{faultless_documents_are_trees, faults_are_of_nodes, trees_are_written};
 pub use worked::{
-    documents_without_a_fault, faults_before_others, faults_of_fields, faults_of_nodes,
-    faults_of_order, missing_fields, trees_of_documents,
+    canonical_documents, documents_without_a_fault, faults_before_others, faults_of_fields,
+    faults_of_nodes, faults_of_order, missing_fields, trees_of_documents,
 };

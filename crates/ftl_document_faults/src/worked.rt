@@ -10,6 +10,7 @@ ghost use Rattle.ftl_document_faults.specs.DocumentTree.{tree_of};
 ghost use Rattle.ftl_document_faults.specs.FirstFault.{first_fault, instance_count_of};
 ghost use Rattle.ftl_document_faults.specs.FirstFault.{too_many_instances};
 ghost use Rattle.ftl_document_faults.specs.Worked as worked;
+ghost use Rattle.ftl_document_faults.specs.WrittenOf.{written_of};
 ghost use Rattle.ftl_document_faults.specs.declared.fault.DocFault.TheVariants as fault;
 
 /// A law: documents without a fault. Children stand between inputs, and inputs in any order.
@@ -35,6 +36,18 @@ pub fn trees_of_documents()
         (pos 1 ∷ pos 2 ∷ pos 3 ∷ []) (tree 1 0 (pos 4 ∷ pos 5 ∷ []) none (tree 1 1
         (pos 6 ∷ pos 7 ∷ []) none (tree 1 1 (pos 8 ∷ pos 9 ∷ []) none (tree 1 2
         (pos 10 ∷ pos 11 ∷ []) none none)))) none }
+{}
+
+/// A law: documents in the canonical order, of the trees of others.
+pub fn canonical_documents()
+    ensures two_words { written_of written.stack (tree_of written.stack worked.two_words)
+        ≡ worked.two_words }
+    ensures no_kids { written_of worked.screens (tree_of worked.screens worked.plain_screen)
+        ≡ worked.plain_screen }
+    ensures mixed { written_of worked.screens (tree_of worked.screens worked.mixed_screen)
+        ≡ worked.screen (worked.screen_inputs (worked.dot_in (codes "head") 4 5 (worked.kids_in
+        (worked.dot_and 6 7 (worked.dot_and 8 9 no_nodes)) (worked.dot_in (codes "foot") 10 11
+        no_fields)))) }
 {}
 
 /// A law: faults of a node's class and interface.
