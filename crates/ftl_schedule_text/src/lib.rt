@@ -1,6 +1,6 @@
 //! The canonical text of a schedule. Goes in: a schedule whose attributes are names. Comes out:
-//! `specs/ScheduleText.antt`, the tokens that are written and the white space behind each. Laws lead
-//! back: a scan of the text finds these tokens, and they spell the schedule.
+//! `specs/ScheduleText.antt`, the tokens that are written and the white space behind each. Laws
+//! lead back: a scan of the text finds these tokens, and they spell the schedule.
 #![tactic(auto)]
 
 mod laws;

@@ -44,7 +44,8 @@ fn pass_entries(
     kind: PassKind,
     attrs: &[u32],
 ) -> Result<(), AllocError>
-    ensures added { OnOk result (found.new ≡ found.old ++ entries_of_pass stage pass kind attrs.now) }
+    ensures added { OnOk result (found.new
+        ≡ found.old ++ entries_of_pass stage pass kind attrs.now) }
 {
     for index in 0..attrs.len() {
         let spot = Spot {

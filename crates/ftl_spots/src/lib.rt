@@ -1,8 +1,8 @@
-//! Where the attributes of a schedule stand. Goes in: a schedule of attributes by number. Comes out:
-//! `Placed`, the schedule with the spot of each attribute, or the first attribute that has a second
-//! entry. It tells by the table of ordered reads, in constant time, whether the schedule has the
-//! writer of a read earlier. `specs/Placed.antt` and `specs/Standing.antt` have the words of the
-//! contracts.
+//! Where the attributes of a schedule stand. Goes in: a schedule of attributes by number. Comes
+//! out: `Placed`, the schedule with the spot of each attribute, or the first attribute that has a
+//! second entry. It tells by the table of ordered reads, in constant time, whether the schedule has
+//! the writer of a read earlier. `specs/Placed.antt` and `specs/Standing.antt` have the words of
+//! the contracts.
 #![tactic(auto)]
 
 mod entries;

@@ -1,7 +1,8 @@
-//! Schedules that are accepted. Goes in: a grammar that `ftl_checked` accepted, what its rules read,
-//! and a schedule of its computed attributes. Comes out: `Accepted`, the schedule with the spot of
-//! each attribute, or its first fault, which `specs/FirstFault.antt` of `ftl_schedule_faults`
-//! defines. `specs/Accepted.antt` says what follows for the trees of the grammar.
+//! Schedules that are accepted. Goes in: a grammar that `ftl_checked` accepted, what its rules
+//! read, and a schedule of its computed attributes. Comes out: `Accepted`, the schedule with the
+//! spot of each attribute, or its first fault, which `specs/FirstFault.antt` of
+//! `ftl_schedule_faults` defines. `specs/Accepted.antt` says what follows for the trees of the
+//! grammar.
 #![tactic(auto)]
 
 mod accepted;

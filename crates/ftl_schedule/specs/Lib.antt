@@ -1,0 +1,1 @@
+pub use Rattle.ftl_verify.specs.Accepted

@@ -1,0 +1,7 @@
+//! Schedules of a grammar: read from tokens, and verified. The calls and types of the crates below
+//! at one door; `ftl_schedule_reading` says what is read, `ftl_verify` what is accepted.
+#![tactic(auto)]
+
+pub use ftl_schedule_reading::{ScheduleFault, read_schedule};
+pub use ftl_stages::{AttrList, Pass, PassKind, PassList, Schedule, Stage, StageList};
+pub use ftl_verify::{Accepted, Spot, VerifyFault, verify};
