@@ -6,3 +6,5 @@ pub mod RightTrees
 pub mod FaultKinds
 pub mod Groups
 pub mod WrittenTrees
+pub mod WrittenRight
+pub mod WrittenFaultless
