@@ -8,3 +8,4 @@ pub mod Groups
 pub mod WrittenTrees
 pub mod WrittenRight
 pub mod WrittenFaultless
+pub mod InstanceCounts
