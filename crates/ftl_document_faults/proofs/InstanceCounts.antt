@@ -1,9 +1,9 @@
 -- A document's count of attributes is that of the instances of its tree.
-use Rattle.std.proofs.Common.{◌≡◌, ℕ, zero, suc, ◌+◌, refl, sym, ◌∙◌, ap, ap₂, arith, List, [], ◌∷◌, ◌++◌, length, map, sum_by, length-append}
+use Rattle.std.proofs.Common.{◌≡◌, ℕ, suc, ◌+◌, refl, sym, ◌∙◌, ap, ap₂, arith, ◌∷◌, length, map, sum_by, length-append}
 use Rattle.std.proofs.lemmas.List.{length-map}
 use Rattle.std.proofs.lemmas.List.Sums.{sum_by-append, sum_by-cons}
 use Rattle.ftl_model.specs.AttributeGrammar.{AttributeGrammar, attributes_of}
-use Rattle.ftl_model.specs.Path.{Path, class_at, down, nodes_below, one_more, preorder, top}
+use Rattle.ftl_model.specs.Path.{Path, down, nodes_below, one_more, top}
 use Rattle.ftl_model.specs.Table.{instance_count, width_at}
 use Rattle.ftl_model.specs.Tree.{Forest, below_of, class_of, none, size, tree}
 use Rattle.ftl_model.proofs.Numbering.{Left, at-left, left_all, left_below, left_next}
