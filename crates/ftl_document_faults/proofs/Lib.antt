@@ -6,3 +6,6 @@ pub mod RightTrees
 pub mod FaultKinds
 pub mod Groups
 pub mod WrittenTrees
+pub mod WrittenRight
+pub mod WrittenFaultless
+pub mod InstanceCounts

@@ -1,5 +1,6 @@
 -- What follows of a document's first fault.
 use Rattle.std.specs.Prelude.{◌≡◌, ℕ, Some, None}
+use Rattle.ftl_model.specs.Table.{instance_count}
 use Rattle.ftl_model.specs.Tree.{Forest}
 use Rattle.ftl_model.specs.TreeOf.{IsTreeOf}
 use Rattle.ftl_syntax.specs.declared.rules.Grammar.{Grammar}
@@ -7,7 +8,7 @@ use Rattle.ftl_checked.specs.FirstFault as grammars
 use Rattle.ftl_meaning.specs.GrammarOf.{grammar_of}
 use Rattle.ftl_document_syntax.specs.Written.{WrittenNode}
 use Rattle.ftl_document_faults.specs.DocumentTree.{tree_of}
-use Rattle.ftl_document_faults.specs.FirstFault.{first_fault, first_node_fault}
+use Rattle.ftl_document_faults.specs.FirstFault.{first_fault, first_node_fault, instance_count_of}
 use Rattle.ftl_document_faults.specs.Within.{IsWithin}
 use Rattle.ftl_document_faults.specs.WrittenOf.{written_of}
 use Rattle.ftl_document_faults.specs.declared.fault.DocFault.{DocFault}
@@ -18,6 +19,12 @@ abbrev pub FaultlessAreTrees : Type 0
 FaultlessAreTrees =
     (g : Grammar) (greatest : ℕ) (node : WrittenNode) → grammars.first_fault g ≡ None
     → first_node_fault g node ≡ None → IsWithin greatest node → IsTreeOf (grammar_of greatest g) (tree_of g node)
+
+-- the attributes that are counted of a document are those of its tree
+abbrev pub CountsInstances : Type 0
+CountsInstances =
+    (g : Grammar) (greatest : ℕ) (node : WrittenNode)
+    → instance_count_of g node ≡ instance_count (grammar_of greatest g) (tree_of g node)
 
 -- what holds of each tree of a grammar without a fault
 abbrev pub OfTrees : (Grammar → (greatest : ℕ) → Forest → Type 0) → Type 0

@@ -1,11 +1,15 @@
 //! Laws on the first fault of documents, and on their trees.
 
 ghost use Rattle.ftl_document_faults.specs.DocumentLaws.{FaultlessAreTrees, FaultsAreOfNodes};
-ghost use Rattle.ftl_document_faults.specs.DocumentLaws.{OfTrees, MeansItsTree};
+ghost use Rattle.ftl_document_faults.specs.DocumentLaws.{CountsInstances};
+ghost use Rattle.ftl_document_faults.specs.DocumentLaws.{OfTrees, MeansItsTree, IsWrittenRight};
+ghost use Rattle.ftl_document_faults.specs.DocumentLaws.{IsWrittenWithin};
 
-/// A law: a document whose nodes have no fault is a tree of the grammar.
+/// A law: a document whose nodes have no fault is a tree of the grammar. The attributes that are
+/// counted of a document are the instances of its tree.
 pub fn faultless_documents_are_trees()
     ensures tree { FaultlessAreTrees }
+    ensures instances { CountsInstances }
 {}
 
 /// A law: the first fault is one of the nodes, or of their number of attributes.
@@ -14,7 +18,9 @@ pub fn faults_are_of_nodes()
 {}
 
 /// A law: each tree of the grammar is written by a document, in the canonical order, that means the
-/// tree.
+/// tree. No node of the document has a fault, and its numbers are within the width.
 pub fn trees_are_written()
     ensures tree { OfTrees MeansItsTree }
+    ensures right { OfTrees IsWrittenRight }
+    ensures within { OfTrees IsWrittenWithin }
 {}
