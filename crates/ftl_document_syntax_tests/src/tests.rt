@@ -211,29 +211,3 @@ fn braces_in_one_another(rt: HostRuntime) -> Result<(), Fail> {
     }
     Ok(())
 }
-
-#[test]
-fn many_nodes(rt: HostRuntime) -> Result<(), Fail> {
-    let most = repeated(&rt, "A{b=[", "C{}", 1_048_575, "]}")?;
-    assert!(rt; most.len() <= 67_108_864);
-    let scanned = document_tokens(rt.alloc(), most, NARROW)?;
-    assert_eq!(rt;
-        read_written_document(rt.alloc(), &scanned)?.rows().len(),
-        1_048_576
-    );
-    let rows: [(String, &str); 3] = [
-        (
-            repeated(&rt, "", "{}", 1_048_577, "")?,
-            "TooManyNodes { count: 1048577 }",
-        ),
-        (repeated(&rt, "", "{}", 1_048_576, "")?, "Syntax { at: 0 }"),
-        (
-            repeated(&rt, "", "{", 1_048_577, "")?,
-            "TooDeep { at: 512 }",
-        ),
-    ];
-    for (text, fault) in rows {
-        assert_eq!(rt; told(&rt, text, NARROW)?.as_str(), fault);
-    }
-    Ok(())
-}
