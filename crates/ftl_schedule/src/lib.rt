@@ -1,5 +1,5 @@
-//! Schedules of a grammar: read from tokens, and verified. The calls and types of the crates below
-//! at one door; `ftl_schedule_reading` says what is read, `ftl_verify` what is accepted.
+//! Schedules of a grammar: read from tokens, and verified. What the crates below have for users is
+//! here in one place; `ftl_schedule_reading` says what is read, `ftl_verify` what is accepted.
 #![tactic(auto)]
 
 pub use ftl_schedule_reading::{ScheduleFault, read_schedule};
