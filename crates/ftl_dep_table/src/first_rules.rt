@@ -35,7 +35,8 @@ fn add_rule(
 ) -> Result<(), AllocError>
     requires lawful { first_fault checked.now.grammar ≡ None }
     requires within { rule < length (all_rules checked.now.grammar) }
-    requires first { FindsFirst (meant checked.now) (take rule (meant checked.now).rules) first.old }
+    requires first { FindsFirst (meant checked.now) (take rule (meant checked.now).rules)
+        first.old }
     ensures first { OnOk result (FindsFirst (meant checked.now)
         (take (rule + 1) (meant checked.now).rules) first.new) }
 {

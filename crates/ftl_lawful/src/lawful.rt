@@ -35,8 +35,8 @@ pub fn faultless_grammars_are_small()
     ensures limits { OfFaultless IsWithinLimits }
 {}
 
-/// A law: the first fault of a grammar is never want of memory, so that where the check of a grammar
-/// tells that, the answer is open.
+/// A law: the first fault of a grammar is never want of memory, so that where the check of a
+/// grammar tells that, the answer is open.
 pub fn faults_are_of_grammars()
     ensures memory { (g : Grammar) → first_fault g ≢ Some OutOfMemory }
 {}

@@ -22,7 +22,8 @@ abbrev pub after : {X : Type 0} → List X → Result (List X) ScheduleFault →
 after xs later = made_of (λ ys. xs ++ ys) later
 
 -- an entry before others, or its fault
-abbrev pub before : {X : Type 0} → Result X ScheduleFault → Result (List X) ScheduleFault → Result (List X) ScheduleFault
+abbrev pub before : {X : Type 0} → Result X ScheduleFault → Result (List X) ScheduleFault
+    → Result (List X) ScheduleFault
 before (Ok x) later = after (x ∷ []) later
 before (Err fault) later = Err fault
 

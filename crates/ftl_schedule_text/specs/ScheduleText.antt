@@ -66,7 +66,8 @@ HasNames x = CanBeSaid 2147483647 (name x.owner) × CanBeSaid 2147483647 (name x
 -- each stage has a pass, and all names can be said
 pub record CanBeWritten (s : WrittenSchedule) : Type 0 where
   pub passes : All (λ (stage : WrittenStage). stage.passes ≢ []) s.stages
-  pub names : All (λ (stage : WrittenStage). All (λ (pass : WrittenPass). All HasNames pass.attrs) stage.passes) s.stages
+  pub names :
+      All (λ (stage : WrittenStage). All (λ (pass : WrittenPass). All HasNames pass.attrs) stage.passes) s.stages
 
 -- the text has tokens, no number above 2147483647, and they spell the schedule
 pub record IsTextOf (text : List ℕ) (s : WrittenSchedule) : Type 0 where
