@@ -153,8 +153,8 @@ shared_named g i name = option_and_then (number_if is_shared_computed) (find_att
 abbrev pub local_named : Grammar → (class : ℕ) → NameText → Option ℕ
 local_named g k name = option_and_then (number_if is_own_computed) (find_attribute name (own_attributes g k))
 
--- the computed attribute that `owner.name` names in a schedule: an inherited or synthesized one of the interface of that
--- name, or else a local of the class of that name
+-- the computed attribute that `owner.name` names in a schedule: an inherited or synthesized one of the interface of
+-- that name, or else a local of the class of that name
 abbrev pub attribute_named : Grammar → (owner name : NameText) → Option ℕ
 attribute_named g owner name =
     option_or (shared_named g (interface_number g owner) name)

@@ -205,8 +205,8 @@ impl Checked {
         self.tables.class_names.place(name)
     }
 
-    /// The computed attribute that a schedule names so, by its owner's name and its own: an `inh` or
-    /// `syn` of the interface, or a `local` of the class.
+    /// The computed attribute that a schedule names so, by its owner's name and its own: an `inh`
+    /// or `syn` of the interface, or a `local` of the class.
     pub fn find_attribute(&self, owner: &str, attr: &str) -> Option<u32>
         ensures attribute { result ≡ attribute_named self.now.grammar owner.now attr.now }
     {
