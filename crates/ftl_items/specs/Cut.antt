@@ -1,0 +1,34 @@
+-- Where the items of a pass begin, and which nodes each has: a whole tree of few nodes, or one visit of a node whose
+-- tree is larger.
+use Rattle.std.specs.Prelude.{ℕ, nat_le, Bool, true, not, if◌then◌else◌, List, [], ◌∷◌, filter, reverse}
+use Rattle.ftl_model.specs.Tree.{Forest, below_of}
+use Rattle.ftl_model.specs.Path.{Path, at, down, nodes_below, preorder, size_at, top}
+use Rattle.ftl_order.specs.Schedule.{PassKind, bottomup, inorder, topdown}
+
+-- the nodes of the tree at a node, in preorder
+abbrev pub subtree : Forest → Path → List Path
+subtree t p = p ∷ nodes_below p (λ c. 0) (below_of (at t p))
+
+-- the tree at a node has at most so many nodes
+abbrev pub is_small : Forest → (grain : ℕ) → Path → Bool
+is_small t grain p = nat_le (size_at t p) grain
+
+-- an item begins at this node: at the root, and at each node below one that passes the test of no whole tree
+abbrev pub begins_by : (is_whole : Path → Bool) → Path → Bool
+begins_by is_whole top = true
+begins_by is_whole (down child kid above) = not (is_whole above)
+
+-- an item begins at this node: at the root, and at each node whose parent's tree is not small
+abbrev pub begins : Forest → (grain : ℕ) → Path → Bool
+begins t grain p = begins_by (is_small t grain) p
+
+-- the nodes of the item that begins at a node: its whole tree where that is small, or else the node alone
+abbrev pub nodes_of : Forest → (grain : ℕ) → Path → List Path
+nodes_of t grain p = if is_small t grain p then subtree t p else p ∷ []
+
+-- the nodes at which the items of a pass begin, in the order of the items: preorder for topdown, reverse preorder for
+-- bottomup; an inorder pass is one item
+abbrev pub tops : PassKind → Forest → (grain : ℕ) → List Path
+tops topdown t grain = filter (begins t grain) (preorder t)
+tops bottomup t grain = reverse (filter (begins t grain) (preorder t))
+tops inorder t grain = top ∷ []

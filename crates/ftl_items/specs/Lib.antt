@@ -1,0 +1,5 @@
+pub mod Cut
+pub mod Visits
+pub mod Items
+pub mod StageWork
+pub mod Limits

@@ -1,0 +1,6 @@
+//! The items of a stage, as definitions and laws without code. Goes in: a grammar with its names
+//! gone and a tree of `ftl_model`, and a schedule of `ftl_order`. Comes out: `specs/Cut.antt`,
+//! where items begin; `specs/Visits.antt`, the steps of a visit; `specs/Items.antt`, the items of a
+//! stage with their steps and what each hands on to; `specs/StageWork.antt`, the work of a stage
+//! in the words of `ftl_cells`; `specs/Limits.antt`, how much a stage reads.
+#![tactic(auto)]

@@ -1,0 +1,3 @@
+pub mod TargetTests
+pub mod FirstRules
+pub mod Children
