@@ -72,7 +72,7 @@ own_end g n (x ∷ xs) = own_end g n xs
 -- ---- how many there are
 
 -- lists of the same lengths, with and without numbers
-counted : {X Y Z : Type 0} (f : X → List Y) (h : ℕ → Y → Z) (s : ℕ) (xs : List X)
+pub counted : {X Y Z : Type 0} (f : X → List Y) (h : ℕ → Y → Z) (s : ℕ) (xs : List X)
     → length (flat_map (λ x. map (h x.0) (f x.1)) (numbered s xs)) ≡ length (flat_map f xs)
 counted f h s [] = refl
 counted f h s (x ∷ xs) =

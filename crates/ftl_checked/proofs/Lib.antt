@@ -14,3 +14,4 @@ pub mod RuleInfos
 pub mod Seconds
 pub mod NameLists
 pub mod AttrInfos
+pub mod Standing

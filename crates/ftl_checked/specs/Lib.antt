@@ -14,3 +14,4 @@ pub mod NameFaults
 pub mod Kept
 pub mod ReadNumbers
 pub mod Told
+pub mod RuleNames

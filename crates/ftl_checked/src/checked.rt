@@ -1,24 +1,28 @@
 //! A lawful grammar, with its numbers.
-ghost use Rattle.std.specs.Prelude.{◌≡◌, ◌<◌, None, length};
+ghost use Rattle.std.specs.Prelude.{◌≡◌, ◌<◌, None, length, IfOk};
 ghost use Rattle.ftl_checked.specs.Checked.{all_attributes, all_rules, attribute_at};
 ghost use Rattle.ftl_checked.specs.Checked.{attribute_info, attribute_named};
 ghost use Rattle.ftl_checked.specs.Checked.{child_info, class_named, field_named};
-ghost use Rattle.ftl_checked.specs.Checked.{rule_told};
+ghost use Rattle.ftl_checked.specs.Checked.{owner_name_of, rule_told};
 ghost use Rattle.ftl_checked.specs.Counts.{HasSmallCounts};
 ghost use Rattle.ftl_checked.specs.FirstFault.{first_fault};
 ghost use Rattle.ftl_checked.specs.Kept.{IsKept};
 ghost use Rattle.ftl_checked.specs.Numbering.{class_at, child_at, interface_number, interface_of};
+ghost use Rattle.ftl_checked.specs.RuleNames.{rule_name_at};
 ghost use Rattle.ftl_checked.specs.Tables.{tables_of};
 
 use crate::fields::field_in;
 use crate::find::{child_of, class_table};
 use crate::info::{AttrInfo, ChildInfo, Field, RuleInfo};
+use crate::named::{attr_name, owner_name, rule_name};
+use crate::rule_name::RuleName;
 use crate::scheduled::attribute_in;
 use crate::tables::Tables;
 use ftl_base::Width;
 use ftl_syntax::Grammar;
 use ftl_tokens::Name;
 use sqlite_items::Items;
+use std::alloc::{AllocError, Global};
 use std::marker::Model;
 
 /// A lawful grammar with the width of its numbers. Contracts see both.
@@ -137,6 +141,23 @@ impl Checked {
         self.attrs.as_slice()[attr as usize]
     }
 
+    /// The name of an attribute.
+    pub fn attr_name(&self, attr: u32) -> &Name
+        requires within { attr < length (all_attributes self.now.grammar) }
+        ensures name { result.now ≡ (attribute_at self.now.grammar attr).decl.name }
+    {
+        attr_name(&self.grammar, &self.tables, self.attr(attr), attr)
+    }
+
+    /// The name of the interface or class that declares an attribute.
+    pub fn owner_name(&self, attr: u32) -> &Name
+        requires within { attr < length (all_attributes self.now.grammar) }
+        ensures name { result.now
+            ≡ owner_name_of self.now.grammar (attribute_at self.now.grammar attr) }
+    {
+        owner_name(&self.grammar, self.attr(attr), attr)
+    }
+
     pub fn class_name(&self, class: u32) -> &Name
         requires within { class < length self.now.grammar.classes }
         ensures name { result.now ≡ (class_at self.now.grammar class).name }
@@ -167,6 +188,14 @@ impl Checked {
         ensures info { result ≡ rule_told self.now.grammar rule }
     {
         self.rules.as_slice()[rule as usize]
+    }
+
+    /// What a rule defines, by name, as faults name it.
+    pub fn rule_name(&self, alloc: Global, rule: u32) -> Result<RuleName, AllocError>
+        requires within { rule < length (all_rules self.now.grammar) }
+        ensures name { IfOk result (λ r. r ≡ rule_name_at self.now.grammar rule) }
+    {
+        rule_name(alloc, &self.grammar, self.rule(rule).class, rule)
     }
 
     /// The class of this name.

@@ -15,6 +15,7 @@ mod find;
 mod forms;
 mod info;
 mod limits;
+mod named;
 mod names;
 mod needs;
 mod numbered_read;
