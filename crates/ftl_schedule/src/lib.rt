@@ -2,6 +2,9 @@
 //! here in one place; `ftl_schedule_reading` says what is read, `ftl_verify` what is accepted.
 #![tactic(auto)]
 
+mod laws;
+
 pub use ftl_schedule_reading::{ScheduleFault, read_schedule};
 pub use ftl_stages::{AttrList, Pass, PassKind, PassList, Schedule, Stage, StageList};
 pub use ftl_verify::{Accepted, Spot, VerifyFault, verify};
+pub use laws::computed_entries;
