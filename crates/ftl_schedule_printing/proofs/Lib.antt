@@ -1,0 +1,2 @@
+mod DistinctNames
+mod NamedAgain

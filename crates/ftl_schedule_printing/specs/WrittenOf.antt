@@ -1,0 +1,28 @@
+-- The written schedule that a schedule by number stands for: each attribute by its owner's name and its own.
+use Rattle.std.specs.Prelude.{ℕ, map}
+use Rattle.ftl_syntax.specs.declared.rules.Grammar.{Grammar}
+use Rattle.ftl_checked.specs.Checked.{attribute_at, owner_name_of}
+use Rattle.ftl_schedule_syntax.specs.Trees.{attribute_name, written_pass, written_schedule, written_stage}
+use Rattle.ftl_schedule_syntax.specs.declared.types.AttributeName.{AttributeName}
+use Rattle.ftl_schedule_syntax.specs.declared.types.WrittenPass.{WrittenPass}
+use Rattle.ftl_schedule_syntax.specs.declared.types.WrittenStage.{WrittenStage}
+use Rattle.ftl_schedule_syntax.specs.declared.types.WrittenSchedule.{WrittenSchedule}
+use Rattle.ftl_stages.specs.declared.types.Pass.{Pass}
+use Rattle.ftl_stages.specs.declared.types.Stage.{Stage}
+use Rattle.ftl_stages.specs.declared.types.Schedule.{Schedule}
+
+-- an attribute by the name of the interface or class that declares it, and its own
+abbrev pub name_of : Grammar → (attribute : ℕ) → AttributeName
+name_of g a = attribute_name (owner_name_of g (attribute_at g a)) (attribute_at g a).decl.name
+
+-- a pass
+abbrev pub pass_by_name : Grammar → Pass → WrittenPass
+pass_by_name g p = written_pass p.kind (map (name_of g) p.attrs)
+
+-- a stage
+abbrev pub stage_by_name : Grammar → Stage → WrittenStage
+stage_by_name g s = written_stage (map (pass_by_name g) s.passes)
+
+-- a schedule
+abbrev pub written_of : Grammar → Schedule → WrittenSchedule
+written_of g s = written_schedule (map (stage_by_name g) s.stages)

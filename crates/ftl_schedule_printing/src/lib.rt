@@ -1,0 +1,8 @@
+//! The canonical text of a schedule whose attributes are numbers of a grammar. Goes in: a grammar
+//! that `ftl_checked` accepted, and a schedule. `specs/WrittenOf.antt` says which written schedule
+//! it stands for; `ftl_schedule_text` has the text of that.
+#![tactic(auto)]
+
+mod laws;
+
+pub use laws::printed_schedules;
