@@ -1,6 +1,6 @@
-use crate::compiled::{compile_text, run_part};
+use crate::compiled::{compile_text, run_part, run_twice};
 use ftl_base::{CodeStack, Val, Width};
-use ftl_visit::{Part, Runner, StepPlace, step_place};
+use ftl_visit::{Part, StepPlace, step_place};
 use std::alloc::{AllocError, Global};
 use std::test::Fail;
 
@@ -34,12 +34,36 @@ static RUNS: [Run; 18] = [
     (2, Part::Plain, &[Some(Some(9))], 0, Some(Some(9))),
     (2, Part::Plain, &[Some(None)], 0, Some(None)),
     (2, Part::Plain, &[None], 0, Some(Some(7))),
-    (3, Part::Plain, &[Some(Some(-1)), Some(Some(-1))], 0, Some(Some(1))),
-    (3, Part::Plain, &[Some(Some(1)), Some(Some(1))], 0, Some(None)),
-    (3, Part::Plain, &[Some(Some(0)), Some(Some(0))], 0, Some(Some(2147483647))),
+    (
+        3,
+        Part::Plain,
+        &[Some(Some(-1)), Some(Some(-1))],
+        0,
+        Some(Some(1)),
+    ),
+    (
+        3,
+        Part::Plain,
+        &[Some(Some(1)), Some(Some(1))],
+        0,
+        Some(None),
+    ),
+    (
+        3,
+        Part::Plain,
+        &[Some(Some(0)), Some(Some(0))],
+        0,
+        Some(Some(2147483647)),
+    ),
     (3, Part::Plain, &[Some(None), Some(Some(0))], 0, Some(None)),
     (4, Part::First, &[], 0, Some(Some(5))),
-    (4, Part::Then, &[Some(Some(5)), Some(Some(6))], 0, Some(Some(-1))),
+    (
+        4,
+        Part::Then,
+        &[Some(Some(5)), Some(Some(6))],
+        0,
+        Some(Some(-1)),
+    ),
     (5, Part::Plain, &[], 0, None),
 ];
 
@@ -64,17 +88,23 @@ fn vals(alloc: Global, list: &[Option<Number>]) -> Result<Vec<Option<Val>>, Allo
 #[test]
 fn parts_of_rules(rt: HostRuntime) -> Result<(), Fail> {
     let alloc = rt.alloc();
-    let Some(programs) = compile_text(alloc, TEXT, Width::Narrow)? else {
-        return Err(Fail);
+    let narrow = compile_text(alloc, TEXT, Width::Narrow)?;
+    assert_eq!(rt; narrow.is_some(), true);
+    let Some(programs) = narrow else {
+        return Ok(());
     };
-    assert_eq!(rt; programs.max_stack(), 2);
+    assert_eq!(rt; programs.max_stack(), 3);
     for &(rule, part, reads, acc, value) in &RUNS {
         let reads = vals(alloc, reads)?;
         let given = run_part(alloc, &programs, rule, part, &reads, Val::num(acc))?;
         assert_eq!(rt; given, value);
     }
-    let Some(wide) = compile_text(alloc, TEXT, Width::Wide)? else {
-        return Err(Fail);
+    let counted = run_twice(alloc, &programs, 4, Part::First, &[], Val::num(0))?;
+    assert_eq!(rt; counted, Some((2, Some(5))));
+    let wide = compile_text(alloc, TEXT, Width::Wide)?;
+    assert_eq!(rt; wide.is_some(), true);
+    let Some(wide) = wide else {
+        return Ok(());
     };
     let reads = [Some(Val::num(1)), Some(Val::num(1))];
     let given = run_part(alloc, &wide, 3, Part::Plain, &reads, Val::num(0))?;
