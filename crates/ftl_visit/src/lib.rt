@@ -9,5 +9,6 @@ mod places;
 
 pub use counted::Runner;
 pub use ftl_programs::{Code, Part, Programs, compile, has_code, run_code};
+pub use ftl_visit_list::{RuleIndex, VisitOp, VisitOps, visit_list};
 pub use laws::parts_give_the_rule;
 pub use places::{StepPlace, step_place};
