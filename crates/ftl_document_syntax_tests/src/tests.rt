@@ -1,3 +1,5 @@
+ghost use Rattle.std.specs.Prelude.{◌≡◌, ◌⊎◌};
+
 use ftl_document_syntax::{WrittenDocument, WrittenRow, read_written_document};
 use ftl_tokens::document_tokens;
 use std::fmt::Write;
