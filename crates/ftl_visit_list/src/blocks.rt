@@ -203,10 +203,7 @@ fn add_rule(rule: Option<u32>, ops: &mut VisitOps) -> Result<(), AllocError>
 }
 
 /// The kind of an attribute; past the end that of an input.
-#[tactic(auto, using(
-    ftl_dep_table::proofs::AttrKinds::kind_within,
-    ftl_dep_table::proofs::AttrKinds::kind_past
-))]
+#[tactic(auto, using(ftl_dep_table::proofs::AttrKinds::kind_within, ftl_dep_table::proofs::AttrKinds::kind_past))]
 fn kind_of(checked: &Checked, attr: u32) -> AttrKind
     ensures kind { result ≡ (attribute_at checked.now.grammar attr).kind }
 {
