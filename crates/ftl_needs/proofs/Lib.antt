@@ -1,0 +1,3 @@
+pub mod NeedTests
+pub mod PickedLists
+pub mod NextPass
