@@ -1,3 +1,5 @@
 pub mod NeedTests
 pub mod PickedLists
 pub mod NextPass
+pub mod PassChains
+pub mod StagePush

@@ -85,8 +85,10 @@ module _ (g : AttributeGrammar) (law : IsLawful g) (kind : PassKind) (n : Needs)
     where
       w : RuleName
       w = rule_at g r
+
       d : DepRead
       d = read_at (rule_reads g w) k
+
       by : (o : Option ℕ) → first_writer g (class_of_rule w) d ≡ o
           → unordered_writer g (placing_after done kind list) w d ≡ None
       by None e =
@@ -143,6 +145,7 @@ module _ (g : AttributeGrammar) (law : IsLawful g) (kind : PassKind) (n : Needs)
           (free_read list (rows_met list m) r known
           (of_row (visit_place g (rule_at g r)).attribute (m.not_done (visit_place g (rule_at g r)).attribute there)) there
           at_k.0 at_k.1)))
+
       free_rule : (w : RuleName) → Contains g.rules w → Contains list (visit_place g w).attribute
           → reads_fault g (placing_after done kind list) (0, w) ≡ None
       free_rule w in_rules there =

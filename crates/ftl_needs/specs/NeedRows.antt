@@ -1,5 +1,6 @@
 -- Rows of what the attributes of a grammar ask of one another.
-use Rattle.std.specs.Prelude.{◌≡◌, ◌⊎◌, ◌↔◌, ℕ, true, List, Contains}
+use Rattle.std.specs.Prelude.{◌≡◌, ◌⊎◌, ◌↔◌, ℕ, true, false, List, Contains}
+use Rattle.std.specs.FinSet as set
 use Rattle.lane_rows.specs.Matrix.{entry}
 use Rattle.ftl_model.specs.AttributeGrammar.{AttributeGrammar}
 use Rattle.ftl_order.specs.Schedule.{PassKind, bottomup, inorder, topdown}
@@ -37,3 +38,7 @@ pub record AreUsable (t : Tables) (all : Row) (size : ℕ) : Type 0 where
   pub up_whole : AreWhole t.up all
   pub in_order_sized : AreSized t.in_order all size
   pub in_order_whole : AreWhole t.in_order all
+
+-- each entry is of one row and not of another
+abbrev pub AreNew : (all done : Row) → List ℕ → Type 0
+AreNew all done list = (a : ℕ) → Contains list a → Has all a × (set.contains done a ≡ false)

@@ -1,10 +1,12 @@
-//! What attributes need in each kind of pass. Goes in: a grammar that `ftl_checked` accepted, and the
-//! table of what its rules read. Comes out: rows of bits, by `specs/Need.antt`; by them the lists of
-//! the next pass are found.
+//! What attributes need in each kind of pass, and the chain of passes. Goes in: rows of bits that
+//! say what attributes need, by `specs/Need.antt`. Comes out: the chain of passes of each grammar
+//! that the rows are of, and what they take.
 #![tactic(auto)]
 
 mod laws;
 mod next;
+mod passes;
 
 pub use laws::picks_are_lists;
 pub use next::{Tables, next_pass};
+pub use passes::find_passes;

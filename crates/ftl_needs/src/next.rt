@@ -6,7 +6,7 @@ ghost use Rattle.ftl_order.specs.Lawful.{IsLawful};
 ghost use Rattle.ftl_automatic.specs.Automatic.{IsNext};
 ghost use Rattle.ftl_picks.specs.Rows.{AreSized, AreWhole};
 ghost use Rattle.ftl_stages.specs.Stages.{pass_of};
-ghost use Rattle.ftl_needs.specs.NeedRows.{AreTablesOf, AreUsable, HasComputed, IsRowOf};
+ghost use Rattle.ftl_needs.specs.NeedRows.{AreNew, AreTablesOf, AreUsable, HasComputed, IsRowOf};
 
 use ftl_picks::{Needs, list_of};
 use ftl_stages::{Pass, PassKind};
@@ -33,25 +33,25 @@ pub fn next_pass(
     ensures next { (g : AttributeGrammar) (list : List ℕ) → IsLawful g → AreTablesOf g tables.now
         → HasComputed g all.now → IsRowOf list done.now
         → IfOk result (λ pass. IsNext g list (pass_of pass)) }
+    ensures new { IfOk result (λ pass. AreNew all.now done.now pass.attrs) }
 {
     let down = list_of(alloc, &tables.down, size, all, done)?;
     let up = list_of(alloc, &tables.up, size, all, done)?;
-    if down.is_empty() && up.is_empty() {
-        let attrs = list_of(alloc, &tables.in_order, size, all, done)?;
+    if down.len() < up.len() {
         return Ok(Pass {
-            kind: PassKind::InOrder,
-            attrs,
-        });
-    }
-    if up.len() <= down.len() {
-        Ok(Pass {
-            kind: PassKind::TopDown,
-            attrs: down,
-        })
-    } else {
-        Ok(Pass {
             kind: PassKind::BottomUp,
             attrs: up,
-        })
+        });
     }
+    if !down.is_empty() {
+        return Ok(Pass {
+            kind: PassKind::TopDown,
+            attrs: down,
+        });
+    }
+    let attrs = list_of(alloc, &tables.in_order, size, all, done)?;
+    Ok(Pass {
+        kind: PassKind::InOrder,
+        attrs,
+    })
 }

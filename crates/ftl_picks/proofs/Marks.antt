@@ -204,3 +204,33 @@ pub at_in : (xs : List ℕ) (n : ℕ) → n < length xs → Contains xs (get_or 
 at_in [] n h = absurd (let z : ⊥ = omega (arith, h) in z)
 at_in (x ∷ xs) zero h = here_in x xs
 at_in (x ∷ xs) (suc n) h = later_in x (get_or xs n 0) xs (at_in xs n (omega (arith, h)))
+
+missing_most : (n : ℕ) (small big : Row) → ((b : ℕ) → Has small b → Has big b) → missing n big ≤ missing n small
+missing_most zero small big more = omega arith
+missing_most (suc n) small big more =
+    let first = lacks_less (set.contains small n) (set.contains big n) (more n) in
+    let rest = missing_most n small big more in
+    omega (arith, first, rest)
+
+missing_covers : (n : ℕ) (small big : Row) (a : ℕ) → a < n → set.contains small a ≡ false → Has big a
+    → ((b : ℕ) → Has small b → Has big b) → missing n big < missing n small
+missing_covers zero small big a h out there more = absurd (let z : ⊥ = omega (arith, h) in z)
+missing_covers (suc n) small big a h out there more =
+    ⊎_elim
+    (λ less.
+    let first = lacks_less (set.contains small n) (set.contains big n) (more n) in
+    let rest = missing_covers n small big a less out there more in
+    omega (arith, first, rest))
+    (λ same_or_more.
+    let same : n ≡ a = omega (arith, h, same_or_more) in
+    let gone : lacks (set.contains big n) ≡ 0 = ap lacks (subst (λ m. Has big m) (sym same) there) in
+    let one : lacks (set.contains small n) ≡ 1 = ap lacks (subst (λ m. set.contains small m ≡ false) (sym same) out) in
+    let rest = missing_most n small big more in
+    omega (arith, gone, one, rest))
+    (cases_lt a n)
+
+-- a row with all of another and one more lacks fewer
+pub lacking_covers : (small big : Row) (a : ℕ) → a < 2048 → set.contains small a ≡ false → Has big a
+    → ((b : ℕ) → Has small b → Has big b) → lacking big < lacking small
+unfolding lacking
+lacking_covers small big a h out there more = missing_covers 2048 small big a h out there more
