@@ -3,3 +3,4 @@ pub mod PickedLists
 pub mod NextPass
 pub mod PassChains
 pub mod StagePush
+pub mod Left

@@ -1,21 +1,19 @@
 -- A read is ordered in the next pass exactly where the need of its writer is met.
 use Rattle.std.proofs.Common.{◌≡◌, ◌≢◌, ◌⊎◌, ℕ, ◌<◌, ◌==◌, ◌||◌, ◌&&◌, Bool, true, false, nat_lt, if◌then◌else◌, refl, sym, ◌∙◌}
-use Rattle.std.proofs.Common.{ap, ap₂, subst, inl, inr, ⊎_elim, arith, eq-eqb, ne_eqb, eqb-true, List, Contains}
-use Rattle.std.proofs.lemmas.Bool.{cases_Bool, cases_eq, cases_lt, false_from_ne_true, le-ltb, lt-ltb, ltb-true, true≢false}
+use Rattle.std.proofs.Common.{ap, ap₂, subst, inl, inr, ⊎_elim, arith, eq-eqb, ne_eqb, List, Contains}
+use Rattle.std.proofs.lemmas.Bool.{cases_eq, cases_lt, false_from_ne_true, le-ltb, lt-ltb, ltb-true, true≢false}
 use Rattle.ftl_lists.specs.Lists.{is_listed, place_in}
-use Rattle.ftl_lists.proofs.Listed.{is_there, listed}
-use Rattle.ftl_model.specs.AttributeGrammar.{AttributeGrammar, RuleName}
-use Rattle.ftl_order.specs.Ordered.{VisitPlace, visit_place}
+use Rattle.ftl_lists.proofs.Listed.{is_there}
+use Rattle.ftl_order.specs.Ordered.{VisitPlace}
 use Rattle.ftl_order.specs.Schedule.{PassKind, Placing, bottomup, inorder, topdown}
 use Rattle.ftl_deps.specs.declared.dep_read.DepRead.{DepRead}
 use Rattle.ftl_deps.specs.declared.dep_read.Site.{Site}
 use Rattle.ftl_deps.specs.declared.dep_read.Site.TheVariants as sites
-use Rattle.ftl_schedule_faults.specs.OrderedReads.{has_earlier_block, has_smaller_key, in_pass_by, is_ordered_read, is_same_block}
-use Rattle.ftl_schedule_faults.specs.OrderedReads.{is_same_rule}
+use Rattle.ftl_schedule_faults.specs.OrderedReads.{has_earlier_block, has_smaller_key, in_pass_by, is_same_block}
 use Rattle.ftl_automatic.specs.Fitting.{placing_after, stage_after}
 use Rattle.ftl_automatic.proofs.Needs.{stage_of_done, stage_of_next}
 use Rattle.ftl_automatic.proofs.Turns.{cases_in, same_place}
-use Rattle.ftl_needs.specs.Need.{Need, beside, done_before, earlier, in_pass_with, in_visit_with, need_by, need_of}
+use Rattle.ftl_needs.specs.Need.{Need, beside, done_before, earlier, in_pass_with, need_by, need_of}
 
 -- the keys are all that the row asks of the places
 by_key : (s : Site) (kind : PassKind) (at : Placing) (d : DepRead) (x y : VisitPlace)

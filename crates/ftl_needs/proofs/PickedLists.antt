@@ -1,12 +1,10 @@
 -- What meets the needs of a kind by its rows is what fits it.
-use Rattle.std.proofs.Common.{◌≡◌, ◌⊎◌, ◌↔◌, ℕ, ◌<◌, Bool, true, false, if◌then◌else◌, refl, sym, ◌∙◌, ap, subst, inl, inr}
-use Rattle.std.proofs.Common.{⊎_elim, arith, List, [], Contains, length, get_or, Option, Some, None}
+use Rattle.std.proofs.Common.{◌≡◌, ℕ, ◌<◌, Bool, true, false, if◌then◌else◌, refl, sym, ◌∙◌, ap, subst, inl, inr}
+use Rattle.std.proofs.Common.{⊎_elim, List, [], Contains, length, get_or, Option, Some, None}
 use Rattle.std.specs.FinSet as set
-use Rattle.std.proofs.lemmas.Bool.{cases_Bool, false_from_ne_true, true≢false}
+use Rattle.std.proofs.lemmas.Bool.{false_from_ne_true, true≢false}
 use Rattle.std.proofs.lemmas.List.Elements.{Contains-get_or}
-use Rattle.lane_rows.specs.Matrix.{entry}
 use Rattle.lane_rows.proofs.Rows.{get_or-any}
-use Rattle.ftl_lists.specs.Lists.{place_in}
 use Rattle.ftl_model.specs.AttributeGrammar.{AttributeGrammar, RuleName, for_self}
 use Rattle.ftl_order.specs.Lawful.{IsLawful, class_of_rule}
 use Rattle.ftl_order.specs.Ordered.{visit_place}
@@ -20,13 +18,13 @@ use Rattle.ftl_schedule_faults.proofs.Along.{along_none, none_along}
 use Rattle.ftl_schedule_faults.proofs.Pairs.{no_fault_by, reader_free, reader_ordered}
 use Rattle.ftl_verify.specs.RuleAt.{read_at, rule_at}
 use Rattle.ftl_verify.proofs.FirstWriters.{first_tells, late_writer}
-use Rattle.ftl_automatic.specs.Fitting.{Fits, HasAll, IsComputed, IsListOf, placing_after}
+use Rattle.ftl_automatic.specs.Fitting.{Fits, IsListOf, placing_after}
 use Rattle.ftl_picks.specs.Picks.{IsPick, MeetsNeeds}
-use Rattle.ftl_picks.specs.Rows.{Has, Row}
+use Rattle.ftl_picks.specs.Rows.{Row}
 use Rattle.ftl_picks.specs.declared.needs.Needs.{Needs}
 use Rattle.ftl_needs.specs.Need.{Asks, Need, beside, done_before, earlier, need_of}
 use Rattle.ftl_needs.specs.NeedRows.{AreNeedsOf, HasComputed, IsRowOf}
-use Rattle.ftl_needs.proofs.NeedTests.{MetInList, MetNeed, met_ordered, ordered_met}
+use Rattle.ftl_needs.proofs.NeedTests.{MetNeed, met_ordered, ordered_met}
 
 -- an entry has a place, by any default
 at_place : {X : Type 0} (xs : List X) (x d : X) → Contains xs x

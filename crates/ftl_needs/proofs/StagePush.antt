@@ -1,5 +1,5 @@
 -- Stages of which one more is put at the end.
-use Rattle.std.proofs.Common.{◌≡◌, List, [], ◌∷◌, ◌++◌, map, sym, ◌∙◌, ap}
+use Rattle.std.proofs.Common.{◌≡◌, List, [], ◌∷◌, ◌++◌, map, ◌∙◌, ap}
 use Rattle.std.proofs.lemmas.List.{map-append}
 use Rattle.ftl_stages.specs.Stages.{pass_of, stages_of}
 use Rattle.ftl_stages.specs.declared.types.Pass.{Pass}

@@ -1,4 +1,4 @@
-use Rattle.std.proofs.Common.{◌≡◌, ℕ, ◌<◌, ◌≤◌, length, arith}
+use Rattle.std.proofs.Common.{arith}
 use Rattle.ftl_order.specs.Schedule.{bottomup, inorder, topdown}
 use Rattle.ftl_needs.proofs.NextPass.{is_empty, not_empty, next_down, next_in_order, next_up}
 use Rattle.ftl_needs.proofs.PickedLists.{picked_list}

@@ -1,7 +1,7 @@
-use Rattle.std.proofs.Common.{◌≡◌, ◌<◌, get_or, take, refl, ◌+◌, ap, ◌∙◌, add-one}
+use Rattle.std.proofs.Common.{get_or, take, ◌+◌, ap, ◌∙◌, add-one}
 use Rattle.std.proofs.Math.Seq.{take-suc}
 use Rattle.ftl_picks.proofs.Marks.{at_in}
-use Rattle.ftl_needs.proofs.PassChains.{added_more, added_none}
+use Rattle.ftl_needs.proofs.PassChains.{added_more}
 use Rattle.ftl_needs.proofs.passes.add_all.Goals as goal
 
 pub put-requires : goal.put-requires

@@ -1,9 +1,6 @@
-use Rattle.std.proofs.Common.{◌≡◌, ◌≢◌, ◌↔◌, ◌⊎◌, ℕ, ◌<◌, ◌++◌, List, [], ◌∷◌, map, length, sym, ◌∙◌, ap, subst, arith, Contains, true, false, refl}
-use Rattle.std.specs.FinSet as set
+use Rattle.std.proofs.Common.{◌↔◌, ◌⊎◌, ℕ, List, sym, ◌∙◌, ap, subst, arith, Contains}
 use Rattle.std.proofs.lemmas.Bool.{true≢false}
-use Rattle.std.proofs.lemmas.List.{map-append}
 use Rattle.ftl_stages.specs.Stages.{pass_of, stages_of}
-use Rattle.ftl_stages.specs.declared.types.Stage.{Stage}
 use Rattle.ftl_automatic.specs.Automatic.{IsChain}
 use Rattle.ftl_picks.specs.Rows.{Has, Row}
 use Rattle.ftl_needs.proofs.PassChains.{IsPassing, fewer_lacking, passing_end, passing_more, passing_none}
