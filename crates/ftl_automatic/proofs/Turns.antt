@@ -10,10 +10,10 @@ use Rattle.ftl_lists.proofs.Places.{place_is, place_within}
 use Rattle.ftl_lists.proofs.Rising.{Rising, rising_at, rising_more}
 
 -- by the first entry
-place_first : (x : ℕ) (xs : List ℕ) → place_in (x ∷ xs) x ≡ 0
+pub place_first : (x : ℕ) (xs : List ℕ) → place_in (x ∷ xs) x ≡ 0
 place_first x xs = ap (λ b. if b then 0 else suc (place_in xs x)) (eq-eqb x x refl)
 
-place_later : (x a : ℕ) (xs : List ℕ) → a ≢ x → place_in (x ∷ xs) a ≡ suc (place_in xs a)
+pub place_later : (x a : ℕ) (xs : List ℕ) → a ≢ x → place_in (x ∷ xs) a ≡ suc (place_in xs a)
 place_later x a xs other = ap (λ b. if b then 0 else suc (place_in xs a)) (ne_eqb a x other)
 
 pub same_place : (xs : List ℕ) (a b : ℕ) → Contains xs a → Contains xs b → place_in xs a ≡ place_in xs b → a ≡ b

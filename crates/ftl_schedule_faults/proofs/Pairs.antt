@@ -26,7 +26,7 @@ holds_else writes true w none = refl
 holds_else true false w none = absurd (none refl)
 holds_else false false w none = absurd (false≢true w)
 
-no_fault_by : (n : ℕ) (o : Option ℕ) → fault_by n o ≡ None → o ≡ None
+pub no_fault_by : (n : ℕ) (o : Option ℕ) → fault_by n o ≡ None → o ≡ None
 no_fault_by n None e = refl
 no_fault_by n (Some v) e = cc
 

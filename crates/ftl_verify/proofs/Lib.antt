@@ -1,6 +1,6 @@
 mod FaultsAlong
 mod AttributeKinds
 mod OneWriter
-mod FirstWriters
-mod RuleCount
+pub mod FirstWriters
+pub mod RuleCount
 mod AcceptedLaws

@@ -1,5 +1,5 @@
 ghost use Rattle.std.specs.Prelude.{◌≡◌, ◌<◌, ◌≤◌, ◌↔◌, ◌==◌, ◌&&◌, ◌||◌, if◌then◌else◌};
-ghost use Rattle.std.specs.Prelude.{ℕ, true, false, length, IfOk};
+ghost use Rattle.std.specs.Prelude.{ℕ, true, false, length, slice_index_or, IfOk};
 ghost use Rattle.std.specs.FinSet as set;
 ghost use Rattle.lane_rows.specs.Matrix.{entry, Leads};
 
@@ -67,6 +67,14 @@ impl BitMatrix {
         ensures member { result ≡ entry self.now from to }
     {
         self.rows[from as usize].has(to)
+    }
+
+    /// The numbers that a number has entries to.
+    pub fn row(&self, from: u32) -> &BitRow
+        requires from { from < length self.now }
+        ensures row { result.now ≡ slice_index_or self.now from set.empty }
+    {
+        &self.rows[from as usize]
     }
 
     /// Adds an entry wherever a walk of entries leads.

@@ -1,0 +1,4 @@
+pub mod Need
+pub mod NeedRows
+pub mod NeedLaws
+pub mod Outcomes

@@ -1,0 +1,4 @@
+pub mod Turns
+pub mod Leaving
+pub mod Marks
+pub mod Ordering

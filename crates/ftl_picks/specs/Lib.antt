@@ -1,0 +1,4 @@
+pub mod Rows
+pub mod Picks
+pub mod Turns
+pub mod Staying
