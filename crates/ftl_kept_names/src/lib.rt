@@ -1,0 +1,8 @@
+//! Why nothing of a grammar is lost where its names go. Goes in: written grammars and their first
+//! fault, by `ftl_checked`, and their meaning, by `ftl_meaning`. Comes out: laws, stated by empty
+//! functions, in the words of `specs/`. There is no code here.
+#![tactic(auto)]
+
+mod kept;
+
+pub use kept::{attributes_are_kept, children_are_kept, classes_are_kept, shown_names_are_kept};
