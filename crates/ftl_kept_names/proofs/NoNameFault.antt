@@ -1,19 +1,17 @@
 -- In a grammar without a fault names stand for something, and each for one thing.
-use Rattle.std.proofs.Common.{◌≡◌, ℕ, ◌<◌, Bool, true, false, not, refl, sym, ◌∙◌, ap, subst, List, [], ◌∷◌, ◌++◌, length, get_or, map, Contains, Option, Some, None}
-use Rattle.std.specs.List.{AllByRecursion, slice_get}
+use Rattle.std.proofs.Common.{◌≡◌, ℕ, ◌<◌, not, refl, sym, ◌∙◌, ap, subst, List, [], ◌∷◌, ◌++◌, length, get_or, Contains, Option, Some, None}
+use Rattle.std.specs.List.{AllByRecursion}
 use Rattle.std.specs.Option.{option_map}
 use Rattle.std.specs.Str.{bytes_eq}
 use Rattle.std.proofs.lemmas.Bool.{not-false}
 use Rattle.std.proofs.lemmas.List.{get_or-map, length-map}
-use Rattle.std.proofs.lemmas.List.Elements.{Contains-get_or}
 use Rattle.std.proofs.lemmas.List.Sums.{passes_at_first}
 use Rattle.std.proofs.lemmas.Option.{get_or_from_slice_get, none-some, slice_get-get_or, slice_get_within}
 use Rattle.ftl_syntax.specs.Trees as trees
 use Rattle.ftl_syntax.specs.Trees.{NameText}
-use Rattle.ftl_syntax.specs.declared.rules.Class.{Class}
 use Rattle.ftl_syntax.specs.declared.rules.Grammar.{Grammar}
 use Rattle.ftl_syntax.specs.declared.rules.Interface.{Interface}
-use Rattle.ftl_checked.specs.FirstFault.{attribute_names, class_fault, fault_if, first_fault, first_of, first_there, interfaces_named, limit_fault, name_fault, root_inherits, second_name, twice_among, twice_in_class, twice_in_interface, unknown_among}
+use Rattle.ftl_checked.specs.FirstFault.{attribute_names, class_fault, fault_if, first_fault, first_of, interfaces_named, limit_fault, name_fault, root_inherits, second_name, twice_among, twice_in_class, twice_in_interface, unknown_among}
 use Rattle.ftl_checked.specs.Numbering.{class_names, interface_at, interface_names, interface_number, is_among, numbered}
 use Rattle.ftl_checked.specs.declared.fault.GrammarFault.{GrammarFault}
 use Rattle.ftl_checked.specs.declared.fault.GrammarFault.TheVariants as fault

@@ -1,11 +1,11 @@
 -- The attributes of an interface that are printed.
-use Rattle.std.proofs.Common.{◌≡◌, ◌↔◌, ℕ, suc, ◌+◌, ◌<◌, Bool, true, false, cond, refl, sym, ◌∙◌, ap, subst, arith, List, [], ◌∷◌, length, get_or, map, take, filter, Contains, Some, None}
+use Rattle.std.proofs.Common.{◌≡◌, ◌↔◌, ℕ, suc, ◌+◌, ◌<◌, Bool, true, false, cond, sym, ◌∙◌, ap, subst, arith, List, [], ◌∷◌, length, get_or, map, take, filter, Contains, Some, None}
 use Rattle.std.specs.List.{slice_get}
 use Rattle.std.proofs.lemmas.List.{get_or-map, length-map}
 use Rattle.std.proofs.lemmas.List.Elements.{Contains-get_or}
 use Rattle.std.proofs.lemmas.Option.{get_or_from_slice_get, slice_get_within}
 use Rattle.ftl_lists.proofs.Elements.{filter_has, in_filter}
-use Rattle.ftl_lists.proofs.Rising.{Mapped, Rising, in_map, map_has, rising-map}
+use Rattle.ftl_lists.proofs.Rising.{Rising, in_map, map_has, rising-map}
 use Rattle.ftl_syntax.specs.Trees as trees
 use Rattle.ftl_syntax.specs.Trees.{NameText}
 use Rattle.ftl_syntax.specs.declared.rules.AttrDecl.{AttrDecl}
@@ -13,10 +13,10 @@ use Rattle.ftl_syntax.specs.declared.rules.Grammar.{Grammar}
 use Rattle.ftl_syntax.specs.declared.rules.Interface.{Interface}
 use Rattle.ftl_checked.specs.FirstFault.{attribute_names, first_fault}
 use Rattle.ftl_checked.specs.Numbering.{interface_at, interface_of, is_among, numbered, shared_attributes, shared_count}
-use Rattle.ftl_meaning.specs.GrammarOf.{attribute_at, grammar_of, names_of, shown_attributes}
+use Rattle.ftl_meaning.specs.GrammarOf.{attribute_at, names_of, shown_attributes}
 use Rattle.ftl_lawful.proofs.Numbers.{in_numbered, numbered_has, shared_at}
-use Rattle.ftl_kept_names.specs.Places.{IsInterface}
-use Rattle.ftl_kept_names.specs.Shown.{IsClassUnder, IsShownOnce, OfClassesUnder, Rises, ShowsEachName, ShowsInOrder, ShowsItsNames, ShowsItsOwn}
+use Rattle.ftl_kept_names.specs.Places.{IsInterface, OfMeanings, OfRightMeanings}
+use Rattle.ftl_kept_names.specs.Shown.{IsShownOnce, Rises, ShowsEachName, ShowsInOrder, ShowsItsNames, ShowsItsOwn}
 use Rattle.ftl_kept_names.proofs.Names.{among_in, in_among, one_place}
 use Rattle.ftl_kept_names.proofs.NoNameFault.{attributes_once, shown_known}
 use Rattle.ftl_kept_names.proofs.Numbered.{entry_at}
@@ -112,7 +112,7 @@ module _ (g : Grammar) (none : first_fault g ≡ None) (k : ℕ) (known : interf
   )
 
   -- each name that is shown has one attribute that is
-  pub once : (name : NameText) → Contains (interface_at g i).shown name → IsShownOnce g k name
+  pub once : (name : NameText) → Contains (interface_at g i).shown name → IsShownOnce (names_of g) k name
   once name shown =
       let has = in_map (λ (x : AttrDecl). x.name) attrs name (shown_known g none (interface_at g i) there name shown) in
       let d = has.from in
@@ -146,7 +146,7 @@ module _ (g : Grammar) (none : first_fault g ≡ None) (k : ℕ) (known : interf
 interface_is : (g : Grammar) (i : ℕ) (y : Interface) → IsInterface g i y → interface_at g i ≡ y
 interface_is g i y at = get_or_from_slice_get g.interfaces i y (trees.interface [] [] []) at
 
-pub shows_its_names : OfClassesUnder ShowsItsNames
+pub shows_its_names : OfMeanings ShowsItsNames
 shows_its_names greatest g k y under n a d at_a at_d =
     let i = interface_of g k in
     let same = interface_is g i y under.under in
@@ -155,13 +155,13 @@ shows_its_names greatest g k y under n a d at_a at_d =
     (entry_at (shared_count (take i g.interfaces)) (interface_at g i).attrs n a d at_a
     (subst (λ (z : Interface). slice_get z.attrs n ≡ Some d) (sym same) at_d)))
 
-pub shows_its_own : OfClassesUnder ShowsItsOwn
+pub shows_its_own : OfMeanings ShowsItsOwn
 shows_its_own greatest g k y under a h = own g (interface_of g k) a h
 
-pub shows_in_order : OfClassesUnder ShowsInOrder
+pub shows_in_order : OfMeanings ShowsInOrder
 shows_in_order greatest g k y under = in_order g (interface_of g k)
 
-pub shows_each_name : OfClassesUnder ShowsEachName
-shows_each_name greatest g k y under none name shown =
+pub shows_each_name : OfRightMeanings ShowsEachName
+shows_each_name greatest g none k y under name shown =
     once g none k (slice_get_within g.interfaces (interface_of g k) y under.under) name
     (subst (λ (z : Interface). Contains z.shown name) (sym (interface_is g (interface_of g k) y under.under)) shown)
