@@ -4,5 +4,9 @@
 #![tactic(auto)]
 
 mod kept;
+mod lossy;
 
 pub use kept::{attributes_are_kept, children_are_kept, classes_are_kept, shown_names_are_kept};
+pub use lossy::{
+    lost_attributes_are_refused, lost_classes_are_refused, lost_shown_names_are_refused,
+};
