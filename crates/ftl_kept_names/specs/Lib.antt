@@ -1,0 +1,6 @@
+pub mod Places
+pub mod Attributes
+pub mod Classes
+pub mod Shown
+pub mod Lossy
+pub use Rattle.ftl_meaning.specs.GrammarOf
