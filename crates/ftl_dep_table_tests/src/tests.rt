@@ -4,26 +4,64 @@ use ftl_checked_tests::check_text;
 use ftl_dep_table::dep_table;
 use std::test::Fail;
 
-#[test]
-fn names_of_blocks(rt: HostRuntime) -> Result<(), Fail> {
-    let text = shipped("block").unwrap_or("");
-    let Some(Ok(checked)) = check_text(rt.alloc(), text)? else {
-        assert!(rt; false);
-        return Ok(());
-    };
-    let attributes = attribute_words(rt.alloc(), &checked)?;
-    assert_eq!(rt;
-        attributes.as_str(),
+/// The attributes of the shipped grammars, in the order of their numbers.
+static ATTRIBUTES: [(&str, &str); 6] = [
+    ("stack", "Page.h Box.x Box.y Box.w Box.h Word.iw Word.ih "),
+    (
+        "block",
         "Page.vw Page.h Box.px Box.py Box.aw Box.x Box.y Box.w \
-        Box.h Box.mh Block.margin Block.pad Block.border Block.iw Block.inner Word.iw Word.ih "
-    );
-    let rules = rule_words(rt.alloc(), &checked)?;
-    assert_eq!(rt;
-        rules.as_str(),
-        "Screen.h Screen.body.px Screen.body.py Screen.body.aw \
-        Block.iw Block.inner Block.x Block.y Block.w Block.h Block.mh Block.kids.px \
-        Block.kids.py Block.kids.aw Word.x Word.y Word.w Word.h Word.mh "
-    );
+        Box.h Box.mh Block.margin Block.pad Block.border Block.iw Block.inner Word.iw Word.ih ",
+    ),
+    (
+        "inline",
+        "Page.vw Page.h Item.lw Item.gap Item.cx Item.ct Item.cb Item.x Item.y Item.w Item.h \
+        Item.ox Item.ot Item.ob Para.space Word.iw Word.ih Word.brk ",
+    ),
+    (
+        "float",
+        "Page.vw Page.h Box.lx Box.rx Box.cy Box.le Box.lb Box.re Box.rb Box.x Box.y Box.w Box.h \
+        Box.ny Box.nle Box.nlb Box.nre Box.nrb Group.pad Strip.ih FloatLeft.iw FloatLeft.ih \
+        FloatRight.iw FloatRight.ih ",
+    ),
+    (
+        "table",
+        "Page.w Page.h Line.x Line.y Line.c0 Line.c1 Line.c2 Line.c3 Line.c4 Line.c5 Line.c6 \
+        Line.c7 Line.h Line.m0 Line.m1 Line.m2 Line.m3 Line.m4 Line.m5 Line.m6 Line.m7 Slot.col \
+        Slot.x Slot.y Slot.cw Slot.rh Slot.w Slot.h Slot.pw Slot.ph Table.t0 Table.t1 Table.t2 \
+        Table.t3 Table.t4 Table.t5 Table.t6 Table.t7 Cell.iw Cell.ih ",
+    ),
+    (
+        "flow",
+        "Page.vw Page.h Box.px Box.py Box.aw Box.x Box.y Box.w Box.h Box.mh Item.bx Item.by \
+        Item.lw Item.gap Item.cx Item.ct Item.cb Item.rx Item.ry Item.x Item.y Item.w Item.h \
+        Item.ox Item.ot Item.ob Line.x Line.y Line.c0 Line.c1 Line.c2 Line.c3 Line.h Line.m0 \
+        Line.m1 Line.m2 Line.m3 Slot.col Slot.x Slot.y Slot.cw Slot.rh Slot.w Slot.h Slot.pw \
+        Slot.ph Article.pad Article.inner Section.margin Section.pad Section.inner Para.margin \
+        Para.space Figure.iw Figure.ih Figure.margin Grid.margin Grid.t0 Grid.t1 Grid.t2 Grid.t3 \
+        Word.iw Word.ih Word.brk Cell.iw Cell.ih ",
+    ),
+];
+
+/// What the rules of `block` define, in the order of their numbers.
+const BLOCK_RULES: &str = "Screen.h Screen.body.px Screen.body.py Screen.body.aw \
+    Block.iw Block.inner Block.x Block.y Block.w Block.h Block.mh Block.kids.px \
+    Block.kids.py Block.kids.aw Word.x Word.y Word.w Word.h Word.mh ";
+
+#[test]
+fn names_by_number(rt: HostRuntime) -> Result<(), Fail> {
+    for (name, attributes) in ATTRIBUTES.iter() {
+        let Some(Ok(checked)) = check_text(rt.alloc(), shipped(name).unwrap_or(""))? else {
+            assert!(rt; false);
+            return Ok(());
+        };
+        assert_eq!(rt;
+            attribute_words(rt.alloc(), &checked)?.as_str(),
+            *attributes
+        );
+        if *name == "block" {
+            assert_eq!(rt; rule_words(rt.alloc(), &checked)?.as_str(), BLOCK_RULES);
+        }
+    }
     Ok(())
 }
 
