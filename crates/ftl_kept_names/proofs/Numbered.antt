@@ -27,7 +27,7 @@ is_sort kinds.Local = refl
 -- numbers from one on are of declarations that stand there
 are_of : (greatest : ℕ) (g : Grammar) (n : ℕ) (xs : List AttrDecl)
     → ((p : ℕ × AttrDecl) → Contains (numbered n xs) p → attribute_at g p.0 ≡ p.1)
-    → AreOf (grammar_of greatest g) (names_of g) (map (λ a. a.0) (numbered n xs)) xs
+    → AreOf (grammar_of greatest g).sort (names_of g).attribute_name (map (λ a. a.0) (numbered n xs)) xs
 are_of greatest g n [] each = tt
 are_of greatest g n (x ∷ xs) each =
     let first = each (n, x) (here_in (n, x) (numbered (suc n) xs)) in (
@@ -40,13 +40,13 @@ are_of greatest g n (x ∷ xs) each =
 
 pub shared_kept : OfMeanings SharedAreKept
 shared_kept greatest g i x at =
-    subst (λ (y : Interface). AreOf (grammar_of greatest g) (names_of g) ((grammar_of greatest g).shared i) y.attrs)
+    subst (λ (y : Interface). AreOf (grammar_of greatest g).sort (names_of g).attribute_name ((grammar_of greatest g).shared i) y.attrs)
     (get_or_from_slice_get g.interfaces i x (trees.interface [] [] []) at)
     (are_of greatest g (shared_count (take i g.interfaces)) (interface_at g i).attrs (λ p h. (shared_at g i p h).1))
 
 pub private_kept : OfMeanings PrivateAreKept
 private_kept greatest g k x at =
-    subst (λ (y : Class). AreOf (grammar_of greatest g) (names_of g) ((grammar_of greatest g).private k) y.attrs)
+    subst (λ (y : Class). AreOf (grammar_of greatest g).sort (names_of g).attribute_name ((grammar_of greatest g).private k) y.attrs)
     (get_or_from_slice_get g.classes k x (trees.class [] [] [] [] []) at)
     (are_of greatest g (shared_count g.interfaces + own_count (take k g.classes)) (class_at g k).attrs
     (λ p h. (own_at g k p h).1))

@@ -3,9 +3,9 @@ use Rattle.std.specs.Prelude.{◌≡◌, ◌↔◌, ℕ, ◌<◌, List, [], ◌�
 use Rattle.std.specs.List.{range_with_len}
 use Rattle.ftl_lists.specs.Lists.{AreDistinct}
 use Rattle.ftl_model.specs.AttributeGrammar as model
-use Rattle.ftl_model.specs.AttributeGrammar.{AttributeGrammar, Sort}
-use Rattle.ftl_model.specs.Boxes.{Names}
+use Rattle.ftl_model.specs.AttributeGrammar.{Sort}
 use Rattle.ftl_order.specs.Lawful.{declared}
+use Rattle.ftl_syntax.specs.Trees.{NameText}
 use Rattle.ftl_syntax.specs.declared.rules.AttrDecl.{AttrDecl}
 use Rattle.ftl_syntax.specs.declared.rules.AttrKind.{AttrKind}
 use Rattle.ftl_syntax.specs.declared.rules.AttrKind.TheVariants as kinds
@@ -26,16 +26,16 @@ IsSortOf kinds.Input sort = sort ≡ model.input
 IsSortOf kinds.Local sort = sort ≡ model.local
 
 -- the number has the sort and the printed name of the declaration
-pub record IsOf (m : AttributeGrammar) (names : Names) (a : ℕ) (d : AttrDecl) : Type 0 where
-  pub sort : IsSortOf d.kind (m.sort a)
-  pub name : names.attribute_name a ≡ d.name
+pub record IsOf (sorts : ℕ → Sort) (printed : ℕ → NameText) (a : ℕ) (d : AttrDecl) : Type 0 where
+  pub sort : IsSortOf d.kind (sorts a)
+  pub name : printed a ≡ d.name
 
 -- as many numbers as declarations, each of the declaration at its place
-abbrev pub AreOf : AttributeGrammar → Names → List ℕ → List AttrDecl → Type 0
-AreOf m names [] [] = Unit {0}
-AreOf m names [] (d ∷ ds) = ⊥
-AreOf m names (n ∷ ns) [] = ⊥
-AreOf m names (n ∷ ns) (d ∷ ds) = IsOf m names n d × AreOf m names ns ds
+abbrev pub AreOf : (sorts : ℕ → Sort) → (printed : ℕ → NameText) → List ℕ → List AttrDecl → Type 0
+AreOf sorts printed [] [] = Unit {0}
+AreOf sorts printed [] (d ∷ ds) = ⊥
+AreOf sorts printed (n ∷ ns) [] = ⊥
+AreOf sorts printed (n ∷ ns) (d ∷ ds) = IsOf sorts printed n d × AreOf sorts printed ns ds
 
 -- there are as many numbers as declarations
 abbrev pub AttributesAreCounted : Keeps
@@ -43,11 +43,13 @@ AttributesAreCounted g m names = m.attribute_count ≡ length (declarations g)
 
 -- the attributes of each interface are those that it declares, in that order
 abbrev pub SharedAreKept : Keeps
-SharedAreKept g m names = (i : ℕ) (x : Interface) → IsInterface g i x → AreOf m names (m.shared i) x.attrs
+SharedAreKept g m names =
+    (i : ℕ) (x : Interface) → IsInterface g i x → AreOf m.sort names.attribute_name (m.shared i) x.attrs
 
 -- the attributes that each class adds are those that it declares, in that order
 abbrev pub PrivateAreKept : Keeps
-PrivateAreKept g m names = (k : ℕ) (x : Class) → IsClass g k x → AreOf m names (m.private k) x.attrs
+PrivateAreKept g m names =
+    (k : ℕ) (x : Class) → IsClass g k x → AreOf m.sort names.attribute_name (m.private k) x.attrs
 
 -- the attributes of all interfaces and then of all classes have the numbers from 0, in the order of the text
 abbrev pub NumbersFollowTheText : Keeps
