@@ -1,6 +1,6 @@
 -- The names of an attribute stand for it again, in a grammar without a fault.
-use Rattle.std.proofs.Common.{◌≡◌, ◌≢◌, ℕ, zero, suc, ◌+◌, ◌-◌, ◌<◌, ◌≤◌, Bool, true, false, not, cond, nat_lt, refl, sym, ◌∙◌, ap, ap₂, subst, ⊎_elim, arith, List, [], ◌∷◌, ◌++◌, length, get_or, map, take, flat_map, Contains, Option, Some, None, Result, Ok, Err}
-use Rattle.std.specs.List.{All, AllByRecursion, find, position_or_len}
+use Rattle.std.proofs.Common.{◌≡◌, ◌≢◌, ℕ, zero, suc, ◌+◌, ◌-◌, ◌<◌, ◌≤◌, Bool, true, false, not, cond, nat_lt, refl, sym, ◌∙◌, ap, ap₂, subst, arith, List, [], ◌∷◌, ◌++◌, length, get_or, map, take, flat_map, Contains, Option, Some, None, Result, Ok}
+use Rattle.std.specs.List.{All, AllByRecursion, position_or_len}
 use Rattle.std.specs.Option.{option_and_then, option_map, option_or}
 use Rattle.std.specs.Str.{bytes_eq}
 use Rattle.std.proofs.lemmas.Bool.{lt-ltb}
@@ -34,7 +34,6 @@ use Rattle.ftl_dep_table.proofs.AttrKinds.{kind_within}
 use Rattle.ftl_schedule_printing.proofs.DistinctNames.{distinct_names, name_itself, names_differ}
 use Rattle.ftl_order.specs.Schedule as order
 use Rattle.ftl_order.specs.Schedule.{entries}
-use Rattle.ftl_schedule_syntax.specs.declared.types.AttributeName.{AttributeName}
 use Rattle.ftl_stages.specs.Stages.{pass_of, stages_of}
 use Rattle.ftl_stages.specs.declared.types.Pass.{Pass}
 use Rattle.ftl_stages.specs.declared.types.Stage.{Stage}
@@ -42,8 +41,8 @@ use Rattle.ftl_stages.specs.declared.types.Schedule.{Schedule}
 use Rattle.ftl_schedule_names.specs.Named.{attribute_number, before, each, made_of, number_or, pass_named, schedule_named, stage_named}
 use Rattle.ftl_schedule_names.specs.declared.fault.ScheduleFault.{ScheduleFault}
 use Rattle.ftl_schedule_reading.specs.Limits.{limit_fault}
-use Rattle.ftl_schedule_reading.specs.Read.{schedule_of, unless}
-use Rattle.ftl_schedule_text.specs.ScheduleText.{CanBeWritten, IsTextOf, schedule_text}
+use Rattle.ftl_schedule_reading.specs.Read.{unless}
+use Rattle.ftl_schedule_text.specs.ScheduleText.{IsTextOf, schedule_text}
 use Rattle.ftl_schedule_printing.specs.WrittenOf.{name_of, pass_by_name, stage_by_name, written_of}
 use Rattle.ftl_schedule_printing.specs.ReadBack.{IsReadBack}
 use Rattle.ftl_checked.proofs.Standing.{IsOwn, IsShared, own_is_in, shared_is_in}
