@@ -1,2 +1,3 @@
 mod DistinctNames
+mod Joined
 mod NamedAgain
