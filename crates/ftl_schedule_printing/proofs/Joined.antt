@@ -1,5 +1,5 @@
 -- Lists that are written entry by entry, with something between two entries.
-use Rattle.std.proofs.Common.{◌≡◌, ◌≢◌, ℕ, ◌+◌, ◌-◌, ◌<◌, refl, sym, ◌∙◌, ap, arith, List, [], ◌∷◌, ◌++◌, length, get_or, map, drop, codes}
+use Rattle.std.proofs.Common.{◌≡◌, ℕ, ◌+◌, ◌<◌, refl, sym, ◌∙◌, ap, arith, List, [], ◌∷◌, ◌++◌, length, get_or, map, drop, codes}
 use Rattle.std.proofs.lemmas.List.{append_assoc, append-nil, drop_more}
 use Rattle.std.proofs.Math.ListN.{drop_of_length-le}
 use Rattle.std.proofs.lemmas.Grind.{flat_map-append}
@@ -29,8 +29,8 @@ early_written {X} {text} {early} {late} {between} j xs n x within is out entry a
     let next : drop (n + 1) xs ≡ get_or xs (n + 1) x ∷ drop (n + 1 + 1) xs = drop_more xs (n + 1) x within in
     let rest = text (drop (n + 1) xs) in
     let step : text (drop n xs) ≡ early x ++ (between ++ rest) =
-        ap text left ∙ ap (λ r. text (x ∷ r)) next ∙ j.two x (get_or xs (n + 1) x) (drop (n + 1 + 1) xs)
-        ∙ ap (λ r. early x ++ (between ++ text r)) (sym next)
+    ap text left ∙ ap (λ r. text (x ∷ r)) next ∙ j.two x (get_or xs (n + 1) x) (drop (n + 1 + 1) xs)
+    ∙ ap (λ r. early x ++ (between ++ text r)) (sym next)
     in
     ap (λ o. o ++ rest) (a ∙ ap (λ o. o ++ between) e) ∙ append_assoc (out ++ early x) between rest
     ∙ append_assoc out (early x) (between ++ rest) ∙ ap (λ r. out ++ r) (sym step) ∙ before
@@ -49,9 +49,9 @@ late_written {X} {text} {early} {late} {between} j xs n x end is out all whole b
 -- the passes of a stage
 pub passes_joined : (g : Grammar) (gap : List ℕ)
     → IsJoined (λ (ps : List Pass). text_of (stage_written gap (map (pass_by_name g) ps)))
-        (λ (p : Pass). text_of (pass_written (codes " ") (pass_by_name g p)))
-        (λ (p : Pass). text_of (pass_written gap (pass_by_name g p)))
-        (written_bytes (written (fixed kind.OrOr) (codes " ")))
+    (λ (p : Pass). text_of (pass_written (codes " ") (pass_by_name g p)))
+    (λ (p : Pass). text_of (pass_written gap (pass_by_name g p)))
+    (written_bytes (written (fixed kind.OrOr) (codes " ")))
 passes_joined g gap = record {
   two = λ p q more. flat_map-append written_bytes (pass_written (codes " ") (pass_by_name g p))
       (written (fixed kind.OrOr) (codes " ") ∷ passes_written gap (pass_by_name g q) (map (pass_by_name g) more));
@@ -62,9 +62,9 @@ passes_joined g gap = record {
 -- the stages of a schedule
 pub stages_joined : (g : Grammar)
     → IsJoined (λ (ss : List Stage). text_of (schedule_written (map (stage_by_name g) ss)))
-        (λ (s : Stage). text_of (stage_written (codes " ") (map (pass_by_name g) s.passes)))
-        (λ (s : Stage). text_of (stage_written (codes "\n") (map (pass_by_name g) s.passes)))
-        (written_bytes (written (fixed kind.Semicolon) (codes "\n")))
+    (λ (s : Stage). text_of (stage_written (codes " ") (map (pass_by_name g) s.passes)))
+    (λ (s : Stage). text_of (stage_written (codes "\n") (map (pass_by_name g) s.passes)))
+    (written_bytes (written (fixed kind.Semicolon) (codes "\n")))
 stages_joined g = record {
   two = λ s t more. flat_map-append written_bytes (stage_written (codes " ") (map (pass_by_name g) s.passes))
       (written (fixed kind.Semicolon) (codes "\n") ∷ stages_written (stage_by_name g t) (map (stage_by_name g) more));

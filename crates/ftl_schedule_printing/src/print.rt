@@ -30,11 +30,7 @@ pub fn print_schedule(
 }
 
 // Stages with `;` between them.
-fn write_stages(
-    out: &mut String,
-    checked: &Checked,
-    stages: &[Stage],
-) -> Result<(), AllocError>
+fn write_stages(out: &mut String, checked: &Checked, stages: &[Stage]) -> Result<(), AllocError>
     requires known { AreStagesKnown checked.now.grammar stages.now }
     ensures text { OnOk result (string_bytes out.new ≡ string_bytes out.old
         ++ text_of (schedule_written (map (stage_by_name checked.now.grammar) stages.now))) }
@@ -63,7 +59,12 @@ fn write_passes(
 {
     for number in 0..passes.len() {
         let is_last = number + 1 == passes.len();
-        write_pass(out, checked, &passes[number], if is_last { gap } else { " " })?;
+        write_pass(
+            out,
+            checked,
+            &passes[number],
+            if is_last { gap } else { " " },
+        )?;
         if !is_last {
             write_fixed(out, Kind::OrOr, " ")?;
         }
@@ -72,12 +73,7 @@ fn write_passes(
 }
 
 // A pass, and what follows it.
-fn write_pass(
-    out: &mut String,
-    checked: &Checked,
-    pass: &Pass,
-    gap: &str,
-) -> Result<(), AllocError>
+fn write_pass(out: &mut String, checked: &Checked, pass: &Pass, gap: &str) -> Result<(), AllocError>
     requires known { IsPassKnown checked.now.grammar pass.now }
     ensures text { OnOk result (string_bytes out.new ≡ string_bytes out.old
         ++ text_of (pass_written gap.now (pass_by_name checked.now.grammar pass.now))) }

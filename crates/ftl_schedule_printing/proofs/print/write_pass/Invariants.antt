@@ -1,6 +1,6 @@
 use Rattle.std.proofs.Common.{◌≡◌, ◌++◌, string_bytes, flat_map, map, take}
 use Rattle.ftl_written.specs.Written.{text_of}
-use Rattle.ftl_schedule_text.specs.ScheduleText.{attribute_written, open_pass}
+use Rattle.ftl_schedule_text.specs.ScheduleText.{attribute_written}
 use Rattle.ftl_schedule_printing.specs.WrittenOf.{name_of}
 use Rattle.ftl_schedule_printing.proofs.print.write_pass.Given as goal
 
