@@ -1,8 +1,9 @@
 //! The printer of schedules whose attributes are numbers.
 
 ghost use Rattle.std.specs.Prelude.{◌≡◌, ◌++◌, map, string_bytes, IfOk, OnOk};
-ghost use Rattle.ftl_schedule_printing.specs.WrittenOf.{ArePassesKnown, AreStagesKnown, pass_by_name};
-ghost use Rattle.ftl_schedule_printing.specs.WrittenOf.{IsPassKnown, stage_by_name, written_of};
+ghost use Rattle.ftl_schedule_printing.specs.WrittenOf.{ArePassesKnown, AreStagesKnown};
+ghost use Rattle.ftl_schedule_printing.specs.WrittenOf.{IsPassKnown, pass_by_name, stage_by_name};
+ghost use Rattle.ftl_schedule_printing.specs.WrittenOf.{written_of};
 ghost use Rattle.ftl_schedule_text.specs.ScheduleText.{pass_written, schedule_text};
 ghost use Rattle.ftl_schedule_text.specs.ScheduleText.{schedule_written, stage_written};
 ghost use Rattle.ftl_written.specs.Written.{text_of};
@@ -59,12 +60,8 @@ fn write_passes(
 {
     for number in 0..passes.len() {
         let is_last = number + 1 == passes.len();
-        write_pass(
-            out,
-            checked,
-            &passes[number],
-            if is_last { gap } else { " " },
-        )?;
+        let behind = if is_last { gap } else { " " };
+        write_pass(out, checked, &passes[number], behind)?;
         if !is_last {
             write_fixed(out, Kind::OrOr, " ")?;
         }

@@ -20,12 +20,12 @@ loop-number-preserved c =
       | then-is_last v ↦ elim c.if-not-is_last.branch [
         | then-not-is_last+in_ok-write_fixed w ↦ grind (arith, w.if-not-is_last.true, v.if-is_last.true)
         | else-not-is_last w ↦ late_written joined ps n p v.if-is_last.true c.index-passes-number.is out (string_bytes c.if-not-is_last.out) whole
-            c.loop-number.invariant (grind (arith, w.out-is, v.write_pass-is, c.in_ok-write_pass.ensures.text, common_steps))
+            c.loop-number.invariant (grind (arith, w.out-is, v.behind-is, c.in_ok-write_pass.ensures.text, common_steps))
       ]
       | else-is_last v ↦ elim c.if-not-is_last.branch [
         | then-not-is_last+in_ok-write_fixed w ↦ early_written joined ps n p (grind (arith, common_steps)) c.index-passes-number.is out
             (string_bytes c.write_pass.new.out) (string_bytes c.if-not-is_last.out) whole
-            c.loop-number.invariant (grind (arith, v.write_pass-is, c.in_ok-write_pass.ensures.text, common_steps))
+            c.loop-number.invariant (grind (arith, v.behind-is, c.in_ok-write_pass.ensures.text, common_steps))
             (grind (arith, w.out-is, w.in_ok-write_fixed.ensures.text, common_steps))
         | else-not-is_last w ↦ grind (arith, v.if-is_last.false, w.if-not-is_last.false)
       ]
