@@ -1,9 +1,16 @@
+<<<<<<< HEAD
 //! Schedules of a grammar: read from tokens, and verified. What the crates below have for users is
 //! here in one place; `ftl_schedule_reading` says what is read, `ftl_verify` what is accepted.
+=======
+//! Schedules of a grammar: read from tokens, verified and printed. The calls and types of the
+//! crates below at one door; `ftl_schedule_reading` says what is read, `ftl_verify` what is
+//! accepted, `ftl_schedule_printing` what is printed.
+>>>>>>> 4c4b84acb9c1a3b2bdff96dd8f3cc015b22d5b1f
 #![tactic(auto)]
 
 mod laws;
 
+pub use ftl_schedule_printing::{known_entries, print_schedule, printed_schedules};
 pub use ftl_schedule_reading::{ScheduleFault, read_schedule};
 pub use ftl_stages::{AttrList, Pass, PassKind, PassList, Schedule, Stage, StageList};
 pub use ftl_verify::{Accepted, Spot, VerifyFault, verify};

@@ -1,2 +1,4 @@
 mod DistinctNames
+mod Joined
+mod Known
 mod NamedAgain

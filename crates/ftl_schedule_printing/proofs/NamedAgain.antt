@@ -1,5 +1,5 @@
 -- The names of an attribute stand for it again, in a grammar without a fault.
-use Rattle.std.proofs.Common.{◌≡◌, ◌≢◌, ℕ, zero, suc, ◌+◌, ◌-◌, ◌<◌, ◌≤◌, Bool, true, false, not, cond, nat_lt, refl, sym, ◌∙◌, ap, ap₂, subst, arith, List, [], ◌∷◌, ◌++◌, length, get_or, map, take, flat_map, Contains, Option, Some, None, Result, Ok}
+use Rattle.std.proofs.Common.{◌≡◌, ◌≢◌, ℕ, zero, suc, ◌+◌, ◌-◌, ◌<◌, ◌≤◌, Bool, true, false, not, cond, nat_lt, refl, sym, ◌∙◌, ap, ap₂, subst, arith, List, [], ◌∷◌, ◌++◌, length, get_or, map, take, Contains, Option, Some, None, Result, Ok}
 use Rattle.std.specs.List.{All, AllByRecursion, position_or_len}
 use Rattle.std.specs.Option.{option_and_then, option_map, option_or}
 use Rattle.std.specs.Str.{bytes_eq}
@@ -8,7 +8,7 @@ use Rattle.std.proofs.lemmas.List.{get_or-map, get_or_past, length-map, map-appe
 use Rattle.std.proofs.lemmas.List.Elements.{All-contains, Contains-get_or}
 use Rattle.std.proofs.lemmas.Option.{none-some}
 use Rattle.ftl_lists.specs.Lists.{AreDistinct}
-use Rattle.ftl_lists.proofs.Elements.{distinct_apart, distinct_left, distinct_right, flat_map_has, here_in, later_in}
+use Rattle.ftl_lists.proofs.Elements.{distinct_apart, distinct_left, distinct_right, here_in, later_in}
 use Rattle.ftl_lists.proofs.Rising.{map_has}
 use Rattle.ftl_model.specs.AttributeGrammar as model
 use Rattle.ftl_syntax.specs.Trees as trees
@@ -31,10 +31,10 @@ use Rattle.ftl_lawful.specs.Faultless.{HasKinds, IsOwnKind, IsSharedKind}
 use Rattle.ftl_lawful.proofs.NoFault.{none_in, none_of}
 use Rattle.ftl_lawful.proofs.Numbers.{numbered_has}
 use Rattle.ftl_dep_table.proofs.AttrKinds.{kind_within}
+use Rattle.ftl_schedule_printing.proofs.Known.{entry_of_pass}
 use Rattle.ftl_schedule_printing.proofs.DistinctNames.{distinct_names, name_itself, names_differ}
-use Rattle.ftl_order.specs.Schedule as order
 use Rattle.ftl_order.specs.Schedule.{entries}
-use Rattle.ftl_stages.specs.Stages.{pass_of, stages_of}
+use Rattle.ftl_stages.specs.Stages.{stages_of}
 use Rattle.ftl_stages.specs.declared.types.Pass.{Pass}
 use Rattle.ftl_stages.specs.declared.types.Stage.{Stage}
 use Rattle.ftl_stages.specs.declared.types.Schedule.{Schedule}
@@ -280,12 +280,7 @@ module _ (g : Grammar) (none : first_fault g ≡ None) (has_kinds : HasKinds g) 
     pass_again t stage p pass =
         ap (made_of (λ attrs. record { kind = p.kind; attrs = attrs }))
         (each_same (attribute_number g) (name_of g) p.attrs
-        (λ a there. attribute_again a
-        (flat_map_has (λ (ps : List order.Pass). flat_map (λ (q : order.Pass). q.attributes) ps)
-        (map (λ (u : Stage). map pass_of u.passes) s.stages) (map pass_of t.passes) a
-        (map_has (λ (u : Stage). map pass_of u.passes) s.stages t stage)
-        (flat_map_has (λ (q : order.Pass). q.attributes) (map pass_of t.passes) (pass_of p) a
-        (map_has pass_of t.passes p pass) there))))
+        (λ a there. attribute_again a (entry_of_pass s t stage p pass a there)))
 
     stage_again : (t : Stage) → Contains s.stages t → stage_named g (stage_by_name g t) ≡ Ok t
     stage_again t stage =

@@ -1,7 +1,8 @@
 -- The written schedule that a schedule by number stands for: each attribute by its owner's name and its own.
-use Rattle.std.specs.Prelude.{ℕ, map}
+use Rattle.std.specs.Prelude.{ℕ, ◌<◌, List, length, map}
+use Rattle.std.specs.List.{All}
 use Rattle.ftl_syntax.specs.declared.rules.Grammar.{Grammar}
-use Rattle.ftl_checked.specs.Checked.{attribute_at, owner_name_of}
+use Rattle.ftl_checked.specs.Checked.{all_attributes, attribute_at, owner_name_of}
 use Rattle.ftl_schedule_syntax.specs.Trees.{attribute_name, written_pass, written_schedule, written_stage}
 use Rattle.ftl_schedule_syntax.specs.declared.types.AttributeName.{AttributeName}
 use Rattle.ftl_schedule_syntax.specs.declared.types.WrittenPass.{WrittenPass}
@@ -26,3 +27,15 @@ stage_by_name g s = written_stage (map (pass_by_name g) s.passes)
 -- a schedule
 abbrev pub written_of : Grammar → Schedule → WrittenSchedule
 written_of g s = written_schedule (map (stage_by_name g) s.stages)
+
+-- the attributes of a pass are those of the grammar
+abbrev pub IsPassKnown : Grammar → Pass → Type 0
+IsPassKnown g p = All (λ a. a < length (all_attributes g)) p.attrs
+
+-- those of some passes
+abbrev pub ArePassesKnown : Grammar → List Pass → Type 0
+ArePassesKnown g passes = All (IsPassKnown g) passes
+
+-- those of some stages
+abbrev pub AreStagesKnown : Grammar → List Stage → Type 0
+AreStagesKnown g stages = All (λ (s : Stage). ArePassesKnown g s.passes) stages

@@ -4,5 +4,7 @@
 #![tactic(auto)]
 
 mod laws;
+mod print;
 
-pub use laws::printed_schedules;
+pub use laws::{known_entries, printed_schedules};
+pub use print::print_schedule;

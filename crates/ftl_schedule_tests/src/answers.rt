@@ -5,7 +5,10 @@ use ftl_checked::{Checked, check_grammar};
 use ftl_counts::small_counts;
 use ftl_dep_table::dep_table;
 use ftl_grammar::read_grammar;
-use ftl_schedule::{Accepted, ScheduleFault, VerifyFault, computed_entries, read_schedule, verify};
+use ftl_schedule::{
+    Accepted, ScheduleFault, VerifyFault, computed_entries, known_entries, print_schedule,
+    read_schedule, verify,
+};
 use ftl_tokens::tokens;
 use std::alloc::{AllocError, Global};
 use std::fmt::Write;
@@ -43,6 +46,28 @@ pub fn answer(alloc: Global, checked: &Checked, text: &str) -> Result<String, Al
         Err(fault) => write_fault(&mut out, &fault)?,
     }
     Ok(out)
+}
+
+/// The canonical text of the schedule that the text spells; none where it spells none.
+pub fn canonical(
+    alloc: Global,
+    checked: &Checked,
+    text: &str,
+) -> Result<Option<String>, AllocError> {
+    if text.len() > 67108864 {
+        return Ok(None);
+    }
+    let Ok(scanned) = tokens(alloc, String::from_str(alloc, text)?) else {
+        return Ok(None);
+    };
+    match read_schedule(alloc, checked, &scanned) {
+        Ok(schedule) => {
+            computed_entries(checked, &scanned, &schedule);
+            known_entries(checked, &schedule);
+            Ok(Some(print_schedule(alloc, checked, &schedule)?))
+        }
+        Err(_fault) => Ok(None),
+    }
 }
 
 /// The place at which the text goes wrong; none where it spells a schedule.

@@ -6,4 +6,4 @@ mod answers;
 #[cfg(test)]
 mod tests;
 
-pub use answers::{answer, check_text, place_of};
+pub use answers::{answer, canonical, check_text, place_of};

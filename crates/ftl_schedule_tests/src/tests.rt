@@ -1,4 +1,4 @@
-use crate::answers::{answer, check_text, place_of};
+use crate::answers::{answer, canonical, check_text, place_of};
 use ftl_boxes::shipped;
 use std::alloc::{AllocError, Global};
 use std::test::Fail;
@@ -315,5 +315,59 @@ fn a_text_cut_at_each_byte(rt: HostRuntime) -> Result<(), Fail> {
     }
     // the empty text, the first stage with a space after it or without, and the whole
     assert_eq!(rt; read, 4);
+    Ok(())
+}
+
+/// Names of grammars, texts of schedules, and the canonical texts of these.
+static PRINTED: [(&str, &str, &str); 8] = [
+    (
+        "stack",
+        "bottomup{Page.h Box.w Box.h};topdown{Box.x Box.y}",
+        "bottomup { Page.h Box.w Box.h } ;\ntopdown { Box.x Box.y }\n",
+    ),
+    // a local, and three stages
+    (
+        "block",
+        "topdown { Box.x Box.px Box.w Block . iw Box.aw } # down
+        ; bottomup { Page.h Block.inner Box.h Box.mh }
+        ; topdown { Box.y\tBox.py }",
+        "topdown { Box.x Box.px Box.w Block.iw Box.aw } ;
+bottomup { Page.h Block.inner Box.h Box.mh } ;
+topdown { Box.y Box.py }
+",
+    ),
+    // passes beside each other, in an early stage, in the last and in both
+    (
+        "stack",
+        "bottomup{Page.h}||inorder{}||topdown{Box.x Box.x};topdown{}",
+        "bottomup { Page.h } || inorder { } || topdown { Box.x Box.x } ;\ntopdown { }\n",
+    ),
+    (
+        "stack",
+        "inorder { Box.h Page.h }; topdown { Box.y }||topdown { Box.x }",
+        "inorder { Box.h Page.h } ;\ntopdown { Box.y } || topdown { Box.x }\n",
+    ),
+    (
+        "stack",
+        "topdown{Box.y}||topdown{Box.x};inorder{Box.w}||bottomup{Box.h}",
+        "topdown { Box.y } || topdown { Box.x } ;\ninorder { Box.w } || bottomup { Box.h }\n",
+    ),
+    // a canonical text
+    ("stack", "inorder { Box.w }\n", "inorder { Box.w }\n"),
+    // no stage
+    ("stack", "", ""),
+    ("stack", " # no stage\n", ""),
+];
+
+#[test]
+fn printed_texts(rt: HostRuntime) -> Result<(), Fail> {
+    for (grammar, schedule, wanted) in PRINTED.iter() {
+        let Some(checked) = check_text(rt.alloc(), shipped(grammar).unwrap_or(""))? else {
+            assert!(rt; false);
+            return Ok(());
+        };
+        let found = canonical(rt.alloc(), &checked, schedule)?;
+        assert_eq!(rt; found.as_deref(), Some(*wanted));
+    }
     Ok(())
 }
