@@ -1,11 +1,6 @@
-<<<<<<< HEAD
-//! Schedules of a grammar: read from tokens, and verified. What the crates below have for users is
-//! here in one place; `ftl_schedule_reading` says what is read, `ftl_verify` what is accepted.
-=======
-//! Schedules of a grammar: read from tokens, verified and printed. The calls and types of the
-//! crates below at one door; `ftl_schedule_reading` says what is read, `ftl_verify` what is
+//! Schedules of a grammar: read from tokens, verified and printed. What the crates below have for
+//! users is here in one place; `ftl_schedule_reading` says what is read, `ftl_verify` what is
 //! accepted, `ftl_schedule_printing` what is printed.
->>>>>>> 4c4b84acb9c1a3b2bdff96dd8f3cc015b22d5b1f
 #![tactic(auto)]
 
 mod laws;
