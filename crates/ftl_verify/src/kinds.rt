@@ -11,14 +11,14 @@ use ftl_syntax::AttrKind;
 
 /// How many attributes the grammar has.
 #[tactic(auto, using(crate::proofs::AttributeKinds::attribute_count_is))]
-pub(crate) fn attribute_count(checked: &Checked) -> u32
+pub fn attribute_count(checked: &Checked) -> u32
     ensures count { result ≡ (meant checked.now).attribute_count }
 {
     checked.attr_count()
 }
 
 /// Whether the attribute is an input.
-pub(crate) fn is_input(checked: &Checked, attr: u32) -> bool
+pub fn is_input(checked: &Checked, attr: u32) -> bool
     ensures input { result ≡ is_input ((meant checked.now).sort attr) }
 {
     match kind_of(checked, attr) {

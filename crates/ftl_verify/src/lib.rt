@@ -15,3 +15,5 @@ pub use accepted::Accepted;
 pub use check::verify;
 pub use ftl_schedule_faults::VerifyFault;
 pub use ftl_spots::Spot;
+pub use kinds::{attribute_count, is_input};
+pub use unordered::{read_count, read_of, standing};

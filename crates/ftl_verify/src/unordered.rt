@@ -64,8 +64,8 @@ fn reads_fault(
     None
 }
 
-// How many reads a rule has.
-fn read_count(checked: &Checked, deps: &DepTable, rule: u32) -> u32
+/// How many reads a rule has.
+pub fn read_count(checked: &Checked, deps: &DepTable, rule: u32) -> u32
     requires table { deps.now ≡ dep_rows (meant checked.now) }
     requires within { rule < length (all_rules checked.now.grammar) }
     ensures count { result ≡ length (rule_reads (meant checked.now)
@@ -99,8 +99,8 @@ fn read_fault(
     }
 }
 
-// The read at this place of a rule.
-fn read_of(checked: &Checked, deps: &DepTable, rule: u32, place: u32) -> DepRead
+/// The read at this place of a rule.
+pub fn read_of(checked: &Checked, deps: &DepTable, rule: u32, place: u32) -> DepRead
     requires table { deps.now ≡ dep_rows (meant checked.now) }
     requires within { rule < length (all_rules checked.now.grammar) }
     requires place { place < length (rule_reads (meant checked.now)
@@ -133,8 +133,8 @@ fn fault_of(
     }
 }
 
-// Where a rule stands in the visit of a node.
-fn standing(checked: &Checked, rule: u32) -> Standing
+/// Where a rule stands in the visit of a node.
+pub fn standing(checked: &Checked, rule: u32) -> Standing
     requires within { rule < length (all_rules checked.now.grammar) }
     ensures place { place_told result
         ≡ visit_place (meant checked.now) (rule_at (meant checked.now) rule) }

@@ -1,0 +1,4 @@
+pub mod Grown
+pub mod Entering
+pub mod Targets
+pub mod Accepting
