@@ -1,4 +1,5 @@
 pub mod Cut
+pub mod CutLaws
 pub mod Visits
 pub mod Items
 pub mod StageWork

@@ -1,0 +1,5 @@
+pub mod Reverses
+pub mod Subtrees
+pub mod Homes
+pub mod CutLaws
+pub mod HandingLaws
