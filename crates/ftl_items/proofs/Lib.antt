@@ -3,3 +3,5 @@ pub mod Subtrees
 pub mod Homes
 pub mod CutLaws
 pub mod HandingLaws
+pub mod Pieces
+pub mod VisitLaws

@@ -7,6 +7,8 @@
 
 mod cut_laws;
 mod handing_laws;
+mod visit_laws;
 
 pub use cut_laws::cuts;
 pub use handing_laws::handings;
+pub use visit_laws::visits;
