@@ -1,5 +1,7 @@
 pub mod Cut
+pub mod CutLaws
 pub mod Visits
+pub mod VisitLaws
 pub mod Items
 pub mod StageWork
 pub mod Limits

@@ -4,3 +4,11 @@
 //! stage with their steps and what each hands on to; `specs/StageWork.antt`, the work of a stage
 //! in the words of `ftl_cells`; `specs/Limits.antt`, how much a stage reads.
 #![tactic(auto)]
+
+mod cut_laws;
+mod handing_laws;
+mod visit_laws;
+
+pub use cut_laws::cuts;
+pub use handing_laws::handings;
+pub use visit_laws::visits;
