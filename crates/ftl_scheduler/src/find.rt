@@ -22,7 +22,8 @@ use ftl_verify::{Accepted, VerifyFault, attribute_count, verify};
 use std::alloc::{AllocError, Global};
 
 /// The automatic schedule, accepted, or the attributes that are left where there is none. Each
-/// attribute is to be declared by a word that may stand there, as in each grammar that tokens spell.
+/// attribute is to be declared by a word that may stand there, as it is in each grammar that tokens
+/// spell.
 pub fn find_schedule(
     alloc: Global,
     checked: &Checked,
