@@ -5,3 +5,5 @@ pub mod CutLaws
 pub mod HandingLaws
 pub mod Pieces
 pub mod VisitLaws
+pub mod Passes
+pub mod StepLaws

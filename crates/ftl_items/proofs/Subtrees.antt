@@ -3,7 +3,7 @@ use Rattle.std.proofs.Common.{◌≡◌, ℕ, suc, ◌+◌, ◌<◌, sym, ◌∙
 use Rattle.std.specs.List.{range_with_len}
 use Rattle.std.proofs.lemmas.List.{get_or_default}
 use Rattle.ftl_lists.specs.Lists.{AreDistinct}
-use Rattle.ftl_lists.proofs.Elements.{distinct_by_number, each_in, here_in, in_cases, in_range_from, later_in, range_has}
+use Rattle.ftl_lists.proofs.Elements.{distinct-range, distinct_by_number, each_in, here_in, in_cases, in_range_from, later_in, range_has}
 use Rattle.ftl_lists.proofs.Rising.{in_map, map_has}
 use Rattle.ftl_model.specs.Path.{Above, AtOrAbove, Has, Path, at, nodes_below, number_of, preorder, top}
 use Rattle.ftl_model.specs.Tree.{Forest, IsTree, below_of, size}
@@ -12,6 +12,7 @@ use Rattle.ftl_model.proofs.Standing.{node_at-number_of}
 use Rattle.ftl_order.proofs.Ranges.{above_range, range_above}
 use Rattle.ftl_order.proofs.SequenceOrder.{top_above}
 use Rattle.ftl_items.specs.Cut.{subtree}
+use Rattle.ftl_items.proofs.Pieces.{distinct_by_map}
 
 abbrev nodes_under : Forest → Path → List Path
 nodes_under t p = nodes_below p (λ c. 0) (below_of (at t p))
@@ -75,3 +76,15 @@ distinct-preorder t =
     number_of_entry k d below =
         ap (number_of t) (get_or_default (preorder t) k d top below)
         ∙ number_of-node_at t k (let e = length-preorder t in omega (arith, e, below))
+
+pub distinct-subtree : (t : Forest) (p : Path) → Has t p → AreDistinct (subtree t p)
+distinct-subtree t p h = (
+  (λ again.
+      let r = above_range t p p h (under_above t p p h again) in
+      let less = r.0 in
+      let z : ⊥ = omega (arith, less) in
+      z),
+  distinct_by_map (number_of t) (nodes_under t p)
+      (subst AreDistinct (sym (numbers_under t p))
+      (distinct-range (suc (number_of t p + 0)) (size (below_of (at t p))))),
+)

@@ -181,7 +181,7 @@ module _ (g : AttributeGrammar) (law : IsLawful g) (t : Forest) (fits : IsTreeOf
       children_agree : (c d k n : ℕ) → instance_of (down c k p) a ≡ instance_of (down d n p) a → c ≡ d
       children_agree c d k n e = ap (λ i. child_at i.node) e
 
-  attribute_of_step : (i : Instance) → IsStep g t i → i.attribute < g.attribute_count
+  pub attribute_of_step : (i : Instance) → IsStep g t i → i.attribute < g.attribute_count
   attribute_of_step i step =
       let k = class_at t i.node in
       let known = class_known g t fits i.node step.0.0 in

@@ -4,4 +4,5 @@ pub mod Visits
 pub mod VisitLaws
 pub mod Items
 pub mod StageWork
+pub mod StepLaws
 pub mod Limits
