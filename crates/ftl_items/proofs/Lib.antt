@@ -7,3 +7,6 @@ pub mod Pieces
 pub mod VisitLaws
 pub mod Passes
 pub mod StepLaws
+pub mod Ahead
+pub mod ByKey
+pub mod Readable

@@ -86,7 +86,7 @@ module _ (passes : List Pass) (t : Forest) (grain : ℕ) where
 
 module _ (g : AttributeGrammar) (s : Schedule) (t : Forest) (law : IsLawful g) (once : EachStandsOnce g s)
     (fits : IsTreeOf g t) (grain stage : ℕ) where
-  root : IsTree t
+  pub root : IsTree t
   root = root_there g t fits
 
   -- a step of an item of the pass of this number, whose first node is p
@@ -95,10 +95,10 @@ module _ (g : AttributeGrammar) (s : Schedule) (t : Forest) (law : IsLawful g) (
     pub pass : IsOnePass (spot_of s i.attribute) (spot_at stage m)
     pub held : kind ≢ inorder → Contains (nodes_of t grain p) (turn_of g i).visit
 
-  many_of : (i : Instance) → IsStep g t i → many i.attribute (entries s) ≡ 1
+  pub many_of : (i : Instance) → IsStep g t i → many i.attribute (entries s) ≡ 1
   many_of i step = once i.attribute (attribute_of_step g law t fits i step) step.1
 
-  pass_of_step : (m : ℕ) (i : Instance) → IsStep g t i → Contains (pass_at s stage m).attributes i.attribute
+  pub pass_of_step : (m : ℕ) (i : Instance) → IsStep g t i → Contains (pass_at s stage m).attributes i.attribute
       → IsOnePass (spot_of s i.attribute) (spot_at stage m)
   pass_of_step m i step there =
       let e = many_of i step in
@@ -135,7 +135,7 @@ module _ (g : AttributeGrammar) (s : Schedule) (t : Forest) (law : IsLawful g) (
   step_here x i h =
       step_by (pass_at s stage x.pass).kind x.pass x.first i (item_here (passes_of s stage) t grain x h.0).there h.1
 
-  by_has : (kind : PassKind) (m : ℕ) (p : Path) (i : Instance) → IsStep g t i
+  pub by_has : (kind : PassKind) (m : ℕ) (p : Path) (i : Instance) → IsStep g t i
       → IsOnePass (spot_of s i.attribute) (spot_at stage m) → Contains (pass_at s stage m).attributes i.attribute
       → (kind ≢ inorder → Contains (nodes_of t grain p) (turn_of g i).visit)
       → Contains (steps_by g s stage t grain kind (pass_at s stage m).attributes (item m p)) i
@@ -174,7 +174,7 @@ module _ (g : AttributeGrammar) (s : Schedule) (t : Forest) (law : IsLawful g) (
       record { first = o.0; there = o.1.0; held = λ s. o.1.1; only = λ q h held. o.2 q (h, held some) })
       (kind_cases kind)
 
-  visit_there : (i : Instance) → IsStep g t i → Has t (turn_of g i).visit
+  pub visit_there : (i : Instance) → IsStep g t i → Has t (turn_of g i).visit
   visit_there i step = runs_at t (g.sort i.attribute) i.node step.0.0
 
   -- the item that has a step

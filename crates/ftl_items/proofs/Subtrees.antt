@@ -4,7 +4,7 @@ use Rattle.std.specs.List.{range_with_len}
 use Rattle.std.proofs.lemmas.List.{get_or_default}
 use Rattle.ftl_lists.specs.Lists.{AreDistinct}
 use Rattle.ftl_lists.proofs.Elements.{distinct-range, distinct_by_number, each_in, here_in, in_cases, in_range_from, later_in, range_has}
-use Rattle.ftl_lists.proofs.Rising.{in_map, map_has}
+use Rattle.ftl_lists.proofs.Rising.{Rising, in_map, map_has}
 use Rattle.ftl_model.specs.Path.{Above, AtOrAbove, Has, Path, at, nodes_below, number_of, preorder, top}
 use Rattle.ftl_model.specs.Tree.{Forest, IsTree, below_of, size}
 use Rattle.ftl_model.proofs.Numbering.{has-nodes_below, left_all, length-preorder, number_of-node_at, numbers-nodes_below}
@@ -12,6 +12,7 @@ use Rattle.ftl_model.proofs.Standing.{node_at-number_of}
 use Rattle.ftl_order.proofs.Ranges.{above_range, range_above}
 use Rattle.ftl_order.proofs.SequenceOrder.{top_above}
 use Rattle.ftl_items.specs.Cut.{subtree}
+use Rattle.ftl_items.proofs.Ahead.{rising-range, rising_by_map}
 use Rattle.ftl_items.proofs.Pieces.{distinct_by_map}
 
 abbrev nodes_under : Forest → Path → List Path
@@ -87,4 +88,14 @@ distinct-subtree t p h = (
   distinct_by_map (number_of t) (nodes_under t p)
       (subst AreDistinct (sym (numbers_under t p))
       (distinct-range (suc (number_of t p + 0)) (size (below_of (at t p))))),
+)
+
+pub rising-subtree : (t : Forest) (p : Path) → Has t p
+    → Rising (λ a b. number_of t a < number_of t b) (subtree t p)
+rising-subtree t p h = (
+  (λ q there.
+      (above_range t p q (has_under t p q there) (under_above t p q h there)).0),
+  rising_by_map (number_of t) (nodes_under t p)
+      (subst (Rising (λ k l. k < l)) (sym (numbers_under t p))
+      (rising-range (suc (number_of t p + 0)) (size (below_of (at t p))))),
 )

@@ -5,4 +5,5 @@ pub mod VisitLaws
 pub mod Items
 pub mod StageWork
 pub mod StepLaws
+pub mod ReadLaws
 pub mod Limits
