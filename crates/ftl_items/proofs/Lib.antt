@@ -10,3 +10,4 @@ pub mod StepLaws
 pub mod Ahead
 pub mod ByKey
 pub mod Readable
+pub mod Later

@@ -6,4 +6,5 @@ pub mod Items
 pub mod StageWork
 pub mod StepLaws
 pub mod ReadLaws
+pub mod NextLaws
 pub mod Limits
