@@ -5,3 +5,9 @@ pub mod CutLaws
 pub mod HandingLaws
 pub mod Pieces
 pub mod VisitLaws
+pub mod Passes
+pub mod StepLaws
+pub mod Ahead
+pub mod ByKey
+pub mod Readable
+pub mod Later

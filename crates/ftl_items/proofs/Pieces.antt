@@ -3,7 +3,7 @@ use Rattle.std.proofs.Common.{◌≡◌, ℕ, suc, ◌+◌, ◌<◌, ◌≤◌, 
 use Rattle.std.proofs.lemmas.List.Sums.{sum_by-cons}
 use Rattle.ftl_lists.specs.Lists.{AreDistinct}
 use Rattle.ftl_lists.proofs.Elements.{distinct-append, here_in, in_cases, in_flat_map, later_in, nothing_in}
-use Rattle.ftl_lists.proofs.Rising.{in_map}
+use Rattle.ftl_lists.proofs.Rising.{in_map, map_has}
 
 pub distinct-map : {X Y : Type 0} (h : X → Y) → ((x z : X) → h x ≡ h z → x ≡ z) → (xs : List X) → AreDistinct xs
     → AreDistinct (map h xs)
@@ -25,6 +25,25 @@ distinct_pieces f each apart (x ∷ xs) d =
     (λ y here there.
     let i = in_flat_map f xs y there in
     d.0 (subst (Contains xs) (sym (apart x i.0 y here i.2)) i.1))
+
+-- the same, where only pieces of the list's entries are known
+pub distinct_pieces_in : {X Y : Type 0} (f : X → List Y) (xs : List X) → ((x : X) → Contains xs x → AreDistinct (f x))
+    → ((x z : X) (y : Y) → Contains xs x → Contains xs z → Contains (f x) y → Contains (f z) y → x ≡ z)
+    → AreDistinct xs → AreDistinct (flat_map f xs)
+distinct_pieces_in f [] each apart d = tt
+distinct_pieces_in f (x ∷ xs) each apart d =
+    distinct-append (f x) (flat_map f xs) (each x (here_in x xs))
+    (distinct_pieces_in f xs (λ z h. each z (later_in x z xs h))
+    (λ z w y hz hw. apart z w y (later_in x z xs hz) (later_in x w xs hw)) d.1)
+    (λ y here there.
+    let i = in_flat_map f xs y there in
+    d.0
+    (subst (Contains xs) (sym (apart x i.0 y (here_in x xs) (later_in x i.0 xs i.1) here i.2)) i.1))
+
+-- entries differ where their images do
+pub distinct_by_map : {X Y : Type 0} (h : X → Y) (xs : List X) → AreDistinct (map h xs) → AreDistinct xs
+distinct_by_map h [] d = tt
+distinct_by_map h (x ∷ xs) d = ((λ again. d.0 (map_has h xs x again)), distinct_by_map h xs d.1)
 
 abbrev one : Bool → ℕ
 one b = cond b 1 0

@@ -3,8 +3,8 @@ use Rattle.std.proofs.Common.{◌≡◌, ℕ, suc, ◌+◌, ◌<◌, sym, ◌∙
 use Rattle.std.specs.List.{range_with_len}
 use Rattle.std.proofs.lemmas.List.{get_or_default}
 use Rattle.ftl_lists.specs.Lists.{AreDistinct}
-use Rattle.ftl_lists.proofs.Elements.{distinct_by_number, each_in, here_in, in_cases, in_range_from, later_in, range_has}
-use Rattle.ftl_lists.proofs.Rising.{in_map, map_has}
+use Rattle.ftl_lists.proofs.Elements.{distinct-range, distinct_by_number, each_in, here_in, in_cases, in_range_from, later_in, range_has}
+use Rattle.ftl_lists.proofs.Rising.{Rising, in_map, map_has}
 use Rattle.ftl_model.specs.Path.{Above, AtOrAbove, Has, Path, at, nodes_below, number_of, preorder, top}
 use Rattle.ftl_model.specs.Tree.{Forest, IsTree, below_of, size}
 use Rattle.ftl_model.proofs.Numbering.{has-nodes_below, left_all, length-preorder, number_of-node_at, numbers-nodes_below}
@@ -12,6 +12,8 @@ use Rattle.ftl_model.proofs.Standing.{node_at-number_of}
 use Rattle.ftl_order.proofs.Ranges.{above_range, range_above}
 use Rattle.ftl_order.proofs.SequenceOrder.{top_above}
 use Rattle.ftl_items.specs.Cut.{subtree}
+use Rattle.ftl_items.proofs.Ahead.{rising-range, rising_by_map}
+use Rattle.ftl_items.proofs.Pieces.{distinct_by_map}
 
 abbrev nodes_under : Forest → Path → List Path
 nodes_under t p = nodes_below p (λ c. 0) (below_of (at t p))
@@ -75,3 +77,25 @@ distinct-preorder t =
     number_of_entry k d below =
         ap (number_of t) (get_or_default (preorder t) k d top below)
         ∙ number_of-node_at t k (let e = length-preorder t in omega (arith, e, below))
+
+pub distinct-subtree : (t : Forest) (p : Path) → Has t p → AreDistinct (subtree t p)
+distinct-subtree t p h = (
+  (λ again.
+      let r = above_range t p p h (under_above t p p h again) in
+      let less = r.0 in
+      let z : ⊥ = omega (arith, less) in
+      z),
+  distinct_by_map (number_of t) (nodes_under t p)
+      (subst AreDistinct (sym (numbers_under t p))
+      (distinct-range (suc (number_of t p + 0)) (size (below_of (at t p))))),
+)
+
+pub rising-subtree : (t : Forest) (p : Path) → Has t p
+    → Rising (λ a b. number_of t a < number_of t b) (subtree t p)
+rising-subtree t p h = (
+  (λ q there.
+      (above_range t p q (has_under t p q there) (under_above t p q h there)).0),
+  rising_by_map (number_of t) (nodes_under t p)
+      (subst (Rising (λ k l. k < l)) (sym (numbers_under t p))
+      (rising-range (suc (number_of t p + 0)) (size (below_of (at t p))))),
+)

@@ -103,20 +103,29 @@ module _ (g : AttributeGrammar) (law : IsLawful g) (t : Forest) (fits : IsTreeOf
       (λ b. Contains (flat_map (steps_of_rule t p) (if b then for_self (class_at t p) a ∷ [] else [])) (instance_of p a))
       (sym (listed (attributes_of g (class_at t p)) a of)) (here_in (instance_of p a) [])
 
+  -- the child in which a kid stands is among those with its inherited attributes
+  pub child_there : (c k : ℕ) (p : Path) (a : ℕ) → g.sort a ≡ inherited → Has t (down c k p)
+      → OfClass g (class_at t (down c k p)) a → Contains (children_with g (class_at t p) a) c
+  child_there c k p a e there of =
+      let class = class_at t p in
+      let declared = (kid_stands g t c k p fits there).declared in
+      filter_has (λ c. is_listed (g.shared (g.child_interface class c)) a) (range_with_len 0 (g.child_count class)) c
+      (range_has 0 (g.child_count class) c (omega arith) (omega (arith, declared)))
+      (listed (g.shared (g.child_interface class c)) a (inherited_of_child g law t fits a c k p there of e))
+
+  pub kid_there : (c k : ℕ) (p : Path) → Has t (down c k p) → Contains (range_with_len 0 (kids_at t p c)) k
+  kid_there c k p there =
+      let counted = kid_counted c k (below_of (at t p)) there in
+      range_has 0 (kids_at t p c) k (omega arith) (omega (arith, counted))
+
   kid_has : (c k : ℕ) (p : Path) (a : ℕ) → g.sort a ≡ inherited → Has t (down c k p)
       → OfClass g (class_at t (down c k p)) a → Contains (steps_for p inherited a) (instance_of (down c k p) a)
   kid_has c k p a e there of =
       let class = class_at t p in
-      let declared = (kid_stands g t c k p fits there).declared in
-      let counted = kid_counted c k (below_of (at t p)) there in
       flat_map_has (steps_of_rule t p) (map (λ c. for_child class c a) (children_with g class a)) (for_child class c a)
       (instance_of (down c k p) a)
-      (map_has (λ c. for_child class c a) (children_with g class a) c
-      (filter_has (λ c. is_listed (g.shared (g.child_interface class c)) a) (range_with_len 0 (g.child_count class)) c
-      (range_has 0 (g.child_count class) c (omega arith) (omega (arith, declared)))
-      (listed (g.shared (g.child_interface class c)) a (inherited_of_child g law t fits a c k p there of e))))
-      (map_has (λ k. instance_of (down c k p) a) (range_with_len 0 (kids_at t p c)) k
-      (range_has 0 (kids_at t p c) k (omega arith) (omega (arith, counted))))
+      (map_has (λ c. for_child class c a) (children_with g class a) c (child_there c k p a e there of))
+      (map_has (λ k. instance_of (down c k p) a) (range_with_len 0 (kids_at t p c)) k (kid_there c k p there))
 
   pub has_step : (sort : Sort) (q : Path) (a : ℕ) (p : Path) → g.sort a ≡ sort → sort ≢ input → Has t q
       → OfClass g (class_at t q) a → rule_node sort q ≡ p → Contains (steps_for p sort a) (instance_of q a)
@@ -181,7 +190,7 @@ module _ (g : AttributeGrammar) (law : IsLawful g) (t : Forest) (fits : IsTreeOf
       children_agree : (c d k n : ℕ) → instance_of (down c k p) a ≡ instance_of (down d n p) a → c ≡ d
       children_agree c d k n e = ap (λ i. child_at i.node) e
 
-  attribute_of_step : (i : Instance) → IsStep g t i → i.attribute < g.attribute_count
+  pub attribute_of_step : (i : Instance) → IsStep g t i → i.attribute < g.attribute_count
   attribute_of_step i step =
       let k = class_at t i.node in
       let known = class_known g t fits i.node step.0.0 in

@@ -4,4 +4,7 @@ pub mod Visits
 pub mod VisitLaws
 pub mod Items
 pub mod StageWork
+pub mod StepLaws
+pub mod ReadLaws
+pub mod NextLaws
 pub mod Limits

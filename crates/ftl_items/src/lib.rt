@@ -7,8 +7,14 @@
 
 mod cut_laws;
 mod handing_laws;
+mod later_laws;
+mod read_laws;
+mod step_laws;
 mod visit_laws;
 
 pub use cut_laws::cuts;
 pub use handing_laws::handings;
+pub use later_laws::next_items;
+pub use read_laws::reads;
+pub use step_laws::steps;
 pub use visit_laws::visits;
