@@ -1,11 +1,10 @@
 -- A stage is lawful work.
-use Rattle.std.proofs.Common.{◌≡◌, ◌≢◌, ◌⊎◌, ℕ, suc, ◌+◌, ◌<◌, ◌≤◌, ◌==◌, ◌^◌, Bool, true, false, if◌then◌else◌, ltb, ltb-true, ltb-false, refl, sym, ◌∙◌, ap, subst, inl, inr, ⊎_elim, arith, eqb-true, eq-eqb, List, [], ◌∷◌, filter, get_or, length, map, Contains}
+use Rattle.std.proofs.Common.{◌≡◌, ◌≢◌, ◌⊎◌, ℕ, suc, ◌<◌, ◌≤◌, ◌==◌, ◌^◌, true, false, if◌then◌else◌, ltb, ltb-true, ltb-false, refl, sym, ◌∙◌, ap, subst, inl, inr, ⊎_elim, arith, eqb-true, eq-eqb, List, get_or, length, map, Contains}
 use Rattle.std.specs.List.{range_with_len}
 use Rattle.std.proofs.lemmas.List.{get_or_default, length-map}
 use Rattle.std.proofs.lemmas.List.Elements.{Contains-get_or}
 use Rattle.ftl_cells.specs.Shape.{ComesNext, HasStep, IsFilledBy, IsLawfulWorkShape, IsOwnCell, IsPassedCell, WorkShape}
 use Rattle.ftl_cells.specs.Count.{Counts, at_zero, counts_it, skips_it}
-use Rattle.ftl_cells.specs.declared.kind.CellKind.{CellKind}
 use Rattle.ftl_cells.specs.declared.kind.CellKind.TheVariants.{Given, Target, Later}
 use Rattle.ftl_lists.specs.Lists.{AreDistinct}
 use Rattle.ftl_lists.proofs.Elements.{distinct-filter, distinct-range, filter_has, in_filter, in_range_from, range_has}
@@ -19,8 +18,7 @@ use Rattle.ftl_model.specs.Values.{Value}
 use Rattle.ftl_order.specs.Lawful.{IsLawful}
 use Rattle.ftl_order.specs.LegalOrder.{IsStep}
 use Rattle.ftl_order.specs.Ordered.{IsOrdered}
-use Rattle.ftl_order.specs.Reads.{reads_of}
-use Rattle.ftl_order.specs.Schedule.{Pass, Schedule, spot_of}
+use Rattle.ftl_order.specs.Schedule.{Schedule, spot_of}
 use Rattle.ftl_order.proofs.Instances.{instance_at_number, instance_here, number_within}
 use Rattle.ftl_order.proofs.Kids.{root_there}
 use Rattle.ftl_order.proofs.TreeEquations.{inside_by}
