@@ -12,6 +12,7 @@ mod read_laws;
 mod step_laws;
 mod visit_laws;
 mod work_laws;
+mod worked_items;
 
 pub use cut_laws::cuts;
 pub use handing_laws::handings;
@@ -20,3 +21,4 @@ pub use read_laws::reads;
 pub use step_laws::steps;
 pub use visit_laws::visits;
 pub use work_laws::stages;
+pub use worked_items::items_of_two_words;
