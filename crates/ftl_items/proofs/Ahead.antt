@@ -1,10 +1,10 @@
 -- Which of two entries stands ahead in a list.
-use Rattle.std.proofs.Common.{◌≡◌, ◌⊎◌, ℕ, zero, suc, ◌+◌, ◌<◌, ◌≤◌, ◌==◌, Bool, true, false, cond, if◌then◌else◌, refl, sym, ◌∙◌, ap, subst, inl, inr, ⊎_elim, arith, eq-eqb, eqb-true, List, [], ◌∷◌, ◌++◌, filter, flat_map, get_or, length, map, reverse, Contains}
+use Rattle.std.proofs.Common.{◌≡◌, ◌⊎◌, ℕ, zero, suc, ◌+◌, ◌<◌, ◌==◌, Bool, true, false, cond, if◌then◌else◌, refl, sym, ◌∙◌, ap, subst, inl, inr, ⊎_elim, arith, eq-eqb, eqb-true, List, [], ◌∷◌, ◌++◌, filter, flat_map, length, map, reverse, Contains}
 use Rattle.std.specs.List.{range_with_len}
 use Rattle.std.proofs.lemmas.List.{get_or_default}
 use Rattle.std.proofs.lemmas.List.Elements.{Contains-append_left, Contains-append_right}
 use Rattle.ftl_lists.specs.Lists.{StandsBefore, place_in}
-use Rattle.ftl_lists.proofs.Elements.{filter_has, flat_map_has, here_in, in_cases, in_range_from, later_in, nothing_in, range_has}
+use Rattle.ftl_lists.proofs.Elements.{filter_has, flat_map_has, here_in, in_cases, in_range_from, nothing_in}
 use Rattle.ftl_lists.proofs.Rising.{Rising, map_has}
 use Rattle.ftl_items.proofs.Reverses.{reverse-cons, reverse_has}
 

@@ -1,5 +1,5 @@
 -- In a visit steps stand by key, and those of one rule by kid.
-use Rattle.std.proofs.Common.{◌≡◌, ◌≢◌, ◌⊎◌, ℕ, suc, ◌+◌, ◌<◌, ◌≤◌, Bool, refl, sym, ◌∙◌, ap, ap₂, subst, inl, inr, ⊎_elim, arith, List, [], ◌∷◌, flat_map, get_or, map, Contains}
+use Rattle.std.proofs.Common.{◌≡◌, ◌⊎◌, ℕ, ◌<◌, Bool, refl, sym, ◌∙◌, ap, ap₂, subst, inl, inr, ⊎_elim, arith, List, flat_map, get_or, map, Contains}
 use Rattle.std.specs.List.{range_with_len}
 use Rattle.ftl_lists.specs.Lists.{is_listed, place_in}
 use Rattle.ftl_lists.proofs.Elements.{in_filter}

@@ -1,12 +1,11 @@
 -- Items hand on to later ones alone.
-use Rattle.std.proofs.Common.{◌≡◌, ◌≢◌, ◌⊎◌, ℕ, zero, suc, ◌+◌, ◌-◌, ◌<◌, ◌≤◌, ◌==◌, ◌&&◌, Bool, true, false, cond, refl, sym, ◌∙◌, ap, subst, inl, inr, ⊎_elim, arith, eqb-true, List, [], ◌∷◌, ◌++◌, filter, get_or, length, map, reverse, length-append, Contains}
+use Rattle.std.proofs.Common.{◌≡◌, ◌≢◌, ℕ, zero, suc, ◌+◌, ◌-◌, ◌<◌, ◌==◌, ◌&&◌, Bool, true, false, cond, refl, sym, ◌∙◌, ap, subst, inl, inr, ⊎_elim, arith, eqb-true, List, [], ◌∷◌, ◌++◌, filter, get_or, length, length-append, Contains}
 use Rattle.std.specs.List.{range_with_len}
-use Rattle.std.proofs.lemmas.Bool.{cases_lt}
 use Rattle.std.proofs.lemmas.List.Elements.{Contains-get_or, filter-append}
 use Rattle.ftl_cells.specs.Count.{Counts, at_zero, counts_it, skips_it}
 use Rattle.ftl_lists.specs.Lists.{AreDistinct}
 use Rattle.ftl_lists.proofs.Elements.{later_in, range_has}
-use Rattle.ftl_model.specs.Path.{Above, Has, Path, down, number_of, preorder, top}
+use Rattle.ftl_model.specs.Path.{Above, Has, Path, number_of, preorder, top}
 use Rattle.ftl_model.specs.Tree.{Forest, IsTree}
 use Rattle.ftl_order.specs.Schedule.{Pass, PassKind, bottomup, inorder, topdown}
 use Rattle.ftl_order.proofs.Ranges.{above_range}

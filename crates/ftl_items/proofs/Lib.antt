@@ -11,3 +11,5 @@ pub mod Ahead
 pub mod ByKey
 pub mod Readable
 pub mod Later
+pub mod Fewer
+pub mod WorkLaws

@@ -1,5 +1,5 @@
 -- Lists of pieces that repeat nothing.
-use Rattle.std.proofs.Common.{◌≡◌, ℕ, suc, ◌+◌, ◌<◌, ◌≤◌, ◌==◌, Bool, true, false, cond, refl, sym, ◌∙◌, ap, subst, ⊎_elim, arith, eq-eqb, List, [], ◌∷◌, ◌++◌, map, flat_map, count_by, Contains}
+use Rattle.std.proofs.Common.{◌≡◌, ℕ, suc, ◌+◌, ◌<◌, ◌≤◌, ◌==◌, Bool, cond, refl, sym, ◌∙◌, ap, subst, ⊎_elim, arith, eq-eqb, List, [], ◌∷◌, ◌++◌, map, flat_map, count_by, Contains}
 use Rattle.std.proofs.lemmas.List.Sums.{sum_by-cons}
 use Rattle.ftl_lists.specs.Lists.{AreDistinct}
 use Rattle.ftl_lists.proofs.Elements.{distinct-append, here_in, in_cases, in_flat_map, later_in, nothing_in}

@@ -1,16 +1,15 @@
 -- What a step reads is given, ahead in its item, or of an item that hands on to it.
-use Rattle.std.proofs.Common.{◌≡◌, ◌≢◌, ◌⊎◌, ℕ, suc, ◌+◌, ◌<◌, ◌==◌, ◌&&◌, Bool, true, false, if◌then◌else◌, refl, sym, ◌∙◌, ap, ap₂, subst, inl, inr, ⊎_elim, arith, eq-eqb, List, [], ◌∷◌, flat_map, length, map, reverse, Contains, Option, Some, None}
-use Rattle.std.specs.List.{range_with_len}
-use Rattle.ftl_lists.specs.Lists.{Before, StandsBefore}
-use Rattle.ftl_lists.proofs.Elements.{here_in, in_cases, nothing_in}
+use Rattle.std.proofs.Common.{◌≡◌, ◌≢◌, ◌⊎◌, ℕ, ◌<◌, ◌==◌, ◌&&◌, Bool, true, false, if◌then◌else◌, refl, sym, ◌∙◌, ap, ap₂, subst, inl, inr, ⊎_elim, arith, eq-eqb, List, [], ◌∷◌, flat_map, length, reverse, Contains, Some}
+use Rattle.ftl_lists.specs.Lists.{StandsBefore}
+use Rattle.ftl_lists.proofs.Elements.{nothing_in}
 use Rattle.ftl_lists.proofs.Rising.{Rising}
 use Rattle.ftl_model.specs.AttributeGrammar.{AttributeGrammar, Sort, inherited, input, local, synthesized}
-use Rattle.ftl_model.specs.Path.{Above, Has, Path, down, number_of, parent_of, top}
+use Rattle.ftl_model.specs.Path.{Has, Path, down, number_of, parent_of, top}
 use Rattle.ftl_model.specs.Solves.{Instance}
-use Rattle.ftl_model.specs.Tree.{Forest, IsTree, below_of, size}
+use Rattle.ftl_model.specs.Tree.{Forest, IsTree}
 use Rattle.ftl_model.specs.TreeOf.{IsTreeOf}
 use Rattle.ftl_order.specs.Lawful.{IsLawful}
-use Rattle.ftl_order.specs.LegalOrder.{IsNearBefore, IsStep, KeyFirst, NearInPass, address, turn_of}
+use Rattle.ftl_order.specs.LegalOrder.{IsStep, KeyFirst, NearInPass, turn_of}
 use Rattle.ftl_order.specs.Ordered.{EachPairOrdered}
 use Rattle.ftl_order.specs.Reads.{Reads}
 use Rattle.ftl_order.specs.Schedule.{EachStandsOnce, IsOnePass, PassKind, Schedule, bottomup, inorder, pass_at, spot_of, topdown}
@@ -19,7 +18,7 @@ use Rattle.ftl_order.proofs.Ranges.{above_range}
 use Rattle.ftl_order.proofs.SequenceOrder.{stands_by_address, step_there, top_above}
 use Rattle.ftl_order.proofs.TreeEquations.{inside_by}
 use Rattle.ftl_items.specs.Cut.{begins, is_open, is_small, nodes_of, subtree, tops}
-use Rattle.ftl_items.specs.Items.{Item, hands_on, is_next, is_parent, item, pass_in, passes_of, spot_at, steps_by, steps_of_item}
+use Rattle.ftl_items.specs.Items.{Item, hands_on, item, passes_of, spot_at, steps_by, steps_of_item}
 use Rattle.ftl_items.specs.ReadLaws.{IsGivenIn, IsHandedTo}
 use Rattle.ftl_items.specs.StepLaws.{HasStep}
 use Rattle.ftl_items.specs.Visits.{visit}
@@ -30,7 +29,7 @@ use Rattle.ftl_items.proofs.HandingLaws.{parent_is}
 use Rattle.ftl_items.proofs.Homes.{first_in, home, home_holds, only_home, open_home}
 use Rattle.ftl_items.proofs.Passes.{listed_at}
 use Rattle.ftl_items.proofs.Reverses.{reverse_has}
-use Rattle.ftl_items.proofs.StepLaws.{StepHere, by_has, item_here, item_there, many_of, pass_of_step, root, step_here, visit_there}
+use Rattle.ftl_items.proofs.StepLaws.{by_has, item_here, item_there, many_of, root, step_here, visit_there}
 use Rattle.ftl_items.proofs.Subtrees.{rising-subtree}
 use Rattle.ftl_items.proofs.VisitLaws.{visit_has}
 

@@ -1,22 +1,20 @@
 -- The items of a stage, and the one that has a step.
-use Rattle.std.proofs.Common.{◌≡◌, ◌≢◌, ◌⊎◌, ℕ, zero, suc, ◌+◌, ◌<◌, ◌≤◌, Bool, true, false, if◌then◌else◌, refl, sym, ◌∙◌, ap, ap₂, subst, inl, inr, ⊎_elim, arith, List, [], ◌∷◌, filter, flat_map, get_or, length, map, reverse, Contains}
+use Rattle.std.proofs.Common.{◌≡◌, ◌≢◌, ◌⊎◌, ℕ, zero, suc, ◌<◌, ◌≤◌, true, false, if◌then◌else◌, refl, sym, ◌∙◌, ap, ap₂, subst, inl, inr, ⊎_elim, arith, List, [], ◌∷◌, flat_map, length, reverse, Contains}
 use Rattle.std.specs.List.{range_with_len}
-use Rattle.std.proofs.lemmas.List.Elements.{Contains-append_cases}
 use Rattle.ftl_lists.specs.Lists.{AreDistinct}
 use Rattle.ftl_lists.proofs.Elements.{distinct-range, flat_map_has, here_in, in_cases, in_flat_map, in_range_from, nothing_in, range_has}
 use Rattle.ftl_lists.proofs.Listed.{counted_in}
 use Rattle.ftl_lists.proofs.Rising.{before_once, in_map, map_has}
 use Rattle.ftl_model.specs.AttributeGrammar.{AttributeGrammar, Sort, inherited, input, local, synthesized}
-use Rattle.ftl_model.specs.Path.{AtOrAbove, Has, Path, down, top}
-use Rattle.ftl_model.specs.Solves.{Instance, instance_of, rule_node}
+use Rattle.ftl_model.specs.Path.{Has, Path, down, top}
+use Rattle.ftl_model.specs.Solves.{Instance, rule_node}
 use Rattle.ftl_model.specs.Tree.{Forest, IsTree}
 use Rattle.ftl_model.specs.TreeOf.{IsTreeOf}
 use Rattle.ftl_model.proofs.Standing.{has_parent}
 use Rattle.ftl_order.specs.Lawful.{IsLawful}
 use Rattle.ftl_order.specs.LegalOrder.{IsStep, address, turn_of}
-use Rattle.ftl_order.specs.Ordered.{IsOrdered}
-use Rattle.ftl_order.specs.Schedule.{EachStandsOnce, IsOnePass, Pass, PassKind, Schedule, bottomup, empty_pass, entries, inorder, pass_at, spot_of, topdown}
-use Rattle.ftl_order.specs.Sequence.{sequence, sequence_at}
+use Rattle.ftl_order.specs.Schedule.{EachStandsOnce, IsOnePass, Pass, PassKind, Schedule, bottomup, entries, inorder, pass_at, spot_of, topdown}
+use Rattle.ftl_order.specs.Sequence.{sequence_at}
 use Rattle.ftl_order.proofs.Kids.{root_there}
 use Rattle.ftl_order.proofs.SequenceAddresses.{EarlierAddress}
 use Rattle.ftl_order.proofs.SequenceOnly.{rising_distinct, sequence_only}

@@ -1,5 +1,5 @@
 -- A visit, attribute by attribute.
-use Rattle.std.proofs.Common.{◌≡◌, ◌≢◌, ℕ, suc, ◌+◌, ◌<◌, ◌≤◌, ◌==◌, Bool, true, false, if◌then◌else◌, refl, sym, ◌∙◌, ap, subst, inl, inr, ⊎_elim, arith, List, [], ◌∷◌, ◌++◌, filter, map, flat_map, count_by, Contains}
+use Rattle.std.proofs.Common.{◌≡◌, ◌≢◌, ℕ, ◌<◌, ◌≤◌, ◌==◌, true, false, if◌then◌else◌, refl, sym, ◌∙◌, ap, subst, ⊎_elim, arith, List, [], ◌∷◌, ◌++◌, map, flat_map, count_by, Contains}
 use Rattle.std.specs.List.{range_with_len}
 use Rattle.std.proofs.lemmas.Grind.{flat_map-append}
 use Rattle.std.proofs.lemmas.List.Elements.{Contains-append_cases}
@@ -7,13 +7,12 @@ use Rattle.ftl_lists.specs.Lists.{AreDistinct, is_listed}
 use Rattle.ftl_lists.proofs.Elements.{distinct-filter, distinct-range, filter_has, flat_map_has, here_in, in_cases, in_filter, in_flat_map, in_range_from, nothing_in, range_has}
 use Rattle.ftl_lists.proofs.Listed.{is_there, listed}
 use Rattle.ftl_lists.proofs.Rising.{in_map, map_has}
-use Rattle.ftl_model.specs.AttributeGrammar.{AttributeGrammar, RuleName, Sort, attributes_of, for_child, for_self, inherited, input, local, synthesized}
+use Rattle.ftl_model.specs.AttributeGrammar.{AttributeGrammar, Sort, attributes_of, for_child, for_self, inherited, input, local, synthesized}
 use Rattle.ftl_model.specs.Path.{Has, Path, at, child_at, class_at, down, kid_at, kids_at, top}
-use Rattle.ftl_model.specs.Solves.{Instance, IsInstance, instance_of, rule_node}
+use Rattle.ftl_model.specs.Solves.{Instance, instance_of, rule_node}
 use Rattle.ftl_model.specs.Tree.{Forest, below_of}
 use Rattle.ftl_model.specs.TreeOf.{IsTreeOf}
 use Rattle.ftl_model.proofs.Fits.{kid_stands}
-use Rattle.ftl_model.proofs.Standing.{has_parent}
 use Rattle.ftl_order.specs.Lawful.{IsLawful, OfClass, class_owner, interface_owner}
 use Rattle.ftl_order.specs.LegalOrder.{IsStep, turn_of}
 use Rattle.ftl_order.proofs.Kids.{class_known, kid_counted}

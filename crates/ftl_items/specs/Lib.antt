@@ -7,4 +7,5 @@ pub mod StageWork
 pub mod StepLaws
 pub mod ReadLaws
 pub mod NextLaws
+pub mod WorkLaws
 pub mod Limits

@@ -1,6 +1,6 @@
 -- What a step of a stage may read: an input, what an earlier stage computed, what its item computed before, or what an
 -- item computes that hands on to it.
-use Rattle.std.specs.Prelude.{◌≡◌, ◌⊎◌, ℕ, ◌<◌, true, List, Contains}
+use Rattle.std.specs.Prelude.{◌≡◌, ◌⊎◌, ℕ, ◌<◌, true, Contains}
 use Rattle.ftl_lists.specs.Lists.{StandsBefore}
 use Rattle.ftl_model.specs.AttributeGrammar.{AttributeGrammar, input}
 use Rattle.ftl_model.specs.Path.{Has, Path}

@@ -1,5 +1,5 @@
 -- What the items of a stage have: each of its steps in one item, at one place.
-use Rattle.std.specs.Prelude.{◌≡◌, ℕ, List, Contains}
+use Rattle.std.specs.Prelude.{◌≡◌, ℕ, Contains}
 use Rattle.ftl_lists.specs.Lists.{AreDistinct}
 use Rattle.ftl_model.specs.AttributeGrammar.{AttributeGrammar}
 use Rattle.ftl_model.specs.Solves.{Instance}

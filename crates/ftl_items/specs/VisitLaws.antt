@@ -1,14 +1,13 @@
 -- What a visit has: the steps of its list's attributes that run at its node, each once.
 use Rattle.std.specs.Prelude.{◌≡◌, ◌≢◌, ◌↔◌, ℕ, ◌<◌, ◌≤◌, ◌==◌, List, Contains, count_by}
-use Rattle.ftl_lists.specs.Lists.{AreDistinct, StandsBefore}
+use Rattle.ftl_lists.specs.Lists.{AreDistinct}
 use Rattle.ftl_model.specs.AttributeGrammar.{AttributeGrammar, input}
 use Rattle.ftl_model.specs.Path.{Has, Path}
 use Rattle.ftl_model.specs.Solves.{Instance}
 use Rattle.ftl_model.specs.Tree.{Forest}
 use Rattle.ftl_model.specs.TreeOf.{IsTreeOf}
 use Rattle.ftl_order.specs.Lawful.{IsLawful}
-use Rattle.ftl_order.specs.LegalOrder.{IsStep, KeyFirst, turn_of}
-use Rattle.ftl_order.specs.Schedule.{IsOnePass, Schedule, Spot, pass_at, spot_of}
+use Rattle.ftl_order.specs.LegalOrder.{IsStep, turn_of}
 use Rattle.ftl_items.specs.Visits.{visit}
 
 -- of each tree of a lawful grammar

@@ -11,6 +11,8 @@ mod later_laws;
 mod read_laws;
 mod step_laws;
 mod visit_laws;
+mod work_laws;
+mod worked_items;
 
 pub use cut_laws::cuts;
 pub use handing_laws::handings;
@@ -18,3 +20,5 @@ pub use later_laws::next_items;
 pub use read_laws::reads;
 pub use step_laws::steps;
 pub use visit_laws::visits;
+pub use work_laws::stages;
+pub use worked_items::items_of_two_words;
