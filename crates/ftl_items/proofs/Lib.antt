@@ -13,3 +13,4 @@ pub mod Readable
 pub mod Later
 pub mod Fewer
 pub mod WorkLaws
+pub mod WordLaws

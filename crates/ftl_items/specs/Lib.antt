@@ -8,4 +8,5 @@ pub mod StepLaws
 pub mod ReadLaws
 pub mod NextLaws
 pub mod WorkLaws
+pub mod WordLaws
 pub mod Limits

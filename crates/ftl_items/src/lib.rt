@@ -11,6 +11,7 @@ mod later_laws;
 mod read_laws;
 mod step_laws;
 mod visit_laws;
+mod word_laws;
 mod work_laws;
 mod worked_items;
 
@@ -20,5 +21,6 @@ pub use later_laws::next_items;
 pub use read_laws::reads;
 pub use step_laws::steps;
 pub use visit_laws::visits;
+pub use word_laws::words_between;
 pub use work_laws::stages;
 pub use worked_items::items_of_two_words;
