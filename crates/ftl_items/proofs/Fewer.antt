@@ -62,7 +62,7 @@ distinct_map_in h (x ∷ xs) only d = (
   (λ again.
       let m = in_map h xs (h x) again in
       d.0
-          (subst (Contains xs) (only m.from x (later_in x m.from xs m.there) (here_in x xs) m.is) m.there)),
+      (subst (Contains xs) (only m.from x (later_in x m.from xs m.there) (here_in x xs) m.is) m.there)),
   distinct_map_in h xs (λ y z hy hz e. only y z (later_in x y xs hy) (later_in x z xs hz) e) d.1,
 )
 
