@@ -8,9 +8,9 @@ use Rattle.ftl_syntax.specs.declared.rules.AttrKind.TheVariants as kinds
 use Rattle.ftl_syntax.specs.declared.rules.Class.{Class}
 use Rattle.ftl_syntax.specs.declared.rules.Grammar.{Grammar}
 use Rattle.ftl_syntax.specs.declared.rules.Interface.{Interface}
-use Rattle.ftl_checked.specs.Checked as told
-use Rattle.ftl_checked.specs.Checked.{Declared, all_attributes, declared}
-use Rattle.ftl_checked.specs.Numbering.{numbered}
+use Rattle.ftl_grammar_faults.specs.Checked as told
+use Rattle.ftl_grammar_faults.specs.Checked.{Declared, all_attributes, declared}
+use Rattle.ftl_grammar_faults.specs.Numbering.{numbered}
 use Rattle.ftl_meaning.specs.GrammarOf.{attribute_at}
 
 -- an attribute as it is declared

@@ -13,8 +13,8 @@ use Rattle.ftl_syntax.specs.declared.rules.AttrKind.{AttrKind}
 use Rattle.ftl_syntax.specs.declared.rules.AttrKind.TheVariants as kinds
 use Rattle.ftl_syntax.specs.declared.rules.Grammar.{Grammar}
 use Rattle.ftl_document_syntax.specs.Written.{NameText, WrittenFields, list_field, no_fields, node_field, number_field}
-use Rattle.ftl_checked.specs.Checked.{is_input}
-use Rattle.ftl_checked.specs.Numbering.{class_attributes, interface_of, own_attributes, shared_attributes}
+use Rattle.ftl_grammar_faults.specs.Checked.{is_input}
+use Rattle.ftl_grammar_faults.specs.Numbering.{class_attributes, interface_of, own_attributes, shared_attributes}
 use Rattle.ftl_meaning.specs.GrammarOf.{attribute_at, grammar_of, sort_of}
 use Rattle.ftl_lawful.proofs.Numbers.{own_at, shared_at}
 use Rattle.ftl_document_faults.specs.DocumentTree.{inputs_in, number_named}

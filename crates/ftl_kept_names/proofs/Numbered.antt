@@ -11,7 +11,7 @@ use Rattle.ftl_syntax.specs.declared.rules.AttrKind.TheVariants as kinds
 use Rattle.ftl_syntax.specs.declared.rules.Class.{Class}
 use Rattle.ftl_syntax.specs.declared.rules.Grammar.{Grammar}
 use Rattle.ftl_syntax.specs.declared.rules.Interface.{Interface}
-use Rattle.ftl_checked.specs.Numbering.{class_at, interface_at, numbered, own_count, shared_count}
+use Rattle.ftl_grammar_faults.specs.Numbering.{class_at, interface_at, numbered, own_count, shared_count}
 use Rattle.ftl_meaning.specs.GrammarOf.{attribute_at, grammar_of, names_of, sort_of}
 use Rattle.ftl_lawful.proofs.Declared.{declared_in_order}
 use Rattle.ftl_lawful.proofs.Numbers.{own_at, shared_at}

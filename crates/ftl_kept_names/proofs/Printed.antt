@@ -11,8 +11,8 @@ use Rattle.ftl_syntax.specs.Trees.{NameText}
 use Rattle.ftl_syntax.specs.declared.rules.AttrDecl.{AttrDecl}
 use Rattle.ftl_syntax.specs.declared.rules.Grammar.{Grammar}
 use Rattle.ftl_syntax.specs.declared.rules.Interface.{Interface}
-use Rattle.ftl_checked.specs.FirstFault.{attribute_names, first_fault}
-use Rattle.ftl_checked.specs.Numbering.{interface_at, interface_of, is_among, numbered, shared_attributes, shared_count}
+use Rattle.ftl_grammar_faults.specs.FirstFault.{attribute_names, first_fault}
+use Rattle.ftl_grammar_faults.specs.Numbering.{interface_at, interface_of, is_among, numbered, shared_attributes, shared_count}
 use Rattle.ftl_meaning.specs.GrammarOf.{attribute_at, names_of, shown_attributes}
 use Rattle.ftl_lawful.proofs.Numbers.{in_numbered, numbered_has, shared_at}
 use Rattle.ftl_kept_names.specs.Places.{IsInterface, OfMeanings, OfRightMeanings}

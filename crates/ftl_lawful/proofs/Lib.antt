@@ -10,7 +10,6 @@ pub mod RightRules
 pub mod RuleList
 pub mod Declared
 pub mod Needs
-pub mod SpelledKinds
 pub mod Lawfulness
 pub mod KeptRules
 pub mod WorkedKinds

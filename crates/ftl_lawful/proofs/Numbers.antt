@@ -12,7 +12,7 @@ use Rattle.ftl_syntax.specs.declared.rules.AttrKind.TheVariants as kinds
 use Rattle.ftl_syntax.specs.declared.rules.Class.{Class}
 use Rattle.ftl_syntax.specs.declared.rules.Grammar.{Grammar}
 use Rattle.ftl_syntax.specs.declared.rules.Interface.{Interface}
-use Rattle.ftl_checked.specs.Numbering.{class_at, interface_at, numbered, own_attributes, own_count, shared_attributes, shared_count}
+use Rattle.ftl_grammar_faults.specs.Numbering.{class_at, interface_at, numbered, own_attributes, own_count, shared_attributes, shared_count}
 use Rattle.ftl_meaning.specs.GrammarOf.{attribute_at}
 
 -- the numbers of a numbered list are a range

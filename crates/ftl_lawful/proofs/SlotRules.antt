@@ -17,8 +17,8 @@ use Rattle.ftl_syntax.specs.declared.rules.Child.{Child}
 use Rattle.ftl_syntax.specs.declared.rules.Grammar.{Grammar}
 use Rattle.ftl_syntax.specs.declared.rules.Target.{Target}
 use Rattle.ftl_syntax.specs.declared.rules.Target.TheVariants as targets
-use Rattle.ftl_checked.specs.Numbering.{child_at, child_attributes, class_at, class_attributes, find_attribute, find_child, interface_number, interface_of, own_attributes, shared_attributes}
-use Rattle.ftl_checked.specs.RuleForms.{Slot, is_inherited, is_synthesized_or_local, kid_slot, own_slot, slot_by, slot_of}
+use Rattle.ftl_grammar_faults.specs.Numbering.{child_at, child_attributes, class_at, class_attributes, find_attribute, find_child, interface_number, interface_of, own_attributes, shared_attributes}
+use Rattle.ftl_grammar_faults.specs.RuleForms.{Slot, is_inherited, is_synthesized_or_local, kid_slot, own_slot, slot_by, slot_of}
 use Rattle.ftl_meaning.specs.GrammarOf.{attribute_at, grammar_of, name_of_rule, sort_of}
 use Rattle.ftl_lawful.proofs.Found.{find_is}
 use Rattle.ftl_lawful.proofs.Numbers.{own_at, shared_at}

@@ -6,7 +6,7 @@ use Rattle.ftl_syntax.specs.declared.rules.AttrDecl.{AttrDecl}
 use Rattle.ftl_syntax.specs.declared.rules.Class.{Class}
 use Rattle.ftl_syntax.specs.declared.rules.Grammar.{Grammar}
 use Rattle.ftl_syntax.specs.declared.rules.Interface.{Interface}
-use Rattle.ftl_lawful.specs.Faultless.{HasKinds, IsOwnKind, IsSharedKind}
+use Rattle.ftl_grammar_faults.specs.Kinds.{HasKinds, IsOwnKind, IsSharedKind}
 
 -- each interface, each attribute
 abbrev pub SharedByRecursion : List Interface → Type 0

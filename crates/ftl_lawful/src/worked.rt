@@ -1,9 +1,10 @@
 //! Laws on grammars that were typed out by hand.
 
 ghost use Rattle.ftl_syntax.specs.declared.rules.AttrKind.TheVariants as kinds;
-ghost use Rattle.ftl_checked.specs.Worked as written;
+ghost use Rattle.ftl_grammar_faults.specs.Worked as written;
 ghost use Rattle.ftl_meaning.specs.Worked.{two, branches};
-ghost use Rattle.ftl_lawful.specs.Faultless.{HasKinds, IsFaultless};
+ghost use Rattle.ftl_lawful.specs.Faultless.{IsFaultless};
+ghost use Rattle.ftl_grammar_faults.specs.Kinds.{HasKinds};
 ghost use Rattle.ftl_lawful.specs.Worked.{shares, adds};
 
 /// A law: grammars without a fault.

@@ -13,10 +13,11 @@ use Rattle.ftl_syntax.specs.declared.rules.AttrKind.{AttrKind}
 use Rattle.ftl_syntax.specs.declared.rules.AttrKind.TheVariants as kinds
 use Rattle.ftl_syntax.specs.declared.rules.Grammar.{Grammar}
 use Rattle.ftl_syntax.specs.declared.rules.Rule as written
-use Rattle.ftl_checked.specs.FirstFault.{same_slot}
-use Rattle.ftl_checked.specs.Numbering.{child_at, class_at, interface_at, interface_number, interface_of, is_among}
-use Rattle.ftl_checked.specs.Numbering.{numbered, own_attributes, own_count, shared_attributes, shared_count}
-use Rattle.ftl_checked.specs.RuleForms.{Form, Slot, form_of, kid_slot, own_slot, slot_of}
+use Rattle.ftl_grammar_faults.specs.FirstFault.{same_slot}
+use Rattle.ftl_grammar_faults.specs.Numbering.{child_at, class_at, interface_at, interface_number, interface_of}
+use Rattle.ftl_grammar_faults.specs.Numbering.{is_among}
+use Rattle.ftl_grammar_faults.specs.Numbering.{numbered, own_attributes, own_count, shared_attributes, shared_count}
+use Rattle.ftl_grammar_faults.specs.RuleForms.{Form, Slot, form_of, kid_slot, own_slot, slot_of}
 use Rattle.ftl_meaning.specs.Meaning.{rule_of_form}
 
 -- ---- attributes

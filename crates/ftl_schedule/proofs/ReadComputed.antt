@@ -13,9 +13,9 @@ use Rattle.ftl_syntax.specs.declared.rules.AttrDecl.{AttrDecl}
 use Rattle.ftl_syntax.specs.declared.rules.AttrKind.{AttrKind}
 use Rattle.ftl_syntax.specs.declared.rules.AttrKind.TheVariants as kinds
 use Rattle.ftl_syntax.specs.declared.rules.Grammar.{Grammar}
-use Rattle.ftl_checked.specs.Checked.{all_attributes, attribute_named, class_named, is_input, is_own_computed, is_shared_computed, local_named, number_if, shared_named}
-use Rattle.ftl_checked.specs.Numbering.{find_attribute, interface_number, own_attributes, shared_attributes}
-use Rattle.ftl_checked.proofs.AttrInfos.{attribute_count_is}
+use Rattle.ftl_grammar_faults.specs.Checked.{all_attributes, attribute_named, class_named, is_input, is_own_computed, is_shared_computed, local_named, number_if, shared_named}
+use Rattle.ftl_grammar_faults.specs.Numbering.{find_attribute, interface_number, own_attributes, shared_attributes}
+use Rattle.ftl_grammar_tables.proofs.AttrInfos.{attribute_count_is}
 use Rattle.ftl_meaning.specs.GrammarOf.{attribute_at, grammar_of, sort_of}
 use Rattle.ftl_lawful.proofs.Found.{find_is}
 use Rattle.ftl_lawful.proofs.Numbers.{own_at, shared_at}

@@ -7,7 +7,7 @@ use Rattle.ftl_syntax.specs.declared.rules.AttrKind.TheVariants as kinds
 use Rattle.ftl_syntax.specs.declared.rules.Class.{Class}
 use Rattle.ftl_syntax.specs.declared.rules.Interface.{Interface}
 use Rattle.ftl_syntax.specs.Trees as trees
-use Rattle.ftl_lawful.specs.Faultless.{HasKinds, IsOwnKind, IsSharedKind}
+use Rattle.ftl_grammar_faults.specs.Kinds.{HasKinds, IsOwnKind, IsSharedKind}
 use Rattle.ftl_lawful.specs.Worked.{adds, shares}
 use Rattle.ftl_lawful.proofs.WorkedKinds.{kinds_by}
 use Rattle.ftl_lawful.proofs.worked.words_of_attributes.Goals as goal

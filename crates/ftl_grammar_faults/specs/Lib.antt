@@ -1,0 +1,11 @@
+pub mod Numbering
+pub mod Allowed
+pub mod RuleForms
+pub mod FirstFault
+pub mod Finds
+pub mod Worked
+pub mod Checked
+pub mod Counts
+pub mod Kinds
+pub mod RuleNames
+pub use Rattle.ftl_syntax.specs.Trees
