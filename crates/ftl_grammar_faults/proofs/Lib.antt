@@ -6,3 +6,4 @@ pub mod FirstNumbered
 pub mod FirstLists
 pub mod SecondNames
 pub mod SpelledKinds
+pub mod WorkedKinds

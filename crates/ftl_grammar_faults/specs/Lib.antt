@@ -7,5 +7,6 @@ pub mod Worked
 pub mod Checked
 pub mod Counts
 pub mod Kinds
+pub mod WorkedKinds
 pub mod RuleNames
 pub use Rattle.ftl_syntax.specs.Trees

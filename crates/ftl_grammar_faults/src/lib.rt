@@ -7,11 +7,13 @@
 
 mod fault;
 mod info;
+mod kinds;
 mod rule_name;
 mod worked;
 
 pub use fault::{GrammarFault, What};
 pub use info::{AttrInfo, ChildInfo, Field, RuleInfo};
+pub use kinds::words_of_attributes;
 pub use rule_name::RuleName;
 pub use worked::{
     bad_reads, faults_of_names, faults_of_one_child, faults_of_one_class, faults_of_targets,

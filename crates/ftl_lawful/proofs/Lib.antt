@@ -12,7 +12,6 @@ pub mod Declared
 pub mod Needs
 pub mod Lawfulness
 pub mod KeptRules
-pub mod WorkedKinds
 pub mod AlikeTrees
 pub mod WorkedGrammars
 pub mod WithinLimits

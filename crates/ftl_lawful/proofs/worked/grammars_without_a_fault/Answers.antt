@@ -4,7 +4,7 @@ use Rattle.ftl_grammar_faults.proofs.WorkedFormulas.{of-adding, of-adding_three,
 use Rattle.ftl_formula.proofs.Equations.{minus_at, of-Compare, of-Group, of-If, of-Number, of-Sum, of-cond, of-conj, of-sum, of-term, of-unary, over_at, plus_at}
 use Rattle.ftl_meaning.specs.Worked.{branches, two}
 use Rattle.ftl_lawful.proofs.WorkedGrammars.{stack_faultless}
-use Rattle.ftl_lawful.proofs.WorkedKinds.{kinds_by}
+use Rattle.ftl_grammar_faults.proofs.WorkedKinds.{kinds_by}
 use Rattle.ftl_lawful.proofs.worked.grammars_without_a_fault.Goals as goal
 
 pub returns-clause-stack : goal.returns-clause-stack

@@ -8,9 +8,9 @@ use Rattle.ftl_syntax.specs.declared.rules.Class.{Class}
 use Rattle.ftl_syntax.specs.declared.rules.Interface.{Interface}
 use Rattle.ftl_syntax.specs.Trees as trees
 use Rattle.ftl_grammar_faults.specs.Kinds.{HasKinds, IsOwnKind, IsSharedKind}
-use Rattle.ftl_lawful.specs.Worked.{adds, shares}
-use Rattle.ftl_lawful.proofs.WorkedKinds.{kinds_by}
-use Rattle.ftl_lawful.proofs.worked.words_of_attributes.Goals as goal
+use Rattle.ftl_grammar_faults.specs.WorkedKinds.{adds, shares}
+use Rattle.ftl_grammar_faults.proofs.WorkedKinds.{kinds_by}
+use Rattle.ftl_grammar_faults.proofs.kinds.words_of_attributes.Goals as goal
 
 -- the word of the one attribute may stand there
 shared_kind : (kind : AttrKind) → HasKinds (shares kind) → IsSharedKind kind
