@@ -1,9 +1,9 @@
 -- The tree of a tree's rows is the tree.
-use Rattle.std.proofs.Common.{◌≡◌, ℕ, suc, ◌+◌, ◌-◌, ◌≤◌, List, [], ◌∷◌, ◌++◌, ℤ, length, map, drop, refl, sym, ap, ap₂, ◌∙◌, subst, arith}
+use Rattle.std.proofs.Common.{◌≡◌, ℕ, suc, ◌+◌, ◌-◌, List, [], ◌∷◌, ◌++◌, ℤ, length, map, drop, refl, sym, ap, ap₂, ◌∙◌, subst, arith}
 use Rattle.std.specs.List.{flat_map, AllByRecursion}
 use Rattle.std.proofs.lemmas.List.{append-nil, map-append, take_at, drop_at}
 use Rattle.ftl_model.specs.AttributeGrammar.{AttributeGrammar}
-use Rattle.ftl_model.specs.Path.{Has, Path, at, child_at, class_at, down, inputs_at, nodes_below, number_of, one_more, preorder, size_at, top}
+use Rattle.ftl_model.specs.Path.{Has, Path, at, child_at, class_at, down, inputs_at, nodes_below, one_more, preorder, size_at, top}
 use Rattle.ftl_model.specs.Shape.{Shape, forest_of, shape, shapes}
 use Rattle.ftl_model.specs.ShapeLaws.{forest_of-shapes}
 use Rattle.ftl_model.specs.Tree.{Forest, IsTree, below_of, class_of, inputs_of, none, size, tree}
@@ -55,10 +55,10 @@ shapes-preorder g t h = go (one_tree g t h)
         ∙ ap (λ xs. shape_at f top ∷ xs) (shapes-left f top (λ c. 0) one.below 0 (left_all f top)))
 
 -- each node has as many inputs as its class
-abbrev HasInputs : AttributeGrammar → Forest → Path → Type 0
+abbrev pub HasInputs : AttributeGrammar → Forest → Path → Type 0
 HasInputs g t p = length (inputs_at t p) ≡ input_width g (class_at t p)
 
-has_inputs : (g : AttributeGrammar) (t : Forest) (ps : List Path) → IsTreeOf g t → AllByRecursion (Has t) ps → AllByRecursion (HasInputs g t) ps
+pub has_inputs : (g : AttributeGrammar) (t : Forest) (ps : List Path) → IsTreeOf g t → AllByRecursion (Has t) ps → AllByRecursion (HasInputs g t) ps
 has_inputs g t [] h has = tt
 has_inputs g t (p ∷ ps) h has = ((fits_at g t p h has.0).class.count, has_inputs g t ps h has.1)
 

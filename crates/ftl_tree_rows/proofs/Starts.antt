@@ -1,17 +1,16 @@
 -- Where the entries of a node begin in a list that goes node by node.
-use Rattle.std.proofs.Common.{◌≡◌, ℕ, zero, suc, ◌+◌, ◌<◌, ◌≤◌, List, [], ◌∷◌, length, get_or, take, drop, map, sum, sum_by, refl, sym, ap, ◌∙◌, arith}
-use Rattle.std.specs.List.{flat_map}
-use Rattle.std.proofs.lemmas.List.{drop-drop, drop_at, length-map, take-map}
-use Rattle.std.proofs.lemmas.List.Sums.{sum_by-cons}
+use Rattle.std.proofs.Common.{◌≡◌, ℕ, zero, suc, ◌+◌, ◌<◌, ◌≤◌, List, [], ◌∷◌, length, get_or, take, map, sum_by, refl, sym, ap, ◌∙◌, arith}
+use Rattle.std.proofs.lemmas.List.{length-map, take_all}
+use Rattle.std.proofs.lemmas.List.Sums.{sum_by-cons, sum_by_more_le}
 use Rattle.ftl_model.specs.AttributeGrammar.{AttributeGrammar}
-use Rattle.ftl_model.specs.Path.{Path, class_at, node_at, number_of, preorder}
+use Rattle.ftl_model.specs.Path.{Path, class_at, node_at, preorder, top}
 use Rattle.ftl_model.specs.Table.{first_instance, instance_count, width_at}
 use Rattle.ftl_model.specs.Tree.{Forest, size}
 use Rattle.ftl_model.specs.TreeOf.{IsTreeOf}
 use Rattle.ftl_model.proofs.Numbering.{length-preorder}
 use Rattle.ftl_tree_rows.specs.declared.row.NodeRow.{NodeRow}
 use Rattle.ftl_tree_rows.specs.Rows.{attribute_width, row_of, rows_of, starts_by, sums_from}
-use Rattle.ftl_tree_rows.proofs.Access.{number_at, size-one}
+use Rattle.ftl_tree_rows.proofs.Access.{length-by_node, number_at, size-one}
 
 pub length-sums_from : (n : ℕ) (xs : List ℕ) → length (sums_from n xs) ≡ suc (length xs)
 length-sums_from n [] = refl
@@ -49,3 +48,30 @@ pub first_instance_at : (g : AttributeGrammar) (t : Forest) (rows : List NodeRow
 first_instance_at g t rows starts n d h are is k =
     start_at g t rows (attribute_width g) starts n d h are is (omega (arith, k))
     ∙ ap (λ m. sum_by (width_at g t) (take m (preorder t))) (sym (number_at g t n h k))
+
+-- what a node has lies within the whole
+pub room_at : (g : AttributeGrammar) (t : Forest) (rows : List NodeRow) (width : ℕ → ℕ) (starts : List ℕ) (n d : ℕ)
+    → IsTreeOf g t → rows ≡ rows_of t → starts ≡ starts_by width rows → n < size t
+    → get_or starts n d + width (class_at t (node_at t n)) ≤ get_or starts (size t) d
+room_at g t rows width starts n d h are is k =
+    let nodes : length (preorder t) ≡ size t = length-preorder t ∙ sym (size-one g t h) in
+    let more = sum_by_more_le (λ p. width (class_at t p)) (preorder t) n top (omega (arith, nodes, k)) in
+    let whole : take (size t) (preorder t) ≡ preorder t = take_all (size t) (preorder t) (omega (arith, nodes)) in
+    let start = start_at g t rows width starts n d h are is (omega (arith, k)) in
+    let end = start_at g t rows width starts (size t) d h are is (omega arith) in
+    let all : first_by width t (take (size t) (preorder t)) ≡ first_by width t (preorder t) = ap (first_by width t) whole in
+    omega (arith, more, start, end, all)
+
+pub last_instance : (g : AttributeGrammar) (t : Forest) (rows : List NodeRow) (starts : List ℕ) (d : ℕ)
+    → IsTreeOf g t → rows ≡ rows_of t → starts ≡ starts_by (attribute_width g) rows
+    → get_or starts (size t) d ≡ instance_count g t
+last_instance g t rows starts d h are is =
+    let nodes : length (preorder t) ≡ size t = length-preorder t ∙ sym (size-one g t h) in
+    start_at g t rows (attribute_width g) starts (size t) d h are is (omega arith)
+    ∙ ap (sum_by (width_at g t)) (take_all (size t) (preorder t) (omega (arith, nodes)))
+
+pub length-starts : (g : AttributeGrammar) (t : Forest) (rows : List NodeRow) (width : ℕ → ℕ) (starts : List ℕ)
+    → IsTreeOf g t → rows ≡ rows_of t → starts ≡ starts_by width rows → length starts ≡ suc (size t)
+length-starts g t rows width starts h are is =
+    ap length is ∙ length-sums_from 0 (map (λ (row : NodeRow). width row.class) rows)
+    ∙ ap suc (length-map rows (λ (row : NodeRow). width row.class) ∙ length-by_node g t (row_of t) rows h are)
