@@ -19,10 +19,14 @@ abbrev pub number_by : (greatest default : ℕ) → Option Text → Option ℕ
 number_by greatest default None = Some default
 number_by greatest default (Some text) = number_of greatest text
 
+-- how a page is solved
+abbrev pub solving : (workers grain : ℕ) → Solving
+solving workers grain = record { workers = workers; grain = grain }
+
 -- how a page is solved: by 1 to 64 workers, with 1 to 1048576 nodes a subtree
 abbrev pub solving_of : List Row → Option Solving
 solving_of rows =
-    option_and_then (λ workers. option_map (λ grain. record { workers = workers; grain = grain })
+    option_and_then (λ workers. option_map (solving workers)
     (number_by 1048576 64 (first_of (codes "grain") rows)))
     (number_by 64 1 (first_of (codes "workers") rows))
 

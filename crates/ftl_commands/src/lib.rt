@@ -8,6 +8,8 @@ mod command;
 mod numerals;
 mod options;
 mod read;
+mod worked;
 
 pub use command::{Command, CommandFault, Solving};
 pub use read::read_command;
+pub use worked::{words_that_are_commands, words_that_are_none};
