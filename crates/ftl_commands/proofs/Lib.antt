@@ -1,0 +1,4 @@
+pub mod DigitLemmas
+pub mod Taken
+pub mod Words
+pub mod WorkedWords
