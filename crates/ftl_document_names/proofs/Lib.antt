@@ -1,0 +1,6 @@
+pub mod ClassNames
+pub mod FilledSlots
+pub mod PlacedNames
+pub mod PlaceFaults
+pub mod FieldSteps
+pub mod NodeFaults
