@@ -4,3 +4,4 @@ pub mod PlacedNames
 pub mod PlaceFaults
 pub mod FieldSteps
 pub mod NodeFaults
+pub mod RowSteps

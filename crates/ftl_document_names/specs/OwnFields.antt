@@ -1,8 +1,10 @@
 -- The fields of a node as code has them, and what stands in each input and child of its class.
-use Rattle.std.specs.Prelude.{Bool, true, false, if◌then◌else◌, ℤ, pos, List, [], ◌∷◌, map, filter, Option, Some, None}
+use Rattle.std.specs.Prelude.{ℕ, Bool, true, false, if◌then◌else◌, ℤ, pos, List, [], ◌∷◌, map, filter, Option, Some, None}
 use Rattle.std.specs.Str.{bytes_eq}
 use Rattle.ftl_syntax.specs.declared.rules.AttrDecl.{AttrDecl}
-use Rattle.ftl_document_syntax.specs.Written.{NameText}
+use Rattle.ftl_document_syntax.specs.Written.{NameText, WrittenFields, list_field, no_fields, node_field, number_field}
+use Rattle.ftl_document_syntax.specs.declared.row.WrittenRow.{WrittenRow}
+use Rattle.ftl_document_syntax.specs.declared.row.WrittenRow.TheVariants as rows
 use Rattle.ftl_checked.specs.Checked.{is_input}
 use Rattle.ftl_document_faults.specs.Nodes.{FieldForm, FieldHead, head_of, list_form, node_form, number_form}
 use Rattle.ftl_document_names.specs.declared.own_field.FieldValue.{FieldValue}
@@ -39,3 +41,28 @@ number_of value.List = pos 0
 abbrev pub slot_of : List OwnField → NameText → Option ℤ
 slot_of [] name = None
 slot_of (f ∷ fields) name = if bytes_eq name f.name then Some (number_of f.value) else slot_of fields name
+
+-- a field of this name
+abbrev pub own : NameText → FieldValue → OwnField
+own name x = record { name = name; value = x }
+
+-- the fields of a node as they are written, without what stands in them
+abbrev pub own_of : WrittenFields → List OwnField
+own_of no_fields = []
+own_of (number_field name n later) = own name (value.Number n) ∷ own_of later
+own_of (node_field name class _ later) = own name value.Node ∷ own_of later
+own_of (list_field name nodes later) = own name value.List ∷ own_of later
+
+-- the field of a row, where it is that of one
+abbrev pub fields_in : WrittenRow → List OwnField
+fields_in (rows.Number name n) = own name (value.Number n) ∷ []
+fields_in (rows.Single name class n) = own name value.Node ∷ []
+fields_in (rows.List name n) = own name value.List ∷ []
+fields_in (rows.Kid class n) = []
+
+-- how many rows stand inside a row
+abbrev pub inside : WrittenRow → ℕ
+inside (rows.Number name n) = 0
+inside (rows.Single name class n) = n
+inside (rows.List name n) = n
+inside (rows.Kid class n) = n
