@@ -5,3 +5,4 @@ pub mod PlaceFaults
 pub mod FieldSteps
 pub mod NodeFaults
 pub mod RowSteps
+pub mod SlotInputs

@@ -85,7 +85,7 @@ module _ (g : Grammar) (lawful : grammars.first_fault g ≡ None) (k : ℕ) (kno
       (class_attributes g k) (class_names_differ g lawful k known)
 
   -- an input's name stands for an input
-  input_stands : (name : NameText) → Contains (input_names g k) name
+  pub input_stands : (name : NameText) → Contains (input_names g k) name
       → (a : ℕ) × (field_named g k name ≡ Some (field.Input a))
   input_stands name there =
       let m = in_map (λ (x : ℕ × AttrDecl). x.1.name) (filter (λ (x : ℕ × AttrDecl). is_input x.1.kind) (class_attributes g k)) name there in

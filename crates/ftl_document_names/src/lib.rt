@@ -7,11 +7,13 @@
 mod class_check;
 mod class_table;
 mod field_rows;
+mod laws;
 mod node_fields;
 mod own_field;
 
 pub use class_check::known_class;
 pub use class_table::{ClassFields, class_fields};
 pub use field_rows::own_fields;
+pub use laws::slots_hold_inputs;
 pub use node_fields::{KnownNode, Slots};
 pub use own_field::{FieldValue, OwnField};

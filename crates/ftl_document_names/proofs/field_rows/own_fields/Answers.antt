@@ -1,5 +1,5 @@
-use Rattle.std.proofs.Common.{◌≡◌, ◌++◌, ◌+◌, ◌∙◌, ap, ap₂, subst, sym, List}
-use Rattle.ftl_document_names.specs.OwnFields.{fields_in, inside}
+use Rattle.std.proofs.Common.{◌+◌, subst, sym, List}
+use Rattle.ftl_document_names.specs.OwnFields.{inside}
 use Rattle.ftl_document_names.specs.declared.own_field.OwnField.{OwnField}
 use Rattle.ftl_document_names.proofs.RowSteps.{IsReached, reached_last, reached_more}
 use Rattle.ftl_document_names.proofs.field_rows.own_fields.Goals as goal
