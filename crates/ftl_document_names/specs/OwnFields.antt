@@ -2,7 +2,8 @@
 use Rattle.std.specs.Prelude.{ℕ, Bool, true, false, if◌then◌else◌, ℤ, pos, List, [], ◌∷◌, map, filter, Option, Some, None}
 use Rattle.std.specs.Str.{bytes_eq}
 use Rattle.ftl_syntax.specs.declared.rules.AttrDecl.{AttrDecl}
-use Rattle.ftl_document_syntax.specs.Written.{NameText, WrittenFields, list_field, no_fields, node_field, number_field}
+use Rattle.ftl_document_syntax.specs.Written.{NameText, WrittenFields, list_field, no_fields}
+use Rattle.ftl_document_syntax.specs.Written.{node_field, number_field}
 use Rattle.ftl_document_syntax.specs.declared.row.WrittenRow.{WrittenRow}
 use Rattle.ftl_document_syntax.specs.declared.row.WrittenRow.TheVariants as rows
 use Rattle.ftl_checked.specs.Checked.{is_input}

@@ -1,5 +1,6 @@
 -- Where the fields of a node stand among the names of its class, and what is known once some were looked at.
-use Rattle.std.specs.Prelude.{◌≡◌, ◌≢◌, ℕ, ◌+◌, ◌-◌, ◌<◌, nat_lt, Bool, if◌then◌else◌, List, length, map, Option, Some, None, Result, Ok, Err}
+use Rattle.std.specs.Prelude.{◌≡◌, ◌≢◌, ℕ, ◌+◌, ◌-◌, ◌<◌, nat_lt, Bool, if◌then◌else◌}
+use Rattle.std.specs.Prelude.{List, length, map, Option, Some, None, Result, Ok, Err}
 use Rattle.std.specs.List.{list_any}
 use Rattle.ftl_document_syntax.specs.Written.{NameText}
 use Rattle.ftl_checked.specs.Checked.{class_named}
@@ -53,4 +54,5 @@ pub record IsKnown (n : KnownNode) : Type 0 where
 -- the slots hold what these fields put there: the first number of each name, and the last child that came
 pub record ArePlaced (g : Grammar) (k : ℕ) (earlier : List OwnField) (s : Slots) : Type 0 where
   pub values : s.values.items ≡ map (slot_of earlier) (needed_names g k)
-  pub latest : (c : ℕ) → list_any (is_of_later g k c) (map head_in earlier) ≡ nat_lt (length (input_names g k) + c) s.latest
+  pub latest : (c : ℕ) → list_any (is_of_later g k c) (map head_in earlier)
+      ≡ nat_lt (length (input_names g k) + c) s.latest
