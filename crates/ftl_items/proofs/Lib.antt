@@ -14,3 +14,4 @@ pub mod Later
 pub mod Fewer
 pub mod WorkLaws
 pub mod WordLaws
+pub mod EndWords

@@ -11,13 +11,13 @@ use Rattle.ftl_model.specs.Values.{Value, word_of_value}
 use Rattle.ftl_order.specs.Schedule.{Schedule, spot_of}
 use Rattle.ftl_items.specs.StageWork.{kind_by, kind_by_stage, no_instance, stage_work}
 
-ltb_is : (n m : ℕ) → n < m → ltb n m ≡ true
+pub ltb_is : (n m : ℕ) → n < m → ltb n m ≡ true
 ltb_is n m less =
     elim (ltb n m) as (λ b. (ltb n m ≡ b) → b ≡ true)
     [ true ↦ λ e. refl | false ↦ λ e. absurd (let h = ltb-false n m e in let z : ⊥ = omega (arith, h, less) in z) ]
     refl
 
-ltb_not : (n m : ℕ) → m ≤ n → ltb n m ≡ false
+pub ltb_not : (n m : ℕ) → m ≤ n → ltb n m ≡ false
 ltb_not n m more =
     elim (ltb n m) as (λ b. (ltb n m ≡ b) → b ≡ false)
     [ true ↦ λ e. absurd (let h = ltb-true n m e in let z : ⊥ = omega (arith, h, more) in z) | false ↦ λ e. refl ]

@@ -21,6 +21,6 @@ pub use later_laws::next_items;
 pub use read_laws::reads;
 pub use step_laws::steps;
 pub use visit_laws::visits;
-pub use word_laws::words_between;
+pub use word_laws::{words_at_the_ends, words_between};
 pub use work_laws::stages;
 pub use worked_items::items_of_two_words;

@@ -53,14 +53,14 @@ impl<'a> RuleIndex<'a> {
     }
 
     /// The number of a class's rule for an attribute of the node itself.
-    pub(crate) fn own(&self, class: u32, attr: u32) -> Option<u32>
+    pub fn own(&self, class: u32, attr: u32) -> Option<u32>
         ensures number { result ≡ rule_number (meant self.now) class None attr }
     {
         number_of(&self.numbers, Target::Own(class, attr))
     }
 
     /// The number of a class's rule for an attribute of the kids in a child.
-    pub(crate) fn kid(&self, class: u32, child: u32, attr: u32) -> Option<u32>
+    pub fn kid(&self, class: u32, child: u32, attr: u32) -> Option<u32>
         ensures number { result ≡ rule_number (meant self.now) class (Some child) attr }
     {
         number_of(&self.numbers, Target::Kid(class, child, attr))

@@ -1,0 +1,86 @@
+//! The parts of a rule as it is written.
+ghost use Rattle.std.specs.Prelude.{◌≡◌, ◌<◌, flat_map, length, map, IfOk};
+ghost use Rattle.std.specs.Option.{option_map, option_to_list};
+ghost use Rattle.ftl_checked.specs.ReadNumbers.{leaf_in, leaves_in};
+ghost use Rattle.ftl_meaning.specs.Meaning.{read_of};
+ghost use Rattle.ftl_rule_parts.specs.RuleParts.{parts_by_leaves, parts_meant, parts_written};
+ghost use Rattle.ftl_checked.specs.Positions.{position_of};
+ghost use Rattle.ftl_rule_parts.specs.RuleParts.{read_meant, reads_among, two_parts};
+
+use crate::part_read::PartRead;
+use crate::rule_parts::RuleParts;
+use ftl_checked::{At, Checked, NumberedRead, PartReads};
+use ftl_syntax::Rule;
+use sqlite_items::Items;
+use std::alloc::{AllocError, Global};
+
+/// The parts of a rule of this class.
+pub(crate) fn written_parts(
+    alloc: Global,
+    checked: &Checked,
+    class: u32,
+    rule: &Rule,
+) -> Result<RuleParts, AllocError>
+    requires within { class < length checked.now.grammar.classes }
+    ensures parts { IfOk result (λ p. parts_meant p ≡ parts_written checked.now class rule.now) }
+{
+    let parts = checked.rule_reads(alloc, class, rule)?;
+    parts_of(alloc, parts.as_slice())
+}
+
+/// The parts of a rule with these expressions.
+fn parts_of(alloc: Global, parts: &[PartReads]) -> Result<RuleParts, AllocError>
+    ensures parts { IfOk result (λ p. parts_meant p ≡ parts_by_leaves (map leaves_in parts.now)) }
+{
+    match parts {
+        [] => Ok(RuleParts::Plain(Items::new(alloc))),
+        [only] => Ok(RuleParts::Plain(reads_of(alloc, only)?)),
+        [first, second, ..] => {
+            let start = reads_of(alloc, first)?;
+            let later = reads_of(alloc, second)?;
+            Ok(two_parts(second.at, start, later))
+        }
+    }
+}
+
+/// The parts of a rule of two expressions, the second of which stands here.
+fn two_parts(at: At, first: Items<PartRead>, second: Items<PartRead>) -> RuleParts
+    ensures parts { parts_meant result
+        ≡ two_parts (position_of at) (map read_meant first) (map read_meant second) }
+{
+    match at {
+        At::InStep(child) => RuleParts::FoldOver(child, first, second),
+        At::ForSelf | At::ForSingle | At::ForKids(_) | At::ForLater(_) => {
+            RuleParts::FirstThen(first, second)
+        }
+    }
+}
+
+/// The reads of a part.
+fn reads_of(alloc: Global, part: &PartReads) -> Result<Items<PartRead>, AllocError>
+    ensures reads { IfOk result (λ reads. map read_meant reads
+        ≡ reads_among (map leaf_in part.now.reads)) }
+{
+    let mut reads = Items::new(alloc);
+    for read in part.reads.as_slice() {
+        if let Some(read) = read_of(*read) {
+            reads.push(read)?;
+        }
+    }
+    Ok(reads)
+}
+
+/// The read of a name; none of what a fold has so far.
+fn read_of(read: NumberedRead) -> Option<PartRead>
+    ensures read { option_map read_meant result ≡ read_of (leaf_in read) }
+{
+    match read {
+        NumberedRead::Own(attr) => Some(PartRead::Own(attr)),
+        NumberedRead::Single(child, attr) => Some(PartRead::Single(child, attr)),
+        NumberedRead::Each(child, attr) => Some(PartRead::Each(child, attr)),
+        NumberedRead::This(child, attr) => Some(PartRead::This(child, attr)),
+        NumberedRead::Prev(child, attr) => Some(PartRead::Prev(child, attr)),
+        NumberedRead::Last(child, attr) => Some(PartRead::Last(child, attr)),
+        NumberedRead::Acc => None,
+    }
+}
