@@ -5,7 +5,13 @@
 #![tactic(auto)]
 
 mod class_row;
+mod columns;
+mod kid_runs;
 mod row;
+mod sizes;
 
 pub use class_row::ClassRow;
+pub use columns::{row_widths, sums};
+pub use kid_runs::{kid_counts, kids_in_runs};
 pub use row::{NodeRow, Place};
+pub use sizes::subtree_sizes;
