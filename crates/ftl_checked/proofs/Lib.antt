@@ -1,17 +1,4 @@
-pub use Rattle.ftl_syntax.specs.Trees
-pub mod WorkedFormulas
-pub mod First
-pub mod Counting
-pub mod Numbered
-pub mod Places
-pub mod Finding
 pub mod SlotSets
 pub mod RuleLists
-pub mod FirstNumbered
-pub mod FirstLists
 pub mod NeedLists
 pub mod RuleInfos
-pub mod Seconds
-pub mod NameLists
-pub mod AttrInfos
-pub mod Standing

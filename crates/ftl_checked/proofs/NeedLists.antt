@@ -8,13 +8,13 @@ use Rattle.ftl_syntax.specs.declared.rules.Grammar.{Grammar}
 use Rattle.ftl_syntax.specs.declared.rules.Rule.{Rule}
 use Rattle.ftl_syntax.specs.declared.rules.Target.{Target}
 use Rattle.ftl_syntax.specs.declared.rules.Target.TheVariants as targets
-use Rattle.ftl_checked.specs.declared.fault.GrammarFault.{GrammarFault}
-use Rattle.ftl_checked.specs.FirstFault.{first_of, first_there, is_ruled, kid_needs, missing_rule, own_needs, same_slot}
+use Rattle.ftl_grammar_faults.specs.declared.fault.GrammarFault.{GrammarFault}
+use Rattle.ftl_grammar_faults.specs.FirstFault.{first_of, first_there, is_ruled, kid_needs, missing_rule, own_needs, same_slot}
 use Rattle.ftl_checked.specs.Needs.{kid_need, need_fault, need_of}
-use Rattle.ftl_checked.specs.Numbering.{child_attributes, children_of, class_at, class_attributes, interface_of, own_attributes, shared_attributes}
-use Rattle.ftl_checked.specs.RuleForms.{Slot, is_inherited, is_synthesized_or_local, kid_slot, own_slot, slot_of}
+use Rattle.ftl_grammar_faults.specs.Numbering.{child_attributes, children_of, class_at, class_attributes, interface_of, own_attributes, shared_attributes}
+use Rattle.ftl_grammar_faults.specs.RuleForms.{Slot, is_inherited, is_synthesized_or_local, kid_slot, own_slot, slot_of}
 use Rattle.ftl_checked.specs.Slots.{slots_of}
-use Rattle.ftl_checked.proofs.FirstLists.{of_append, of_joined, of_picked, of_same}
+use Rattle.ftl_grammar_faults.proofs.FirstLists.{of_append, of_joined, of_picked, of_same}
 
 -- whether any of two lists has it
 any_append : (p : Slot → Bool) (xs ys : List Slot) → list_any p (xs ++ ys) ≡ list_any p xs || list_any p ys

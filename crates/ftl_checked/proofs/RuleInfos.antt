@@ -5,15 +5,15 @@ use Rattle.ftl_syntax.specs.declared.rules.Class.{Class}
 use Rattle.ftl_syntax.specs.declared.rules.Grammar.{Grammar}
 use Rattle.ftl_syntax.specs.declared.rules.Rule.{Rule}
 use Rattle.ftl_syntax.specs.Trees as trees
-use Rattle.ftl_checked.specs.declared.fault.GrammarFault.{GrammarFault}
-use Rattle.ftl_checked.specs.declared.info.RuleInfo.{RuleInfo}
-use Rattle.ftl_checked.specs.Checked.{all_rules, rule_info}
-use Rattle.ftl_checked.specs.FirstFault.{class_fault, first_there, missing_rule, rule_faults}
+use Rattle.ftl_grammar_faults.specs.declared.fault.GrammarFault.{GrammarFault}
+use Rattle.ftl_grammar_faults.specs.declared.info.RuleInfo.{RuleInfo}
+use Rattle.ftl_grammar_faults.specs.Checked.{all_rules, rule_info}
+use Rattle.ftl_grammar_faults.specs.FirstFault.{class_fault, first_there, missing_rule, rule_faults}
 use Rattle.ftl_checked.specs.Needs.{infos_of}
-use Rattle.ftl_checked.specs.Numbering.{class_at, numbered}
-use Rattle.ftl_checked.proofs.Counting.{left_is}
-use Rattle.ftl_checked.proofs.FirstLists.{there_append}
-use Rattle.ftl_checked.proofs.FirstNumbered.{placed_first_passes, placed_first_stops, numbered_first_ends}
+use Rattle.ftl_grammar_faults.specs.Numbering.{class_at, numbered}
+use Rattle.ftl_grammar_faults.proofs.Counting.{left_is}
+use Rattle.ftl_grammar_faults.proofs.FirstLists.{there_append}
+use Rattle.ftl_grammar_faults.proofs.FirstNumbered.{placed_first_passes, placed_first_stops, numbered_first_ends}
 
 -- the rules of one class
 of_class : (g : Grammar) (k : ℕ) (rs : List Rule)

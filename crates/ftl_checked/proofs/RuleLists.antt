@@ -3,12 +3,12 @@ use Rattle.std.proofs.Common.{◌≡◌, ℕ, ◌+◌, List, [], ◌∷◌, ◌+
 use Rattle.std.specs.Option.{option_to_list}
 use Rattle.ftl_syntax.specs.declared.rules.Grammar.{Grammar}
 use Rattle.ftl_syntax.specs.declared.rules.Rule.{Rule}
-use Rattle.ftl_checked.specs.declared.fault.GrammarFault.{GrammarFault}
-use Rattle.ftl_checked.specs.declared.info.RuleInfo.{RuleInfo}
-use Rattle.ftl_checked.specs.Checked.{info_by}
-use Rattle.ftl_checked.specs.FirstFault.{first_there, rule_fault, rule_faults, rule_name}
-use Rattle.ftl_checked.specs.Numbering.{class_at}
-use Rattle.ftl_checked.specs.RuleForms.{Slot, slot_of}
+use Rattle.ftl_grammar_faults.specs.declared.fault.GrammarFault.{GrammarFault}
+use Rattle.ftl_grammar_faults.specs.declared.info.RuleInfo.{RuleInfo}
+use Rattle.ftl_grammar_faults.specs.Checked.{info_by}
+use Rattle.ftl_grammar_faults.specs.FirstFault.{first_there, rule_fault, rule_faults, rule_name}
+use Rattle.ftl_grammar_faults.specs.Numbering.{class_at}
+use Rattle.ftl_grammar_faults.specs.RuleForms.{Slot, slot_of}
 use Rattle.ftl_checked.specs.Slots.{slots_of}
 
 module _ (g : Grammar) (k : ℕ) (xs : List Rule) (i : ℕ) (x : Rule) (left : drop i xs ≡ x ∷ drop (i + 1) xs) where

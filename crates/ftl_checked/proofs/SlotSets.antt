@@ -3,7 +3,7 @@ use Rattle.std.proofs.Common.{◌≡◌, ℕ, Bool, false, cond, ◌==◌, ◌&&
 use Rattle.std.specs.List.{list_any}
 use Rattle.std.proofs.lemmas.List.{map-append}
 use Rattle.indexmap.specs.IndexSet.{insert_key}
-use Rattle.ftl_checked.specs.FirstFault.{same_slot}
+use Rattle.ftl_grammar_faults.specs.FirstFault.{same_slot}
 use Rattle.ftl_checked.specs.Slots.{slot_in}
 use Rattle.ftl_checked.specs.declared.slots.RuleSlot.{RuleSlot}
 use Rattle.ftl_checked.specs.declared.slots.RuleSlot.TheVariants as code

@@ -1,20 +1,22 @@
 -- What is kept beside a lawful grammar.
 use Rattle.std.specs.Prelude.{◌≡◌, ℕ, List, map, None}
 use Rattle.ftl_syntax.specs.declared.rules.Grammar.{Grammar}
-use Rattle.ftl_checked.specs.declared.info.AttrInfo.{AttrInfo}
-use Rattle.ftl_checked.specs.declared.info.RuleInfo.{RuleInfo}
-use Rattle.ftl_checked.specs.declared.tables.Tables.{Tables}
-use Rattle.ftl_checked.specs.Checked.{all_attributes, all_rules, attribute_info, rule_info}
-use Rattle.ftl_checked.specs.Counts.{HasSmallCounts}
-use Rattle.ftl_checked.specs.FirstFault.{first_fault}
-use Rattle.ftl_checked.specs.Numbering.{interface_number}
-use Rattle.ftl_checked.specs.Tables.{tables_of}
+use Rattle.ftl_grammar_faults.specs.declared.info.AttrInfo.{AttrInfo}
+use Rattle.ftl_grammar_faults.specs.declared.info.RuleInfo.{RuleInfo}
+use Rattle.ftl_grammar_tables.specs.declared.tables.Tables.{Tables}
+use Rattle.ftl_grammar_faults.specs.Checked.{all_attributes, all_rules, attribute_info, rule_info}
+use Rattle.ftl_grammar_faults.specs.Counts.{HasSmallCounts}
+use Rattle.ftl_grammar_faults.specs.FirstFault.{first_fault}
+use Rattle.ftl_grammar_faults.specs.Kinds.{HasKinds}
+use Rattle.ftl_grammar_faults.specs.Numbering.{interface_number}
+use Rattle.ftl_grammar_tables.specs.Tables.{tables_of}
 
 -- the grammar is lawful, and what is kept says what its numbers stand for
 pub record IsKept (g : Grammar) (kept : Tables) (told : List AttrInfo) (ruled : List RuleInfo) (first : ℕ) : Type 0
   where
     pub lawful : first_fault g ≡ None
     pub small : HasSmallCounts g
+    pub kinds : HasKinds g
     pub tables : kept ≡ tables_of g
     pub attrs : told ≡ map (attribute_info g) (all_attributes g)
     pub rules : ruled ≡ map (rule_info g) (all_rules g)

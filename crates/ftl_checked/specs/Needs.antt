@@ -6,14 +6,14 @@ use Rattle.ftl_syntax.specs.declared.rules.Class.{Class}
 use Rattle.ftl_syntax.specs.declared.rules.Grammar.{Grammar}
 use Rattle.ftl_syntax.specs.declared.rules.Target.{Target}
 use Rattle.ftl_syntax.specs.declared.rules.Target.TheVariants as targets
-use Rattle.ftl_checked.specs.declared.fault.GrammarFault.{GrammarFault}
-use Rattle.ftl_checked.specs.declared.fault.GrammarFault.TheVariants as fault
-use Rattle.ftl_checked.specs.declared.info.RuleInfo.{RuleInfo}
+use Rattle.ftl_grammar_faults.specs.declared.fault.GrammarFault.{GrammarFault}
+use Rattle.ftl_grammar_faults.specs.declared.fault.GrammarFault.TheVariants as fault
+use Rattle.ftl_grammar_faults.specs.declared.info.RuleInfo.{RuleInfo}
 use Rattle.ftl_checked.specs.declared.needs.KidOf.{KidOf}
-use Rattle.ftl_checked.specs.Checked.{info_by}
-use Rattle.ftl_checked.specs.FirstFault.{fault_if, first_of, is_ruled, rule_name}
-use Rattle.ftl_checked.specs.Numbering.{child_attributes, class_at}
-use Rattle.ftl_checked.specs.RuleForms.{Slot, is_inherited, is_synthesized_or_local, kid_slot, own_slot, slot_of}
+use Rattle.ftl_grammar_faults.specs.Checked.{info_by}
+use Rattle.ftl_grammar_faults.specs.FirstFault.{fault_if, first_of, is_ruled, rule_name}
+use Rattle.ftl_grammar_faults.specs.Numbering.{child_attributes, class_at}
+use Rattle.ftl_grammar_faults.specs.RuleForms.{Slot, is_inherited, is_synthesized_or_local, kid_slot, own_slot, slot_of}
 
 -- a slot that has no rule
 abbrev pub need_fault : Grammar → (class : ℕ) → Slot → Target → Option GrammarFault

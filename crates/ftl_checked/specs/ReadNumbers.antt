@@ -10,9 +10,9 @@ use Rattle.ftl_formula.specs.Formula.{reads_of}
 use Rattle.ftl_checked.specs.declared.numbered_read.NumberedRead.{NumberedRead}
 use Rattle.ftl_checked.specs.declared.numbered_read.NumberedRead.TheVariants as code
 use Rattle.ftl_checked.specs.declared.numbered_read.PartReads.{PartReads}
-use Rattle.ftl_checked.specs.Allowed.{Leaf, Position, accumulator, leaf_of, of_read}
-use Rattle.ftl_checked.specs.Found.{position_of}
-use Rattle.ftl_checked.specs.RuleForms.{Form, form_of, parts_of, slot_of}
+use Rattle.ftl_grammar_faults.specs.Allowed.{Leaf, Position, accumulator, leaf_of, of_read}
+use Rattle.ftl_checked.specs.Positions.{position_of}
+use Rattle.ftl_grammar_faults.specs.RuleForms.{Form, form_of, parts_of, slot_of}
 
 -- what a numbered read stands for
 abbrev pub leaf_in : NumberedRead → Leaf

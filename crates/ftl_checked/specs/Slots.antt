@@ -8,10 +8,10 @@ use Rattle.ftl_checked.specs.declared.slots.RuleSlot.{RuleSlot}
 use Rattle.ftl_checked.specs.declared.slots.RuleSlot.TheVariants as code
 use Rattle.ftl_checked.specs.declared.forms.Part.{Part}
 use Rattle.ftl_checked.specs.declared.forms.RuleForm.{RuleForm}
-use Rattle.ftl_checked.specs.Allowed.{Position}
-use Rattle.ftl_checked.specs.Found.{IsWithin, position_of}
-use Rattle.ftl_checked.specs.Numbering.{class_at}
-use Rattle.ftl_checked.specs.RuleForms.{Slot, kid_slot, own_slot, slot_of}
+use Rattle.ftl_grammar_faults.specs.Allowed.{Position}
+use Rattle.ftl_checked.specs.Positions.{IsWithin, position_of}
+use Rattle.ftl_grammar_faults.specs.Numbering.{class_at}
+use Rattle.ftl_grammar_faults.specs.RuleForms.{Slot, kid_slot, own_slot, slot_of}
 
 -- the slot that code calls so
 abbrev pub slot_in : RuleSlot → Slot

@@ -1,22 +1,20 @@
 //! The check of grammars.
 ghost use Rattle.std.specs.Prelude.{◌≡◌, map, IfOk};
 ghost use Rattle.ftl_model.specs.Outcome.{Gives};
-ghost use Rattle.ftl_checked.specs.Checked.{all_rules, checked_as, rule_info};
-ghost use Rattle.ftl_checked.specs.Counts.{HasSmallCounts};
-ghost use Rattle.ftl_checked.specs.Finds.{FindsInfos};
-ghost use Rattle.ftl_checked.specs.FirstFault.{first_fault};
-ghost use Rattle.ftl_checked.specs.Tables.{tables_of};
-ghost use Rattle.ftl_checked.specs.declared.fault.GrammarFault.TheVariants.{OutOfMemory};
+ghost use Rattle.ftl_grammar_faults.specs.Checked.{all_rules, checked_as, rule_info};
+ghost use Rattle.ftl_grammar_faults.specs.Counts.{HasSmallCounts};
+ghost use Rattle.ftl_grammar_faults.specs.Finds.{FindsInfos};
+ghost use Rattle.ftl_grammar_faults.specs.FirstFault.{first_fault};
+ghost use Rattle.ftl_grammar_faults.specs.Kinds.{HasKinds};
+ghost use Rattle.ftl_grammar_tables.specs.Tables.{tables_of};
+ghost use Rattle.ftl_grammar_faults.specs.declared.fault.GrammarFault.TheVariants.{OutOfMemory};
 
-use crate::attrs::attr_infos;
 use crate::checked::Checked;
 use crate::class_checks::rule_infos;
-use crate::fault::GrammarFault;
-use crate::info::RuleInfo;
-use crate::limits::limits;
-use crate::names::names_stand;
-use crate::tables::{Tables, build_tables, interface_number};
 use ftl_base::Width;
+use ftl_declarations::{limits_hold, names_stand};
+use ftl_grammar_faults::{GrammarFault, RuleInfo};
+use ftl_grammar_tables::{Tables, attr_infos, build_tables, interface_number};
 use ftl_syntax::Grammar;
 use sqlite_items::Items;
 use std::alloc::Global;
@@ -24,6 +22,7 @@ use std::alloc::Global;
 /// A lawful grammar with its numbers, or the first fault of the grammar.
 pub fn check_grammar(alloc: Global, grammar: Grammar, width: Width) -> Result<Checked, GrammarFault>
     requires small { HasSmallCounts grammar }
+    requires kinds { HasKinds grammar }
     ensures exact { Gives OutOfMemory (λ c. c) result (checked_as grammar width) }
 {
     let (tables, rules) = conditions(alloc, &grammar)?;
@@ -41,7 +40,7 @@ fn conditions(alloc: Global, grammar: &Grammar) -> Result<(Tables, Vec<RuleInfo>
     ensures rules { IfOk result (λ r. r.1.items
         ≡ map (rule_info grammar.now) (all_rules grammar.now)) }
 {
-    limits(alloc, grammar)?;
+    limits_hold(alloc, grammar)?;
     let tables = build_tables(alloc, grammar)?;
     names_stand(alloc, grammar, &tables)?;
     let rules = rule_infos(alloc, grammar, &tables)?;

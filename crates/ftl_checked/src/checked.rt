@@ -1,24 +1,23 @@
 //! A lawful grammar, with its numbers.
 ghost use Rattle.std.specs.Prelude.{◌≡◌, ◌<◌, None, length, IfOk};
-ghost use Rattle.ftl_checked.specs.Checked.{all_attributes, all_rules, attribute_at};
-ghost use Rattle.ftl_checked.specs.Checked.{attribute_info, attribute_named};
-ghost use Rattle.ftl_checked.specs.Checked.{child_info, class_named, field_named};
-ghost use Rattle.ftl_checked.specs.Checked.{owner_name_of, rule_told};
-ghost use Rattle.ftl_checked.specs.Counts.{HasSmallCounts};
-ghost use Rattle.ftl_checked.specs.FirstFault.{first_fault};
+ghost use Rattle.ftl_grammar_faults.specs.Checked.{all_attributes, all_rules, attribute_at};
+ghost use Rattle.ftl_grammar_faults.specs.Checked.{attribute_info, attribute_named};
+ghost use Rattle.ftl_grammar_faults.specs.Checked.{child_info, class_named, field_named};
+ghost use Rattle.ftl_grammar_faults.specs.Checked.{owner_name_of, rule_told};
+ghost use Rattle.ftl_grammar_faults.specs.Counts.{HasSmallCounts};
+ghost use Rattle.ftl_grammar_faults.specs.FirstFault.{first_fault};
+ghost use Rattle.ftl_grammar_faults.specs.Kinds.{HasKinds};
 ghost use Rattle.ftl_checked.specs.Kept.{IsKept};
-ghost use Rattle.ftl_checked.specs.Numbering.{class_at, child_at, interface_number, interface_of};
-ghost use Rattle.ftl_checked.specs.RuleNames.{rule_name_at};
-ghost use Rattle.ftl_checked.specs.Tables.{tables_of};
+ghost use Rattle.ftl_grammar_faults.specs.Numbering.{class_at, child_at, interface_number};
+ghost use Rattle.ftl_grammar_faults.specs.Numbering.{interface_of};
+ghost use Rattle.ftl_grammar_faults.specs.RuleNames.{rule_name_at};
+ghost use Rattle.ftl_grammar_tables.specs.Tables.{tables_of};
 
-use crate::fields::field_in;
-use crate::find::{child_of, class_table};
-use crate::info::{AttrInfo, ChildInfo, Field, RuleInfo};
-use crate::named::{attr_name, owner_name, rule_name};
-use crate::rule_name::RuleName;
-use crate::scheduled::attribute_in;
-use crate::tables::Tables;
 use ftl_base::Width;
+use ftl_grammar_faults::{AttrInfo, ChildInfo, Field, RuleInfo, RuleName};
+use ftl_grammar_tables::{
+    Tables, attr_name, attribute_in, child_of, class_table, field_in, owner_name, rule_name,
+};
 use ftl_syntax::Grammar;
 use ftl_tokens::Name;
 use sqlite_items::Items;
@@ -39,7 +38,7 @@ pub struct Checked {
 impl Model for Checked {
     ghost use Rattle.std.specs.Coded.{codes};
     ghost use Rattle.ftl_syntax.specs.contracts.expression.Expr as e;
-    ghost use Rattle.ftl_checked.specs.Checked.{CheckedGrammar};
+    ghost use Rattle.ftl_grammar_faults.specs.Checked.{CheckedGrammar};
     ghost use Rattle.ftl_checked.specs.Kept.{IsKept};
 
     ghost Value = { CheckedGrammar };
@@ -77,6 +76,7 @@ impl Checked {
     pub fn grammar(&self) -> &Grammar
         ensures grammar { result.now ≡ self.now.grammar }
         ensures lawful { first_fault self.now.grammar ≡ None }
+        ensures kinds { HasKinds self.now.grammar }
     {
         &self.grammar
     }

@@ -1,18 +1,17 @@
 //! The conditions on the rules of all classes.
 ghost use Rattle.std.specs.Prelude.{◌≡◌, ◌++◌, ◌<◌, length, map, flat_map, IfOk, OnOk};
-ghost use Rattle.ftl_checked.specs.Checked.{all_rules, rule_info};
-ghost use Rattle.ftl_checked.specs.Counts.{HasSmallCounts};
-ghost use Rattle.ftl_checked.specs.Finds.{Finds, FindsInfos};
-ghost use Rattle.ftl_checked.specs.FirstFault.{class_fault, first_of};
+ghost use Rattle.ftl_grammar_faults.specs.Checked.{all_rules, rule_info};
+ghost use Rattle.ftl_grammar_faults.specs.Counts.{HasSmallCounts};
+ghost use Rattle.ftl_grammar_faults.specs.Finds.{Finds, FindsInfos};
+ghost use Rattle.ftl_grammar_faults.specs.FirstFault.{class_fault, first_of};
 ghost use Rattle.ftl_checked.specs.Needs.{infos_of};
-ghost use Rattle.ftl_checked.specs.Numbering.{class_at, numbered};
-ghost use Rattle.ftl_checked.specs.Tables.{tables_of};
+ghost use Rattle.ftl_grammar_faults.specs.Numbering.{class_at, numbered};
+ghost use Rattle.ftl_grammar_tables.specs.Tables.{tables_of};
 
-use crate::fault::GrammarFault;
-use crate::info::RuleInfo;
 use crate::needs::missing;
 use crate::rules::class_rules;
-use crate::tables::Tables;
+use ftl_grammar_faults::{GrammarFault, RuleInfo};
+use ftl_grammar_tables::Tables;
 use ftl_syntax::Grammar;
 use std::alloc::Global;
 

@@ -1,23 +1,22 @@
 //! What a rule defines, and which expressions it has where.
 ghost use Rattle.std.specs.Prelude.{◌≡◌, ℕ, ◌<◌, length, IfSome, IfOk};
 ghost use Rattle.std.specs.Option.{option_map, option_and_then};
-ghost use Rattle.ftl_checked.specs.Counts.{HasSmallCounts};
-ghost use Rattle.ftl_checked.specs.FirstFault.{rule_name};
-ghost use Rattle.ftl_checked.specs.Numbering.{class_at, class_attributes, child_attributes};
-ghost use Rattle.ftl_checked.specs.Numbering.{child_at, find_attribute, find_child};
+ghost use Rattle.ftl_grammar_faults.specs.Counts.{HasSmallCounts};
+ghost use Rattle.ftl_grammar_faults.specs.FirstFault.{rule_name};
+ghost use Rattle.ftl_grammar_faults.specs.Numbering.{class_at, class_attributes, child_attributes};
+ghost use Rattle.ftl_grammar_faults.specs.Numbering.{child_at, find_attribute, find_child};
 ghost use Rattle.ftl_syntax.specs.declared.rules.Grammar.{Grammar};
-ghost use Rattle.ftl_checked.specs.RuleForms.{form_of, is_inherited, is_synthesized_or_local};
-ghost use Rattle.ftl_checked.specs.RuleForms.{kid_slot, own_slot, parts_of, slot_by, slot_of};
+ghost use Rattle.ftl_grammar_faults.specs.RuleForms.{form_of, is_inherited};
+ghost use Rattle.ftl_grammar_faults.specs.RuleForms.{is_synthesized_or_local};
+ghost use Rattle.ftl_grammar_faults.specs.RuleForms.{kid_slot, own_slot, parts_of, slot_by};
+ghost use Rattle.ftl_grammar_faults.specs.RuleForms.{slot_of};
 ghost use Rattle.ftl_checked.specs.Slots.{IsFormIn, IsSlotIn, parts_in, slot_in};
-ghost use Rattle.ftl_checked.specs.Tables.{tables_of};
+ghost use Rattle.ftl_grammar_tables.specs.Tables.{tables_of};
 
-use crate::find::{child, child_of, class, class_attr, shared_attr};
 use crate::reading::At;
-use crate::rule_name::RuleName;
 use crate::slots::RuleSlot;
-use crate::tables::Tables;
+use ftl_grammar_tables::{Tables, child, child_of, class, class_attr, inherits, shared_attr};
 use ftl_syntax::{AttrKind, Body, Expr, Grammar, Target};
-use std::alloc::{AllocError, Global};
 
 /// An expression of a rule, with its position.
 #[derive(Drop)]
@@ -103,15 +102,6 @@ pub(crate) fn is_own(kind: AttrKind) -> bool
     match kind {
         AttrKind::Syn | AttrKind::Local => true,
         AttrKind::Inh | AttrKind::Input => false,
-    }
-}
-
-pub(crate) fn inherits(kind: AttrKind) -> bool
-    ensures inherited { result ≡ is_inherited kind }
-{
-    match kind {
-        AttrKind::Inh => true,
-        AttrKind::Syn | AttrKind::Input | AttrKind::Local => false,
     }
 }
 
@@ -211,31 +201,6 @@ fn two<'a>(at: At, first: &'a Expr, then: At, second: &'a Expr) -> RuleForm<'a>
         second: Some(Part {
             at: then,
             expr: second,
-        }),
-    }
-}
-
-/// The name of a rule of this class.
-pub(crate) fn name_of(
-    alloc: Global,
-    grammar: &Grammar,
-    number: u32,
-    target: &Target,
-) -> Result<RuleName, AllocError>
-    requires within { number < length grammar.now.classes }
-    ensures name { IfOk result (λ n. n ≡ rule_name (class_at grammar.now number) target.now) }
-{
-    let class = class(grammar, number).name.copy()?;
-    match target {
-        Target::Own(attr) => Ok(RuleName {
-            class,
-            child: None,
-            attr: attr.copy()?,
-        }),
-        Target::Of(child, attr) => Ok(RuleName {
-            class,
-            child: Some(child.copy()?),
-            attr: attr.copy()?,
         }),
     }
 }

@@ -1,22 +1,23 @@
 //! Which attributes a class needs rules for.
 ghost use Rattle.std.specs.Prelude.{◌≡◌, ◌+◌, ◌<◌, [], ◌∷◌, None, length, IfOk};
 ghost use Rattle.std.specs.Option.{option_map};
-ghost use Rattle.ftl_checked.specs.Counts.{IsSmall, HasSmallCounts};
-ghost use Rattle.ftl_checked.specs.Finds.{Finds};
-ghost use Rattle.ftl_checked.specs.FirstFault.{first_of, first_there, missing_rule, rule_name};
+ghost use Rattle.ftl_grammar_faults.specs.Counts.{IsSmall, HasSmallCounts};
+ghost use Rattle.ftl_grammar_faults.specs.Finds.{Finds};
+ghost use Rattle.ftl_grammar_faults.specs.FirstFault.{first_of, first_there, missing_rule};
+ghost use Rattle.ftl_grammar_faults.specs.FirstFault.{rule_name};
 ghost use Rattle.ftl_checked.specs.Needs.{kid_in, kid_need, need_of};
-ghost use Rattle.ftl_checked.specs.Numbering.{children_of, class_at, interface_of, numbered};
-ghost use Rattle.ftl_checked.specs.Numbering.{own_attributes, shared_attributes};
+ghost use Rattle.ftl_grammar_faults.specs.Numbering.{children_of, class_at, interface_of, numbered};
+ghost use Rattle.ftl_grammar_faults.specs.Numbering.{own_attributes, shared_attributes};
 ghost use Rattle.ftl_checked.specs.Slots.{slots_of};
-ghost use Rattle.ftl_checked.specs.Tables.{tables_of};
+ghost use Rattle.ftl_grammar_tables.specs.Tables.{tables_of};
 ghost use Rattle.ftl_syntax.specs.declared.rules.Target.TheVariants as targets;
 
-use crate::fault::GrammarFault;
-use crate::find::{class, class_table, interface, interface_table};
-use crate::forms::{inherits, is_own};
-use crate::rule_name::RuleName;
+use crate::forms::is_own;
 use crate::slots::{RuleSlot, Ruled};
-use crate::tables::{Tables, interface_number};
+use ftl_grammar_faults::{GrammarFault, RuleName};
+use ftl_grammar_tables::{
+    Tables, class, class_table, inherits, interface, interface_number, interface_table,
+};
 use ftl_syntax::{AttrDecl, Child, Grammar};
 use ftl_tokens::Name;
 use std::alloc::AllocError;
@@ -82,7 +83,7 @@ fn own_needs(
     needs_in(grammar, number, ruled, &None, own, start)
 }
 
-#[tactic(auto, using(crate::proofs::FirstNumbered::placed_steps))]
+#[tactic(auto, using(ftl_grammar_faults::proofs::FirstNumbered::placed_steps))]
 fn kids_needs(
     grammar: &Grammar,
     tables: &Tables,
@@ -159,7 +160,7 @@ fn interface_needs(
 }
 
 /// Looks at attributes that are numbered from `start` on.
-#[tactic(auto, using(crate::proofs::FirstNumbered::numbered_steps))]
+#[tactic(auto, using(ftl_grammar_faults::proofs::FirstNumbered::numbered_steps))]
 fn needs_in(
     grammar: &Grammar,
     number: u32,

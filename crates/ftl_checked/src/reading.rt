@@ -1,16 +1,15 @@
 //! Whether a read may stand where it stands.
 ghost use Rattle.std.specs.Prelude.{◌≡◌, ◌<◌, length, false, IfSome};
 ghost use Rattle.std.specs.Option.{is_some, option_and_then, option_map_or};
-ghost use Rattle.ftl_checked.specs.Allowed.{last_leaf, leaf_of, may_read_acc, may_read_last};
-ghost use Rattle.ftl_checked.specs.Allowed.{single_leaf};
-ghost use Rattle.ftl_checked.specs.Counts.{HasSmallCounts};
-ghost use Rattle.ftl_checked.specs.Found.{IsWithin, position_of, prev_kid, this_kid};
-ghost use Rattle.ftl_checked.specs.Numbering.{child_at, child_attributes, class_at};
-ghost use Rattle.ftl_checked.specs.Numbering.{find_attribute, find_child};
-ghost use Rattle.ftl_checked.specs.Tables.{tables_of};
+ghost use Rattle.ftl_grammar_faults.specs.Allowed.{last_leaf, leaf_of, may_read_acc, may_read_last};
+ghost use Rattle.ftl_grammar_faults.specs.Allowed.{single_leaf};
+ghost use Rattle.ftl_grammar_faults.specs.Counts.{HasSmallCounts};
+ghost use Rattle.ftl_checked.specs.Positions.{IsWithin, position_of, prev_kid, this_kid};
+ghost use Rattle.ftl_grammar_faults.specs.Numbering.{child_at, child_attributes, class_at};
+ghost use Rattle.ftl_grammar_faults.specs.Numbering.{find_attribute, find_child};
+ghost use Rattle.ftl_grammar_tables.specs.Tables.{tables_of};
 
-use crate::find::{child, child_of, class_attr, shared_attr};
-use crate::tables::Tables;
+use ftl_grammar_tables::{Tables, child, child_of, class_attr, shared_attr};
 use ftl_postfix::{ReadKind, ReadRef};
 use ftl_syntax::Grammar;
 

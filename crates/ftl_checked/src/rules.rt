@@ -2,27 +2,27 @@
 ghost use Rattle.std.specs.Prelude.{◌≡◌, ◌++◌, [], ◌<◌, false, Some, length, map, IfOk};
 ghost use Rattle.std.specs.List.{list_any};
 ghost use Rattle.std.specs.Option.{is_none};
-ghost use Rattle.ftl_checked.specs.Allowed.{leaf_of};
-ghost use Rattle.ftl_checked.specs.Checked.{info_by};
-ghost use Rattle.ftl_checked.specs.Counts.{HasSmallCounts};
-ghost use Rattle.ftl_checked.specs.Finds.{Finds, FindsRules, FindsRule};
-ghost use Rattle.ftl_checked.specs.FirstFault.{bad_read, first_of, first_there, form_fault};
-ghost use Rattle.ftl_checked.specs.FirstFault.{rule_fault, rule_faults, rule_name, same_slot};
-ghost use Rattle.ftl_checked.specs.FirstFault.{fault_if};
-ghost use Rattle.ftl_checked.specs.Found.{IsWithin};
-ghost use Rattle.ftl_checked.specs.Numbering.{class_at};
-ghost use Rattle.ftl_checked.specs.RuleForms.{form_of, slot_of};
+ghost use Rattle.ftl_grammar_faults.specs.Allowed.{leaf_of};
+ghost use Rattle.ftl_grammar_faults.specs.Checked.{info_by};
+ghost use Rattle.ftl_grammar_faults.specs.Counts.{HasSmallCounts};
+ghost use Rattle.ftl_grammar_faults.specs.Finds.{Finds};
+ghost use Rattle.ftl_checked.specs.FindsRules.{FindsRules, FindsRule};
+ghost use Rattle.ftl_grammar_faults.specs.FirstFault.{bad_read, first_of, first_there, form_fault};
+ghost use Rattle.ftl_grammar_faults.specs.FirstFault.{rule_fault, rule_faults, rule_name};
+ghost use Rattle.ftl_grammar_faults.specs.FirstFault.{same_slot};
+ghost use Rattle.ftl_grammar_faults.specs.FirstFault.{fault_if};
+ghost use Rattle.ftl_checked.specs.Positions.{IsWithin};
+ghost use Rattle.ftl_grammar_faults.specs.Numbering.{class_at};
+ghost use Rattle.ftl_grammar_faults.specs.RuleForms.{form_of, slot_of};
 ghost use Rattle.ftl_checked.specs.Slots.{IsFormIn, IsSlotIn, part_in, parts_in, slot_in, slots_of};
-ghost use Rattle.ftl_checked.specs.Tables.{tables_of};
-ghost use Rattle.ftl_checked.specs.declared.fault.GrammarFault.TheVariants as fault;
+ghost use Rattle.ftl_grammar_tables.specs.Tables.{tables_of};
+ghost use Rattle.ftl_grammar_faults.specs.declared.fault.GrammarFault.TheVariants as fault;
 
-use crate::fault::GrammarFault;
-use crate::find::class;
-use crate::forms::{Part, RuleForm, form, name_of, slot};
-use crate::info::RuleInfo;
+use crate::forms::{Part, RuleForm, form, slot};
 use crate::reading::may_read;
 use crate::slots::{RuleSlot, Ruled};
-use crate::tables::Tables;
+use ftl_grammar_faults::{GrammarFault, RuleInfo};
+use ftl_grammar_tables::{Tables, class, name_of};
 use ftl_postfix::{ReadRef, reads};
 use ftl_syntax::{Grammar, Rule, Target};
 use std::alloc::Global;
@@ -157,7 +157,7 @@ fn form_reads(
     }
 }
 
-#[tactic(auto, using(crate::proofs::First::first_steps))]
+#[tactic(auto, using(ftl_grammar_faults::proofs::First::first_steps))]
 fn part_reads(
     alloc: Global,
     grammar: &Grammar,

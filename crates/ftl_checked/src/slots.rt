@@ -1,7 +1,7 @@
 //! What rules define, and a set of it.
 ghost use Rattle.std.specs.Prelude.{◌≡◌, ◌++◌, [], ◌∷◌, OnOk, false};
 ghost use Rattle.std.specs.List.{list_any};
-ghost use Rattle.ftl_checked.specs.FirstFault.{same_slot};
+ghost use Rattle.ftl_grammar_faults.specs.FirstFault.{same_slot};
 ghost use Rattle.ftl_checked.specs.Slots.{slot_in};
 
 use indexmap::IndexSet;
@@ -23,7 +23,7 @@ pub struct Ruled {
 
 impl Model for Ruled {
     ghost use Rattle.std.specs.Prelude.{List, map};
-    ghost use Rattle.ftl_checked.specs.RuleForms.{Slot};
+    ghost use Rattle.ftl_grammar_faults.specs.RuleForms.{Slot};
     ghost use Rattle.ftl_checked.specs.Slots.{slot_in};
 
     ghost Value = { List Slot };

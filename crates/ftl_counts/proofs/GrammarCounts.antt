@@ -22,10 +22,10 @@ use Rattle.ftl_syntax.specs.GrammarSpelling.{SpellsAttrGroup, SpellsAttrs, Spell
 use Rattle.ftl_syntax.specs.GrammarSpelling.{child_plain, child_rule, class_declared, class_of, first_then, fold, grammar_of, inh_group, input_group, interface_declared, interface_of, list, more_attrs, more_children, more_names, more_own_attrs, more_rules, no_attrs, no_children, no_declarations, no_own_attrs, no_rules, none_shown, one_name, own_input_group, own_local_group, own_plain, own_rule, single, some_shown, syn_group}
 use Rattle.ftl_formula.specs.Expressions.{formula_of}
 use Rattle.ftl_formula.specs.Formula.{reads_of}
-use Rattle.ftl_checked.specs.Counts.{HasSmallClass, HasSmallCounts, HasSmallInterface, HasSmallRule, IsSmall}
-use Rattle.ftl_checked.specs.FirstFault.{is_counted, read_count}
-use Rattle.ftl_checked.specs.Numbering.{own_count, shared_count}
-use Rattle.ftl_checked.specs.RuleForms.{expressions_of}
+use Rattle.ftl_grammar_faults.specs.Counts.{HasSmallClass, HasSmallCounts, HasSmallInterface, HasSmallRule, IsSmall}
+use Rattle.ftl_grammar_faults.specs.FirstFault.{is_counted, read_count}
+use Rattle.ftl_grammar_faults.specs.Numbering.{own_count, shared_count}
+use Rattle.ftl_grammar_faults.specs.RuleForms.{expressions_of}
 use Rattle.ftl_counts.proofs.ReadCounts.{expr_few}
 
 -- what is no more than a small number is small

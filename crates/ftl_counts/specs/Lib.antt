@@ -1,1 +1,1 @@
-pub use Rattle.ftl_checked.specs.Counts
+pub use Rattle.ftl_grammar_faults.specs.Counts

@@ -1,20 +1,24 @@
-//! Why 32 bits hold all counts of a grammar that a text spells.
+//! Why 32 bits hold all counts of a grammar that a text spells, and each attribute is declared by
+//! a word that may stand there.
 
 ghost use Rattle.std.specs.Prelude.{ℕ, ◌<◌, ◌≤◌, length};
 ghost use Rattle.ftl_reading.specs.Reader.{Tokens};
 ghost use Rattle.ftl_tokens.specs.Tokenized.{AreTokensOf, Tokenized, symbols_of};
 ghost use Rattle.ftl_syntax.specs.declared.rules.Grammar as grammars;
 ghost use Rattle.ftl_syntax.specs.GrammarSpelling.{SpellsGrammar};
-ghost use Rattle.ftl_checked.specs.Counts.{HasSmallCounts};
+ghost use Rattle.ftl_grammar_faults.specs.Counts.{HasSmallCounts};
+ghost use Rattle.ftl_grammar_faults.specs.Kinds.{HasKinds};
 
 use ftl_syntax::Grammar;
 use ftl_tokens::Scanned;
 
-/// A law: a grammar has no more of anything than tokens spell it, and a text has no more tokens
-/// than bytes.
+/// A law: a grammar has no more of anything than tokens spell it, each attribute is declared by a
+/// word that may stand there, and a text has no more tokens than bytes.
 pub fn counts_of_spelled_grammars()
     ensures spelled { (tokens : Tokens) (g : grammars.Grammar) → SpellsGrammar tokens g
         → length tokens < 4294967296 → HasSmallCounts g }
+    ensures kinds { (tokens : Tokens) (g : grammars.Grammar) → SpellsGrammar tokens g
+        → HasKinds g }
     ensures tokens { (greatest : ℕ) (scanned : Tokenized)
         → AreTokensOf greatest scanned.text 0 scanned.tokens
         → length (symbols_of scanned) ≤ length scanned.text }
@@ -25,6 +29,7 @@ pub fn small_counts(scanned: &Scanned, grammar: &Grammar)
     requires short { length scanned.now.text ≤ 67108864 }
     requires spelled { SpellsGrammar (symbols_of scanned.now) grammar.now }
     ensures small { HasSmallCounts grammar.now }
+    ensures kinds { HasKinds grammar.now }
 {
     let _tokens = scanned.list();
     counts_of_spelled_grammars();

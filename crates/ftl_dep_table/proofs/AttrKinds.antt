@@ -8,10 +8,10 @@ use Rattle.ftl_syntax.specs.declared.rules.AttrKind.TheVariants as kinds
 use Rattle.ftl_syntax.specs.declared.rules.Class.{Class}
 use Rattle.ftl_syntax.specs.declared.rules.Grammar.{Grammar}
 use Rattle.ftl_syntax.specs.declared.rules.Interface.{Interface}
-use Rattle.ftl_checked.specs.Checked as told
-use Rattle.ftl_checked.specs.Checked.{Declared, all_attributes, declared}
-use Rattle.ftl_checked.specs.Numbering.{numbered}
-use Rattle.ftl_meaning.specs.GrammarOf.{attribute_at}
+use Rattle.ftl_grammar_faults.specs.Checked as told
+use Rattle.ftl_grammar_faults.specs.Checked.{Declared, all_attributes, declared}
+use Rattle.ftl_grammar_faults.specs.Numbering.{numbered}
+use Rattle.ftl_meaning.specs.GrammarOf.{declaration_at}
 
 -- an attribute as it is declared
 abbrev decl_of : Declared → AttrDecl
@@ -45,14 +45,14 @@ decls g =
 
 -- what is told of an attribute has its kind
 pub kind_within : (g : Grammar) (a : ℕ) → a < length (all_attributes g)
-    → (told.attribute_at g a).decl.kind ≡ (attribute_at g a).kind
+    → (told.attribute_at g a).decl.kind ≡ (declaration_at g a).kind
 kind_within g a within =
     ap (λ (x : AttrDecl). x.kind)
     (sym (get_or-map decl_of (all_attributes g) a (declared false 0 (trees.attr_decl kinds.Inh [])) (trees.attr_decl kinds.Input []) within)
     ∙ ap (λ xs. get_or xs a (trees.attr_decl kinds.Input [])) (decls g))
 
 -- past the end an input
-pub kind_past : (g : Grammar) (a : ℕ) → length (all_attributes g) ≤ a → (attribute_at g a).kind ≡ kinds.Input
+pub kind_past : (g : Grammar) (a : ℕ) → length (all_attributes g) ≤ a → (declaration_at g a).kind ≡ kinds.Input
 kind_past g a past =
     ap (λ (x : AttrDecl). x.kind)
     (ap (λ xs. get_or xs a (trees.attr_decl kinds.Input [])) (sym (decls g))

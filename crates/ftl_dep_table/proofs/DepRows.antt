@@ -8,12 +8,12 @@ use Rattle.ftl_syntax.specs.Trees as trees
 use Rattle.ftl_syntax.specs.declared.expression.Expr.{Expr}
 use Rattle.ftl_syntax.specs.declared.rules.Class.{Class}
 use Rattle.ftl_syntax.specs.declared.rules.Rule.{Rule}
-use Rattle.ftl_checked.specs.Allowed.{Position}
-use Rattle.ftl_checked.specs.Checked.{CheckedGrammar}
-use Rattle.ftl_checked.specs.FirstFault.{first_fault}
-use Rattle.ftl_checked.specs.Numbering.{numbered}
+use Rattle.ftl_grammar_faults.specs.Allowed.{Position}
+use Rattle.ftl_grammar_faults.specs.Checked.{CheckedGrammar}
+use Rattle.ftl_grammar_faults.specs.FirstFault.{first_fault}
+use Rattle.ftl_grammar_faults.specs.Numbering.{numbered}
 use Rattle.ftl_checked.specs.ReadNumbers.{parts_by, rule_parts}
-use Rattle.ftl_checked.specs.RuleForms.{Slot, form_of, parts_of, slot_of}
+use Rattle.ftl_grammar_faults.specs.RuleForms.{Slot, form_of, parts_of, slot_of}
 use Rattle.ftl_deps.specs.DepReads.{dep_read, rule_reads}
 use Rattle.ftl_deps.specs.declared.dep_read.DepRead.{DepRead}
 use Rattle.ftl_meaning.specs.GrammarOf.{name_of_rule, rules_of_class}

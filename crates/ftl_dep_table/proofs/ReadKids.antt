@@ -7,7 +7,7 @@ use Rattle.ftl_model.specs.AttributeGrammar.{AttributeGrammar, Parts, Read, Rule
 use Rattle.ftl_model.specs.Solves.{rule_named}
 use Rattle.ftl_order.specs.Lawful.{IsRule, MayReadForChild, MayReadForSelf, MayReadInStep, MayReadLater, PartsForChild, PartsForSelf, class_of_rule}
 use Rattle.ftl_base.specs.Widths.{greatest_of_width}
-use Rattle.ftl_checked.specs.Checked.{CheckedGrammar}
+use Rattle.ftl_grammar_faults.specs.Checked.{CheckedGrammar}
 use Rattle.ftl_deps.specs.DepReads.{dep_read, reads_of_parts, rule_reads}
 use Rattle.ftl_deps.specs.declared.dep_read.DepRead.{DepRead}
 use Rattle.ftl_lawful.proofs.RuleParts.{child_parts, self_parts}

@@ -14,11 +14,11 @@ use Rattle.ftl_syntax.specs.Trees as trees
 use Rattle.ftl_syntax.specs.declared.rules.Class.{Class}
 use Rattle.ftl_syntax.specs.declared.rules.Grammar.{Grammar}
 use Rattle.ftl_syntax.specs.declared.rules.Rule.{Rule}
-use Rattle.ftl_checked.specs.Checked.{CheckedGrammar, all_rules, info_by, rule_info, rule_told}
-use Rattle.ftl_checked.specs.declared.info.RuleInfo.{RuleInfo}
-use Rattle.ftl_checked.specs.FirstFault.{first_fault}
-use Rattle.ftl_checked.specs.Numbering.{class_at, numbered}
-use Rattle.ftl_checked.specs.RuleForms.{Slot, kid_slot, own_slot, slot_of}
+use Rattle.ftl_grammar_faults.specs.Checked.{CheckedGrammar, all_rules, info_by, rule_info, rule_told}
+use Rattle.ftl_grammar_faults.specs.declared.info.RuleInfo.{RuleInfo}
+use Rattle.ftl_grammar_faults.specs.FirstFault.{first_fault}
+use Rattle.ftl_grammar_faults.specs.Numbering.{class_at, numbered}
+use Rattle.ftl_grammar_faults.specs.RuleForms.{Slot, kid_slot, own_slot, slot_of}
 use Rattle.ftl_meaning.specs.GrammarOf.{name_of_rule, rules_of_class}
 use Rattle.ftl_lawful.proofs.KeptRules.{rule_kept}
 use Rattle.ftl_lawful.proofs.Lawfulness.{rule_is}

@@ -6,8 +6,8 @@ use Rattle.std.proofs.lemmas.List.Elements.{Contains-get_or}
 use Rattle.std.proofs.Math.Seq.{drop-cons, take-length, take-suc}
 use Rattle.ftl_model.specs.AttributeGrammar.{AttributeGrammar, RuleName, for_self}
 use Rattle.ftl_order.specs.Lawful.{class_of_rule}
-use Rattle.ftl_checked.specs.Checked.{CheckedGrammar, all_rules, rule_told}
-use Rattle.ftl_checked.specs.FirstFault.{first_fault}
+use Rattle.ftl_grammar_faults.specs.Checked.{CheckedGrammar, all_rules, rule_told}
+use Rattle.ftl_grammar_faults.specs.FirstFault.{first_fault}
 use Rattle.ftl_deps.specs.DepReads.{dep_table, rule_reads}
 use Rattle.ftl_deps.specs.Writers.{first_writer}
 use Rattle.ftl_deps.specs.declared.dep_read.DepRead.{DepRead}

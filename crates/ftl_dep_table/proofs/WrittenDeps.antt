@@ -10,8 +10,8 @@ use Rattle.ftl_syntax.specs.declared.rules.Rule.{Rule}
 use Rattle.ftl_formula.specs.Expressions.{formula_of}
 use Rattle.ftl_formula.specs.Formula.{reads_of}
 use Rattle.ftl_formula.specs.declared.read_name.ReadName.{ReadName}
-use Rattle.ftl_checked.specs.Allowed.{Leaf, Position, leaf_of}
-use Rattle.ftl_checked.specs.Checked.{CheckedGrammar}
+use Rattle.ftl_grammar_faults.specs.Allowed.{Leaf, Position, leaf_of}
+use Rattle.ftl_grammar_faults.specs.Checked.{CheckedGrammar}
 use Rattle.ftl_checked.specs.ReadNumbers.{leaf_in, leaves_in, part_leaves, rule_parts}
 use Rattle.ftl_checked.specs.declared.numbered_read.NumberedRead.{NumberedRead}
 use Rattle.ftl_checked.specs.declared.numbered_read.PartReads.{PartReads}

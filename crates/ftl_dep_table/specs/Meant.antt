@@ -5,8 +5,8 @@ use Rattle.ftl_base.specs.Widths.{greatest_of_width}
 use Rattle.ftl_model.specs.AttributeGrammar.{AttributeGrammar}
 use Rattle.ftl_syntax.specs.declared.rules.Grammar.{Grammar}
 use Rattle.ftl_syntax.specs.declared.rules.Rule.{Rule}
-use Rattle.ftl_checked.specs.Checked.{CheckedGrammar}
-use Rattle.ftl_checked.specs.Numbering.{class_at}
+use Rattle.ftl_grammar_faults.specs.Checked.{CheckedGrammar}
+use Rattle.ftl_grammar_faults.specs.Numbering.{class_at}
 use Rattle.ftl_checked.specs.ReadNumbers.{leaf_in, rule_parts}
 use Rattle.ftl_checked.specs.declared.numbered_read.NumberedRead.{NumberedRead}
 use Rattle.ftl_checked.specs.declared.numbered_read.PartReads.{PartReads}

@@ -4,7 +4,7 @@ use Rattle.std.specs.Prelude.{◌≡◌, ℕ, ◌==◌, ◌&&◌, Bool, true, fa
 use Rattle.std.specs.List.{position}
 use Rattle.std.specs.HashMap.{HashMap, get_by}
 use Rattle.ftl_model.specs.AttributeGrammar.{AttributeGrammar, RuleName, for_child, for_self}
-use Rattle.ftl_checked.specs.declared.info.RuleInfo.{RuleInfo}
+use Rattle.ftl_grammar_faults.specs.declared.info.RuleInfo.{RuleInfo}
 use Rattle.ftl_deps.specs.Writers.{is_of_class}
 use Rattle.ftl_deps.specs.declared.dep_read.Site.{Site}
 use Rattle.ftl_deps.specs.declared.dep_read.Site.TheVariants as sites

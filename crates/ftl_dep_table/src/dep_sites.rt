@@ -4,7 +4,7 @@ ghost use Rattle.std.specs.Option.{option_map};
 ghost use Rattle.ftl_checked.specs.ReadNumbers.{leaf_in};
 ghost use Rattle.ftl_deps.specs.DepReads.{dep_read, kid_read, kid_site, own_site};
 ghost use Rattle.ftl_dep_table.specs.Meant.{meant};
-ghost use Rattle.ftl_meaning.specs.GrammarOf.{attribute_at, sort_of};
+ghost use Rattle.ftl_meaning.specs.GrammarOf.{declaration_at, sort_of};
 ghost use Rattle.ftl_meaning.specs.Meaning.{read_of};
 
 use ftl_checked::{Checked, NumberedRead};
@@ -65,7 +65,7 @@ fn kid_site(kind: AttrKind) -> Site
 /// The kind of an attribute; past the end that of an input.
 #[tactic(auto, using(crate::proofs::AttrKinds::kind_within, crate::proofs::AttrKinds::kind_past))]
 fn kind_of(checked: &Checked, attr: u32) -> AttrKind
-    ensures kind { result ≡ (attribute_at checked.now.grammar attr).kind }
+    ensures kind { result ≡ (declaration_at checked.now.grammar attr).kind }
 {
     if attr < checked.attr_count() {
         checked.attr(attr).kind

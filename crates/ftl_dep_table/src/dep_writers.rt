@@ -1,8 +1,8 @@
 //! The first writers of what a rule reads.
 ghost use Rattle.std.specs.Prelude.{◌≡◌, ◌<◌, None, IfOk, length, map};
 ghost use Rattle.std.specs.List.{All};
-ghost use Rattle.ftl_checked.specs.Checked.{all_rules};
-ghost use Rattle.ftl_checked.specs.FirstFault.{first_fault};
+ghost use Rattle.ftl_grammar_faults.specs.Checked.{all_rules};
+ghost use Rattle.ftl_grammar_faults.specs.FirstFault.{first_fault};
 ghost use Rattle.ftl_deps.specs.DepReads.{dep_table};
 ghost use Rattle.ftl_deps.specs.Writers.{first_writer};
 ghost use Rattle.ftl_dep_table.specs.DepRows.{dep_rows, writer_table, writers_at};

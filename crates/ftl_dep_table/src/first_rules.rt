@@ -1,8 +1,8 @@
 //! The first rule that writes each product.
 ghost use Rattle.std.specs.Prelude.{◌≡◌, ◌<◌, ◌+◌, None, IfOk, IfSome, OnOk, length, take};
-ghost use Rattle.ftl_checked.specs.Checked.{all_rules};
-ghost use Rattle.ftl_checked.specs.FirstFault.{first_fault};
-ghost use Rattle.ftl_checked.specs.Numbering.{class_at};
+ghost use Rattle.ftl_grammar_faults.specs.Checked.{all_rules};
+ghost use Rattle.ftl_grammar_faults.specs.FirstFault.{first_fault};
+ghost use Rattle.ftl_grammar_faults.specs.Numbering.{class_at};
 ghost use Rattle.ftl_dep_table.specs.Meant.{meant};
 ghost use Rattle.ftl_dep_table.specs.Products.{FindsFirst, at_product, or_this, same_product};
 ghost use Rattle.ftl_dep_table.specs.Products.{told_name, written_elsewhere, written_here};

@@ -1,6 +1,6 @@
 //! The table of what each rule reads, and of which rule writes that first.
 ghost use Rattle.std.specs.Prelude.{◌≡◌, ◌<◌, None, length, IfOk};
-ghost use Rattle.ftl_checked.specs.FirstFault.{first_fault};
+ghost use Rattle.ftl_grammar_faults.specs.FirstFault.{first_fault};
 ghost use Rattle.ftl_dep_table.specs.DepRows.{dep_rows, reads_at, writer_at};
 ghost use Rattle.ftl_dep_table.specs.Meant.{meant};
 

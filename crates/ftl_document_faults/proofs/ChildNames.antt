@@ -16,12 +16,12 @@ use Rattle.ftl_syntax.specs.Trees.{NameText}
 use Rattle.ftl_syntax.specs.declared.rules.AttrDecl.{AttrDecl}
 use Rattle.ftl_syntax.specs.declared.rules.Child.{Child}
 use Rattle.ftl_syntax.specs.declared.rules.Grammar.{Grammar}
-use Rattle.ftl_checked.specs.Checked.{field_by, field_named}
-use Rattle.ftl_checked.specs.FirstFault.{attribute_names, class_fault, fault_if, first_fault, first_of, interfaces_named, limit_fault, name_fault, root_inherits, second_name, twice_among, twice_in_class, twice_in_interface, unknown_among}
-use Rattle.ftl_checked.specs.Numbering.{child_at, children_of, class_at, class_attributes, class_names, find_attribute, interface_names, is_among, numbered}
-use Rattle.ftl_checked.specs.declared.fault.GrammarFault.{GrammarFault}
-use Rattle.ftl_checked.specs.declared.fault.GrammarFault.TheVariants as fault
-use Rattle.ftl_checked.specs.declared.info.Field.TheVariants as field
+use Rattle.ftl_grammar_faults.specs.Checked.{field_by, field_named}
+use Rattle.ftl_grammar_faults.specs.FirstFault.{attribute_names, class_fault, fault_if, first_fault, first_of, interfaces_named, limit_fault, name_fault, root_inherits, second_name, twice_among, twice_in_class, twice_in_interface, unknown_among}
+use Rattle.ftl_grammar_faults.specs.Numbering.{child_at, children_of, class_at, class_attributes, class_names, find_attribute, interface_names, is_among, numbered}
+use Rattle.ftl_grammar_faults.specs.declared.fault.GrammarFault.{GrammarFault}
+use Rattle.ftl_grammar_faults.specs.declared.fault.GrammarFault.TheVariants as fault
+use Rattle.ftl_grammar_faults.specs.declared.info.Field.TheVariants as field
 use Rattle.ftl_lawful.proofs.NoFault.{none_in, none_of}
 use Rattle.ftl_lawful.proofs.Numbers.{numbered_has}
 

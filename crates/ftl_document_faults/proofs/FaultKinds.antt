@@ -4,9 +4,9 @@ use Rattle.std.specs.List.{AllByRecursion, find}
 use Rattle.std.specs.Option.{option_map}
 use Rattle.ftl_syntax.specs.declared.rules.Grammar.{Grammar}
 use Rattle.ftl_document_syntax.specs.Written.{NameText, WrittenNode}
-use Rattle.ftl_checked.specs.Checked.{class_named, field_named}
-use Rattle.ftl_checked.specs.Numbering.{interface_of, is_among, numbered}
-use Rattle.ftl_checked.specs.declared.info.Field.{Field}
+use Rattle.ftl_grammar_faults.specs.Checked.{class_named, field_named}
+use Rattle.ftl_grammar_faults.specs.Numbering.{interface_of, is_among, numbered}
+use Rattle.ftl_grammar_faults.specs.declared.info.Field.{Field}
 use Rattle.ftl_document_faults.specs.DocumentLaws.{IsOfNodes}
 use Rattle.ftl_document_faults.specs.FirstFault.{fault_if, field_fault_by, field_faults, first_fault, first_node_fault, first_there, has_form, instance_count_of, is_late, missing_fault, names_of, needed_names, node_fault, node_fault_by, too_many_instances}
 use Rattle.ftl_document_faults.specs.Nodes.{FieldHead, StandingNode, nodes_of}

@@ -3,7 +3,7 @@ use Rattle.std.proofs.Common.{◌≡◌, ℕ, suc, ◌+◌, ◌<◌, ◌≤◌, 
 use Rattle.std.proofs.lemmas.Bool.{cases_lt, eqb-true, eqb-false, ne_eqb}
 use Rattle.ftl_lists.specs.Lists.{NoneFalls}
 use Rattle.ftl_lists.proofs.Elements.{here_in, later_in}
-use Rattle.ftl_checked.specs.Numbering.{numbered}
+use Rattle.ftl_grammar_faults.specs.Numbering.{numbered}
 
 module _ {X : Type 0} (f : X → ℕ) where
   -- those of this number

@@ -10,7 +10,7 @@ use Rattle.ftl_model.proofs.Numbering.{Left, at-left, left_all, left_below, left
 use Rattle.ftl_syntax.specs.declared.rules.AttrDecl.{AttrDecl}
 use Rattle.ftl_syntax.specs.declared.rules.Grammar.{Grammar}
 use Rattle.ftl_document_syntax.specs.Written.{WrittenFields, WrittenNode, WrittenNodes, list_field, no_fields, no_nodes, node_and, node_field, number_field}
-use Rattle.ftl_checked.specs.Numbering.{class_attributes, interface_number, interface_of, own_attributes, shared_attributes}
+use Rattle.ftl_grammar_faults.specs.Numbering.{class_attributes, interface_number, interface_of, own_attributes, shared_attributes}
 use Rattle.ftl_meaning.specs.GrammarOf.{grammar_of}
 use Rattle.ftl_document_faults.specs.DocumentTree.{tree_of, trees_before, trees_in}
 use Rattle.ftl_document_faults.specs.FirstFault.{instance_count_of}

@@ -8,9 +8,9 @@ use Rattle.std.proofs.lemmas.List.Quantifiers.{position-Some}
 use Rattle.std.proofs.lemmas.Option.{none-some, same_Some}
 use Rattle.ftl_syntax.specs.declared.rules.Class.{Class}
 use Rattle.ftl_syntax.specs.declared.rules.Grammar.{Grammar}
-use Rattle.ftl_checked.specs.Checked.{class_named, field_named}
-use Rattle.ftl_checked.specs.Numbering.{class_names, interface_of, is_among, numbered}
-use Rattle.ftl_checked.specs.declared.info.Field.{Field}
+use Rattle.ftl_grammar_faults.specs.Checked.{class_named, field_named}
+use Rattle.ftl_grammar_faults.specs.Numbering.{class_names, interface_of, is_among, numbered}
+use Rattle.ftl_grammar_faults.specs.declared.info.Field.{Field}
 use Rattle.ftl_document_faults.specs.FirstFault.{fault_if, field_fault, field_fault_by, field_faults, first_there, has_form, is_late, missing_fault, names_of, node_fault, node_fault_by}
 use Rattle.ftl_document_faults.specs.Nodes.{FieldHead, StandingNode, class_number}
 use Rattle.ftl_document_faults.specs.declared.fault.DocFault.{DocFault}

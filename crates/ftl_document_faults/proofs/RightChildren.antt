@@ -16,10 +16,10 @@ use Rattle.ftl_syntax.specs.declared.rules.AttrDecl.{AttrDecl}
 use Rattle.ftl_syntax.specs.declared.rules.Child.{Child}
 use Rattle.ftl_syntax.specs.declared.rules.Grammar.{Grammar}
 use Rattle.ftl_document_syntax.specs.Written.{NameText, WrittenFields, WrittenNodes, list_field, no_fields, no_nodes, node_and, node_field, number_field}
-use Rattle.ftl_checked.specs.Checked.{field_by, field_named, input_field, is_input}
-use Rattle.ftl_checked.specs.Numbering.{child_at, children_of, class_at, class_attributes, find_attribute, find_child, is_among}
-use Rattle.ftl_checked.specs.declared.info.Field.{Field}
-use Rattle.ftl_checked.specs.declared.info.Field.TheVariants as field
+use Rattle.ftl_grammar_faults.specs.Checked.{field_by, field_named, input_field, is_input}
+use Rattle.ftl_grammar_faults.specs.Numbering.{child_at, children_of, class_at, class_attributes, find_attribute, find_child, is_among}
+use Rattle.ftl_grammar_faults.specs.declared.info.Field.{Field}
+use Rattle.ftl_grammar_faults.specs.declared.info.Field.TheVariants as field
 use Rattle.ftl_lawful.proofs.Found.{find_is}
 use Rattle.ftl_lawful.proofs.Numbers.{in_numbered}
 use Rattle.ftl_document_faults.specs.DocumentTree.{trees_before, trees_in}

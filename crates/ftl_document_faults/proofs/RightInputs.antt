@@ -13,9 +13,9 @@ use Rattle.ftl_syntax.specs.declared.rules.AttrKind.{AttrKind}
 use Rattle.ftl_syntax.specs.declared.rules.AttrKind.TheVariants as kinds
 use Rattle.ftl_syntax.specs.declared.rules.Grammar.{Grammar}
 use Rattle.ftl_document_syntax.specs.Written.{NameText, WrittenFields, list_field, no_fields, node_field, number_field}
-use Rattle.ftl_checked.specs.Checked.{is_input}
-use Rattle.ftl_checked.specs.Numbering.{class_attributes, interface_of, own_attributes, shared_attributes}
-use Rattle.ftl_meaning.specs.GrammarOf.{attribute_at, grammar_of, sort_of}
+use Rattle.ftl_grammar_faults.specs.Checked.{is_input}
+use Rattle.ftl_grammar_faults.specs.Numbering.{class_attributes, interface_of, own_attributes, shared_attributes}
+use Rattle.ftl_meaning.specs.GrammarOf.{declaration_at, grammar_of, sort_of}
 use Rattle.ftl_lawful.proofs.Numbers.{own_at, shared_at}
 use Rattle.ftl_document_faults.specs.DocumentTree.{inputs_in, number_named}
 use Rattle.ftl_document_faults.specs.FirstFault.{input_names}
@@ -61,19 +61,19 @@ same_lengths false true x xs y ys e same = absurd (let z : ⊥ = grind (arith, e
 
 -- as many attributes are inputs by number as by declaration
 counts_inputs : (g : Grammar) (xs : List (ℕ × AttrDecl))
-    → ((x : ℕ × AttrDecl) → Contains xs x → attribute_at g x.0 ≡ x.1)
-    → length (filter (λ a. model.is_input (sort_of (attribute_at g a).kind)) (map (λ x. x.0) xs))
+    → ((x : ℕ × AttrDecl) → Contains xs x → declaration_at g x.0 ≡ x.1)
+    → length (filter (λ a. model.is_input (sort_of (declaration_at g a).kind)) (map (λ x. x.0) xs))
     ≡ length (filter (λ x. is_input x.1.kind) xs)
 counts_inputs g [] at = refl
 counts_inputs g (x ∷ xs) at =
-    same_lengths (model.is_input (sort_of (attribute_at g x.0).kind)) (is_input x.1.kind) x.0
-    (filter (λ a. model.is_input (sort_of (attribute_at g a).kind)) (map (λ x. x.0) xs)) x
+    same_lengths (model.is_input (sort_of (declaration_at g x.0).kind)) (is_input x.1.kind) x.0
+    (filter (λ a. model.is_input (sort_of (declaration_at g a).kind)) (map (λ x. x.0) xs)) x
     (filter (λ x. is_input x.1.kind) xs)
     (ap (λ (d : AttrDecl). model.is_input (sort_of d.kind)) (at x (here_in x xs)) ∙ input_sort x.1.kind)
     (counts_inputs g xs (λ y there. at y (later_in x y xs there)))
 
 -- each attribute of a class is the one of its number
-attributes_at : (g : Grammar) (k : ℕ) (x : ℕ × AttrDecl) → Contains (class_attributes g k) x → attribute_at g x.0 ≡ x.1
+attributes_at : (g : Grammar) (k : ℕ) (x : ℕ × AttrDecl) → Contains (class_attributes g k) x → declaration_at g x.0 ≡ x.1
 attributes_at g k x there =
     ⊎_elim (λ shared. (shared_at g (interface_of g k) x shared).1) (λ own. (own_at g k x own).1)
     (Contains-append_cases (shared_attributes g (interface_of g k)) (own_attributes g k) x there)
@@ -85,5 +85,5 @@ inputs_counted greatest g k fields =
     length-map (input_names g k) (number_named fields)
     ∙ length-map (filter (λ (x : ℕ × AttrDecl). is_input x.1.kind) (class_attributes g k)) (λ (x : ℕ × AttrDecl). x.1.name)
     ∙ sym (counts_inputs g (class_attributes g k) (attributes_at g k))
-    ∙ ap (λ ns. length (filter (λ a. model.is_input (sort_of (attribute_at g a).kind)) ns))
+    ∙ ap (λ ns. length (filter (λ a. model.is_input (sort_of (declaration_at g a).kind)) ns))
     (map-append (λ (x : ℕ × AttrDecl). x.0) (shared_attributes g (interface_of g k)) (own_attributes g k))

@@ -14,8 +14,8 @@ use Rattle.ftl_syntax.specs.Trees as trees
 use Rattle.ftl_syntax.specs.declared.rules.Child.{Child}
 use Rattle.ftl_syntax.specs.declared.rules.Grammar.{Grammar}
 use Rattle.ftl_document_syntax.specs.Written.{NameText, WrittenFields, WrittenNode, WrittenNodes, list_field, no_fields, no_nodes, node_and, node_field, number_field}
-use Rattle.ftl_checked.specs.FirstFault as grammars
-use Rattle.ftl_checked.specs.Numbering.{child_at, class_at, interface_number, interface_of, is_among}
+use Rattle.ftl_grammar_faults.specs.FirstFault as grammars
+use Rattle.ftl_grammar_faults.specs.Numbering.{child_at, class_at, interface_number, interface_of, is_among}
 use Rattle.ftl_meaning.specs.GrammarOf.{grammar_of}
 use Rattle.ftl_document_faults.specs.DocumentTree.{inputs_in, tree_of, trees_before, trees_in}
 use Rattle.ftl_document_faults.specs.FirstFault.{first_node_fault, input_names, missing_fault, names_of, needed_names}

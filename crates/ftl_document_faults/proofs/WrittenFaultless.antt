@@ -11,8 +11,8 @@ use Rattle.ftl_model.specs.TreeOf.{AreInputs, FitBelow, FitsClass, IsTreeOf}
 use Rattle.ftl_syntax.specs.declared.rules.Child.{Child}
 use Rattle.ftl_syntax.specs.declared.rules.Grammar.{Grammar}
 use Rattle.ftl_document_syntax.specs.Written.{NameText, WrittenFields, list_field, no_fields}
-use Rattle.ftl_checked.specs.FirstFault as grammars
-use Rattle.ftl_checked.specs.Numbering.{child_at, children_of, class_at, interface_number, interface_of, numbered}
+use Rattle.ftl_grammar_faults.specs.FirstFault as grammars
+use Rattle.ftl_grammar_faults.specs.Numbering.{child_at, children_of, class_at, interface_number, interface_of, numbered}
 use Rattle.ftl_meaning.specs.GrammarOf.{grammar_of}
 use Rattle.ftl_document_faults.specs.DocumentTree.{number_named}
 use Rattle.ftl_document_faults.specs.FirstFault.{first_node_fault, first_there, input_names, node_fault}

@@ -15,11 +15,11 @@ use Rattle.ftl_syntax.specs.declared.rules.AttrDecl.{AttrDecl}
 use Rattle.ftl_syntax.specs.declared.rules.Child.{Child}
 use Rattle.ftl_syntax.specs.declared.rules.Grammar.{Grammar}
 use Rattle.ftl_document_syntax.specs.Written.{NameText, WrittenFields, list_field}
-use Rattle.ftl_checked.specs.Checked.{field_by, field_named, is_input}
-use Rattle.ftl_checked.specs.FirstFault as grammars
-use Rattle.ftl_checked.specs.Numbering.{child_at, children_of, class_at, class_attributes, find_attribute, find_child, interface_of, is_among, numbered}
-use Rattle.ftl_checked.specs.declared.info.Field.{Field}
-use Rattle.ftl_checked.specs.declared.info.Field.TheVariants as field
+use Rattle.ftl_grammar_faults.specs.Checked.{field_by, field_named, is_input}
+use Rattle.ftl_grammar_faults.specs.FirstFault as grammars
+use Rattle.ftl_grammar_faults.specs.Numbering.{child_at, children_of, class_at, class_attributes, find_attribute, find_child, interface_of, is_among, numbered}
+use Rattle.ftl_grammar_faults.specs.declared.info.Field.{Field}
+use Rattle.ftl_grammar_faults.specs.declared.info.Field.TheVariants as field
 use Rattle.ftl_lawful.proofs.Numbers.{in_numbered}
 use Rattle.ftl_document_faults.specs.FirstFault.{fault_if, field_fault, field_fault_by, field_faults, first_there, has_form, input_names, is_late, is_of_later, missing_fault, names_of, needed_names, node_fault, node_fault_by}
 use Rattle.ftl_document_faults.specs.Nodes.{FieldHead, child_by, field_heads, head_of, list_form, node_form, number_form, standing}

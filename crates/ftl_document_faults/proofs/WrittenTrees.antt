@@ -17,9 +17,9 @@ use Rattle.ftl_syntax.specs.declared.rules.Child.{Child}
 use Rattle.ftl_syntax.specs.declared.rules.Class.{Class}
 use Rattle.ftl_syntax.specs.declared.rules.Grammar.{Grammar}
 use Rattle.ftl_document_syntax.specs.Written.{NameText, WrittenFields, list_field, no_fields, number_field}
-use Rattle.ftl_checked.specs.Checked.{class_named, is_input}
-use Rattle.ftl_checked.specs.FirstFault as grammars
-use Rattle.ftl_checked.specs.Numbering.{child_at, children_of, class_at, class_attributes, class_names}
+use Rattle.ftl_grammar_faults.specs.Checked.{class_named, is_input}
+use Rattle.ftl_grammar_faults.specs.FirstFault as grammars
+use Rattle.ftl_grammar_faults.specs.Numbering.{child_at, children_of, class_at, class_attributes, class_names}
 use Rattle.ftl_meaning.specs.GrammarOf.{grammar_of}
 use Rattle.ftl_lawful.proofs.Numbers.{in_numbered}
 use Rattle.ftl_document_faults.specs.DocumentTree.{inputs_in, number_named, tree_of, trees_before, trees_in}

@@ -4,7 +4,7 @@ use Rattle.ftl_model.specs.Table.{instance_count}
 use Rattle.ftl_model.specs.Tree.{Forest}
 use Rattle.ftl_model.specs.TreeOf.{IsTreeOf}
 use Rattle.ftl_syntax.specs.declared.rules.Grammar.{Grammar}
-use Rattle.ftl_checked.specs.FirstFault as grammars
+use Rattle.ftl_grammar_faults.specs.FirstFault as grammars
 use Rattle.ftl_meaning.specs.GrammarOf.{grammar_of}
 use Rattle.ftl_document_syntax.specs.Written.{WrittenNode}
 use Rattle.ftl_document_faults.specs.DocumentTree.{tree_of}

@@ -5,10 +5,11 @@ use Rattle.std.specs.List.{find, list_any}
 use Rattle.std.specs.Option.{option_map, option_to_list}
 use Rattle.ftl_syntax.specs.declared.rules.Grammar.{Grammar}
 use Rattle.ftl_document_syntax.specs.Written.{NameText, WrittenNode}
-use Rattle.ftl_checked.specs.Checked.{class_named, field_named, is_input}
-use Rattle.ftl_checked.specs.Numbering.{child_at, children_of, class_attributes, interface_of, is_among, numbered}
-use Rattle.ftl_checked.specs.declared.info.Field.{Field}
-use Rattle.ftl_checked.specs.declared.info.Field.TheVariants as field
+use Rattle.ftl_grammar_faults.specs.Checked.{class_named, field_named, is_input}
+use Rattle.ftl_grammar_faults.specs.Numbering.{child_at, children_of, class_attributes, interface_of, is_among}
+use Rattle.ftl_grammar_faults.specs.Numbering.{numbered}
+use Rattle.ftl_grammar_faults.specs.declared.info.Field.{Field}
+use Rattle.ftl_grammar_faults.specs.declared.info.Field.TheVariants as field
 use Rattle.ftl_document_faults.specs.Nodes.{FieldForm, FieldHead, StandingNode, child_named, class_number}
 use Rattle.ftl_document_faults.specs.Nodes.{list_form, node_form, nodes_of, number_form}
 use Rattle.ftl_document_faults.specs.declared.fault.DocFault.{DocFault}

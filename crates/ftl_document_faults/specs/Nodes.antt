@@ -5,10 +5,10 @@ use Rattle.std.specs.Str.{bytes_eq}
 use Rattle.ftl_syntax.specs.declared.rules.Grammar.{Grammar}
 use Rattle.ftl_document_syntax.specs.Written.{NameText, WrittenFields, WrittenNode, WrittenNodes, list_field}
 use Rattle.ftl_document_syntax.specs.Written.{no_fields, no_nodes, node_and, node_field, number_field}
-use Rattle.ftl_checked.specs.Checked.{field_named}
-use Rattle.ftl_checked.specs.Numbering.{child_at, class_names, interface_number}
-use Rattle.ftl_checked.specs.declared.info.Field.{Field}
-use Rattle.ftl_checked.specs.declared.info.Field.TheVariants as field
+use Rattle.ftl_grammar_faults.specs.Checked.{field_named}
+use Rattle.ftl_grammar_faults.specs.Numbering.{child_at, class_names, interface_number}
+use Rattle.ftl_grammar_faults.specs.declared.info.Field.{Field}
+use Rattle.ftl_grammar_faults.specs.declared.info.Field.TheVariants as field
 
 -- ---- fields without what stands in them
 

@@ -3,7 +3,7 @@ use Rattle.std.specs.Prelude.{ℕ, false, true, ℤ, pos, negsuc, [], ◌∷◌,
 use Rattle.ftl_syntax.specs.Trees as trees
 use Rattle.ftl_syntax.specs.declared.rules.AttrKind.TheVariants as kinds
 use Rattle.ftl_syntax.specs.declared.rules.Grammar.{Grammar}
-use Rattle.ftl_checked.specs.Worked as written
+use Rattle.ftl_grammar_faults.specs.Worked as written
 use Rattle.ftl_document_syntax.specs.Written.{NameText, WrittenFields, WrittenNode, WrittenNodes, list_field}
 use Rattle.ftl_document_syntax.specs.Written.{no_fields, no_nodes, node_and, node_field, number_field}
 

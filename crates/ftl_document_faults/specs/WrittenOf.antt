@@ -6,7 +6,7 @@ use Rattle.ftl_syntax.specs.declared.rules.Child.{Child}
 use Rattle.ftl_syntax.specs.declared.rules.Grammar.{Grammar}
 use Rattle.ftl_document_syntax.specs.Written.{NameText, WrittenFields, WrittenNode, WrittenNodes, list_field}
 use Rattle.ftl_document_syntax.specs.Written.{no_fields, no_nodes, node_and, node_field, number_field}
-use Rattle.ftl_checked.specs.Numbering.{children_of, class_at}
+use Rattle.ftl_grammar_faults.specs.Numbering.{children_of, class_at}
 use Rattle.ftl_document_faults.specs.FirstFault.{input_names}
 
 -- a kid as it is written: the child in which it stands, the name of its class, and its fields

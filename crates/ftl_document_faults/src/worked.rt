@@ -4,8 +4,8 @@ ghost use Rattle.std.specs.Prelude.{◌≡◌, [], ◌∷◌, pos, negsuc, Some,
 ghost use Rattle.ftl_model.specs.Tree.{none, tree};
 ghost use Rattle.ftl_document_syntax.specs.Written.{no_fields, no_nodes, node_and, node_field};
 ghost use Rattle.ftl_document_syntax.specs.Written.{number_field};
-ghost use Rattle.ftl_checked.specs.FirstFault as grammars;
-ghost use Rattle.ftl_checked.specs.Worked as written;
+ghost use Rattle.ftl_grammar_faults.specs.FirstFault as grammars;
+ghost use Rattle.ftl_grammar_faults.specs.Worked as written;
 ghost use Rattle.ftl_document_faults.specs.DocumentTree.{tree_of};
 ghost use Rattle.ftl_document_faults.specs.FirstFault.{first_fault, instance_count_of};
 ghost use Rattle.ftl_document_faults.specs.FirstFault.{too_many_instances};

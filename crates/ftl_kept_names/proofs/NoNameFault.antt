@@ -11,10 +11,10 @@ use Rattle.ftl_syntax.specs.Trees as trees
 use Rattle.ftl_syntax.specs.Trees.{NameText}
 use Rattle.ftl_syntax.specs.declared.rules.Grammar.{Grammar}
 use Rattle.ftl_syntax.specs.declared.rules.Interface.{Interface}
-use Rattle.ftl_checked.specs.FirstFault.{attribute_names, class_fault, fault_if, first_fault, first_of, interfaces_named, limit_fault, name_fault, root_inherits, second_name, twice_among, twice_in_class, twice_in_interface, unknown_among}
-use Rattle.ftl_checked.specs.Numbering.{class_names, interface_at, interface_names, interface_number, is_among, numbered}
-use Rattle.ftl_checked.specs.declared.fault.GrammarFault.{GrammarFault}
-use Rattle.ftl_checked.specs.declared.fault.GrammarFault.TheVariants as fault
+use Rattle.ftl_grammar_faults.specs.FirstFault.{attribute_names, class_fault, fault_if, first_fault, first_of, interfaces_named, limit_fault, name_fault, root_inherits, second_name, twice_among, twice_in_class, twice_in_interface, unknown_among}
+use Rattle.ftl_grammar_faults.specs.Numbering.{class_names, interface_at, interface_names, interface_number, is_among, numbered}
+use Rattle.ftl_grammar_faults.specs.declared.fault.GrammarFault.{GrammarFault}
+use Rattle.ftl_grammar_faults.specs.declared.fault.GrammarFault.TheVariants as fault
 use Rattle.ftl_lawful.proofs.NoFault.{no_fault, none_in, none_of}
 use Rattle.ftl_kept_names.specs.Places.{IsInterface, IsNamed}
 use Rattle.ftl_kept_names.proofs.Names.{among_in, once_in_front, one_place, same_name}

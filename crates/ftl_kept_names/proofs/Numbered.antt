@@ -11,8 +11,8 @@ use Rattle.ftl_syntax.specs.declared.rules.AttrKind.TheVariants as kinds
 use Rattle.ftl_syntax.specs.declared.rules.Class.{Class}
 use Rattle.ftl_syntax.specs.declared.rules.Grammar.{Grammar}
 use Rattle.ftl_syntax.specs.declared.rules.Interface.{Interface}
-use Rattle.ftl_checked.specs.Numbering.{class_at, interface_at, numbered, own_count, shared_count}
-use Rattle.ftl_meaning.specs.GrammarOf.{attribute_at, grammar_of, names_of, sort_of}
+use Rattle.ftl_grammar_faults.specs.Numbering.{class_at, interface_at, numbered, own_count, shared_count}
+use Rattle.ftl_meaning.specs.GrammarOf.{declaration_at, grammar_of, names_of, sort_of}
 use Rattle.ftl_lawful.proofs.Declared.{declared_in_order}
 use Rattle.ftl_lawful.proofs.Numbers.{own_at, shared_at}
 use Rattle.ftl_kept_names.specs.Places.{OfMeanings}
@@ -26,7 +26,7 @@ is_sort kinds.Local = refl
 
 -- numbers from one on are of declarations that stand there
 are_of : (greatest : ℕ) (g : Grammar) (n : ℕ) (xs : List AttrDecl)
-    → ((p : ℕ × AttrDecl) → Contains (numbered n xs) p → attribute_at g p.0 ≡ p.1)
+    → ((p : ℕ × AttrDecl) → Contains (numbered n xs) p → declaration_at g p.0 ≡ p.1)
     → AreOf (grammar_of greatest g).sort (names_of g).attribute_name (map (λ a. a.0) (numbered n xs)) xs
 are_of greatest g n [] each = tt
 are_of greatest g n (x ∷ xs) each =

@@ -11,9 +11,9 @@ use Rattle.ftl_syntax.specs.Trees.{NameText}
 use Rattle.ftl_syntax.specs.declared.rules.AttrDecl.{AttrDecl}
 use Rattle.ftl_syntax.specs.declared.rules.Grammar.{Grammar}
 use Rattle.ftl_syntax.specs.declared.rules.Interface.{Interface}
-use Rattle.ftl_checked.specs.FirstFault.{attribute_names, first_fault}
-use Rattle.ftl_checked.specs.Numbering.{interface_at, interface_of, is_among, numbered, shared_attributes, shared_count}
-use Rattle.ftl_meaning.specs.GrammarOf.{attribute_at, names_of, shown_attributes}
+use Rattle.ftl_grammar_faults.specs.FirstFault.{attribute_names, first_fault}
+use Rattle.ftl_grammar_faults.specs.Numbering.{interface_at, interface_of, is_among, numbered, shared_attributes, shared_count}
+use Rattle.ftl_meaning.specs.GrammarOf.{declaration_at, names_of, shown_attributes}
 use Rattle.ftl_lawful.proofs.Numbers.{in_numbered, numbered_has, shared_at}
 use Rattle.ftl_kept_names.specs.Places.{IsInterface, OfMeanings, OfRightMeanings}
 use Rattle.ftl_kept_names.specs.Shown.{IsShownOnce, Rises, ShowsEachName, ShowsInOrder, ShowsItsNames, ShowsItsOwn}
@@ -82,7 +82,7 @@ module _ (g : Grammar) (i : ℕ) where
   by_name a d there = (
     (λ h.
         let t = told a h in
-        let same : t.0.1 ≡ d = sym (shared_at g i t.0 t.1).1 ∙ ap (attribute_at g) t.3 ∙ (shared_at g i (a, d) there).1 in
+        let same : t.0.1 ≡ d = sym (shared_at g i t.0 t.1).1 ∙ ap (declaration_at g) t.3 ∙ (shared_at g i (a, d) there).1 in
         subst (λ (e : AttrDecl). Contains (interface_at g i).shown e.name) same
         (among_in (interface_at g i).shown t.0.1.name t.2)),
     (λ h. is_shown (a, d) there h),
@@ -133,7 +133,7 @@ module _ (g : Grammar) (none : first_fault g ≡ None) (k : ℕ) (known : interf
             let name_there = name_at s.place d s.known in
             let is : get_or (attribute_names attrs) s.place [] ≡ name =
             name_there.1
-            ∙ ap (λ (x : AttrDecl). x.name) (s.is d ∙ sym (shared_at g i t.0 t.1).1 ∙ ap (attribute_at g) t.3)
+            ∙ ap (λ (x : AttrDecl). x.name) (s.is d ∙ sym (shared_at g i t.0 t.1).1 ∙ ap (declaration_at g) t.3)
             ∙ named_b in
             let same : s.place ≡ place =
             one_place (attribute_names attrs) (attributes_once g none (interface_at g i) there) s.place place name_there.0 name_here.0

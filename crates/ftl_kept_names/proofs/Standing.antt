@@ -6,7 +6,7 @@ use Rattle.ftl_syntax.specs.Trees as trees
 use Rattle.ftl_syntax.specs.declared.rules.Child.{Child}
 use Rattle.ftl_syntax.specs.declared.rules.Class.{Class}
 use Rattle.ftl_syntax.specs.declared.rules.Grammar.{Grammar}
-use Rattle.ftl_checked.specs.Numbering.{child_at, class_at, interface_number, interface_of}
+use Rattle.ftl_grammar_faults.specs.Numbering.{child_at, class_at, interface_number, interface_of}
 use Rattle.ftl_lawful.proofs.Needs.{child_known, interface_known, root_known}
 use Rattle.ftl_kept_names.specs.Classes.{ChildInterfacesAreKept, ChildListsAreKept, ChildrenAreCounted, ClassInterfacesAreKept, ClassNamesAreKept, IsChild, RootIsKept}
 use Rattle.ftl_kept_names.specs.Places.{IsClass, IsNamed, OfMeanings, OfRightMeanings}

@@ -8,7 +8,7 @@ use Rattle.ftl_syntax.specs.Trees.{NameText}
 use Rattle.ftl_syntax.specs.declared.rules.Class.{Class}
 use Rattle.ftl_syntax.specs.declared.rules.Grammar.{Grammar}
 use Rattle.ftl_syntax.specs.declared.rules.Interface.{Interface}
-use Rattle.ftl_checked.specs.FirstFault.{first_fault}
+use Rattle.ftl_grammar_faults.specs.FirstFault.{first_fault}
 use Rattle.ftl_meaning.specs.GrammarOf.{grammar_of, names_of}
 
 -- the interface at this place of the text, from 0

@@ -12,14 +12,14 @@ use Rattle.ftl_syntax.specs.declared.rules.Rule.{Rule}
 use Rattle.ftl_syntax.specs.declared.rules.Target.{Target}
 use Rattle.ftl_formula.specs.Formula.{reads_of}
 use Rattle.ftl_formula.specs.Expressions.{formula_of}
-use Rattle.ftl_checked.specs.declared.fault.What.TheVariants as what
-use Rattle.ftl_checked.specs.declared.fault.GrammarFault.{GrammarFault}
-use Rattle.ftl_checked.specs.declared.fault.GrammarFault.TheVariants as fault
-use Rattle.ftl_checked.specs.declared.rule_name.RuleName.{RuleName}
-use Rattle.ftl_checked.specs.Allowed.{Position, leaf_of}
-use Rattle.ftl_checked.specs.FirstFault.{attribute_names, bad_read, class_fault, class_limits, fault_if, first_fault, first_of, first_there, form_fault, interfaces_named, is_ruled, kid_needs, limit_fault, missing_rule, name_fault, own_needs, read_count, read_limits, root_inherits, rule_fault, rule_faults, rule_name, same_slot, second_name, too_many, twice_among, twice_in_class, twice_in_interface, unknown_among}
-use Rattle.ftl_checked.specs.Numbering.{children_of, class_at, class_attributes, class_names, interface_names, is_among, numbered, own_count, shared_count}
-use Rattle.ftl_checked.specs.RuleForms.{Form, Slot, expressions_of, form_of, parts_of, slot_of}
+use Rattle.ftl_grammar_faults.specs.declared.fault.What.TheVariants as what
+use Rattle.ftl_grammar_faults.specs.declared.fault.GrammarFault.{GrammarFault}
+use Rattle.ftl_grammar_faults.specs.declared.fault.GrammarFault.TheVariants as fault
+use Rattle.ftl_grammar_faults.specs.declared.rule_name.RuleName.{RuleName}
+use Rattle.ftl_grammar_faults.specs.Allowed.{Position, leaf_of}
+use Rattle.ftl_grammar_faults.specs.FirstFault.{attribute_names, bad_read, class_fault, class_limits, fault_if, first_fault, first_of, first_there, form_fault, interfaces_named, is_ruled, kid_needs, limit_fault, missing_rule, name_fault, own_needs, read_count, read_limits, root_inherits, rule_fault, rule_faults, rule_name, same_slot, second_name, too_many, twice_among, twice_in_class, twice_in_interface, unknown_among}
+use Rattle.ftl_grammar_faults.specs.Numbering.{children_of, class_at, class_attributes, class_names, interface_names, is_among, numbered, own_count, shared_count}
+use Rattle.ftl_grammar_faults.specs.RuleForms.{Form, Slot, expressions_of, form_of, parts_of, slot_of}
 
 -- a fault of a grammar
 abbrev pub IsCause : GrammarFault → Type 0

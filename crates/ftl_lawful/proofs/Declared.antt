@@ -6,7 +6,7 @@ use Rattle.ftl_syntax.specs.Trees as trees
 use Rattle.ftl_syntax.specs.declared.rules.Class.{Class}
 use Rattle.ftl_syntax.specs.declared.rules.Grammar.{Grammar}
 use Rattle.ftl_syntax.specs.declared.rules.Interface.{Interface}
-use Rattle.ftl_checked.specs.Numbering.{class_at, interface_at, own_count, shared_count}
+use Rattle.ftl_grammar_faults.specs.Numbering.{class_at, interface_at, own_count, shared_count}
 use Rattle.ftl_meaning.specs.GrammarOf.{grammar_of}
 use Rattle.ftl_lawful.proofs.Numbers.{map-numbered}
 

@@ -7,9 +7,9 @@ use Rattle.std.proofs.lemmas.Option.{same_Some}
 use Rattle.ftl_model.specs.Solves.{rule_named}
 use Rattle.ftl_syntax.specs.declared.rules.Grammar.{Grammar}
 use Rattle.ftl_syntax.specs.declared.rules.Rule.{Rule}
-use Rattle.ftl_checked.specs.FirstFault.{first_fault, same_slot}
-use Rattle.ftl_checked.specs.Numbering.{class_at}
-use Rattle.ftl_checked.specs.RuleForms.{Slot, form_of, kid_slot, own_slot, slot_of}
+use Rattle.ftl_grammar_faults.specs.FirstFault.{first_fault, same_slot}
+use Rattle.ftl_grammar_faults.specs.Numbering.{class_at}
+use Rattle.ftl_grammar_faults.specs.RuleForms.{Slot, form_of, kid_slot, own_slot, slot_of}
 use Rattle.ftl_meaning.specs.GrammarOf.{grammar_of, is_for, name_of_rule, rule_by, rule_for}
 use Rattle.ftl_lawful.specs.Kept.{IsKept, StandsAt}
 use Rattle.ftl_lawful.proofs.Found.{find_first}

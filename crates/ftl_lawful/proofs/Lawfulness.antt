@@ -22,11 +22,12 @@ use Rattle.ftl_syntax.specs.declared.rules.Class.{Class}
 use Rattle.ftl_syntax.specs.declared.rules.Grammar.{Grammar}
 use Rattle.ftl_syntax.specs.declared.rules.Interface.{Interface}
 use Rattle.ftl_syntax.specs.declared.rules.Rule.{Rule}
-use Rattle.ftl_checked.specs.FirstFault.{first_fault}
-use Rattle.ftl_checked.specs.Numbering.{class_at, interface_at, interface_number, numbered, own_attributes, own_count, shared_attributes, shared_count}
-use Rattle.ftl_checked.specs.RuleForms.{Slot, is_inherited, kid_slot, own_slot, slot_of}
+use Rattle.ftl_grammar_faults.specs.FirstFault.{first_fault}
+use Rattle.ftl_grammar_faults.specs.Numbering.{class_at, interface_at, interface_number, numbered, own_attributes, own_count, shared_attributes, shared_count}
+use Rattle.ftl_grammar_faults.specs.RuleForms.{Slot, is_inherited, kid_slot, own_slot, slot_of}
 use Rattle.ftl_meaning.specs.GrammarOf.{grammar_of, name_of_rule, rules_of_class, sort_of}
-use Rattle.ftl_lawful.specs.Faultless.{HasKinds, IsFaultless, IsOwnKind, IsSharedKind}
+use Rattle.ftl_lawful.specs.Faultless.{IsFaultless}
+use Rattle.ftl_grammar_faults.specs.Kinds.{HasKinds, IsOwnKind, IsSharedKind}
 use Rattle.ftl_lawful.proofs.Declared.{declared_in_order}
 use Rattle.ftl_lawful.proofs.Found.{in_by_place}
 use Rattle.ftl_lawful.proofs.Needs.{child_known, interface_known, root_has_none, root_known, rule_written, rules_right}

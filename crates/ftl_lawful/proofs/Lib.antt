@@ -10,10 +10,8 @@ pub mod RightRules
 pub mod RuleList
 pub mod Declared
 pub mod Needs
-pub mod SpelledKinds
 pub mod Lawfulness
 pub mod KeptRules
-pub mod WorkedKinds
 pub mod AlikeTrees
 pub mod WorkedGrammars
 pub mod WithinLimits

@@ -21,11 +21,11 @@ use Rattle.ftl_syntax.specs.declared.rules.Grammar.{Grammar}
 use Rattle.ftl_syntax.specs.declared.rules.Rule.{Rule}
 use Rattle.ftl_syntax.specs.declared.rules.Target.{Target}
 use Rattle.ftl_syntax.specs.declared.rules.Target.TheVariants as targets
-use Rattle.ftl_checked.specs.declared.fault.GrammarFault.{GrammarFault}
-use Rattle.ftl_checked.specs.declared.fault.GrammarFault.TheVariants as fault
-use Rattle.ftl_checked.specs.FirstFault.{attribute_names, class_fault, fault_if, first_fault, first_of, interfaces_named, is_ruled, kid_needs, limit_fault, missing_rule, name_fault, own_needs, root_inherits, rule_faults, rule_name, twice_among, twice_in_class, twice_in_interface, unknown_among}
-use Rattle.ftl_checked.specs.Numbering.{child_at, child_attributes, children_of, class_at, class_attributes, class_names, interface_names, interface_number, interface_of, is_among, numbered, own_attributes, shared_attributes}
-use Rattle.ftl_checked.specs.RuleForms.{Slot, is_inherited, is_synthesized_or_local, kid_slot, own_slot, slot_of}
+use Rattle.ftl_grammar_faults.specs.declared.fault.GrammarFault.{GrammarFault}
+use Rattle.ftl_grammar_faults.specs.declared.fault.GrammarFault.TheVariants as fault
+use Rattle.ftl_grammar_faults.specs.FirstFault.{attribute_names, class_fault, fault_if, first_fault, first_of, interfaces_named, is_ruled, kid_needs, limit_fault, missing_rule, name_fault, own_needs, root_inherits, rule_faults, rule_name, twice_among, twice_in_class, twice_in_interface, unknown_among}
+use Rattle.ftl_grammar_faults.specs.Numbering.{child_at, child_attributes, children_of, class_at, class_attributes, class_names, interface_names, interface_number, interface_of, is_among, numbered, own_attributes, shared_attributes}
+use Rattle.ftl_grammar_faults.specs.RuleForms.{Slot, is_inherited, is_synthesized_or_local, kid_slot, own_slot, slot_of}
 use Rattle.ftl_meaning.specs.GrammarOf.{grammar_of, name_of_rule, sort_of}
 use Rattle.ftl_lawful.specs.Kept.{IsWritten, StandsAt}
 use Rattle.ftl_lawful.proofs.Found.{any_at, position_within}

@@ -4,8 +4,8 @@ use Rattle.std.specs.List.{AllByRecursion}
 use Rattle.std.proofs.lemmas.Option.{none-some}
 use Rattle.ftl_lists.proofs.Elements.{each_in}
 use Rattle.ftl_lists.proofs.Rising.{map_has}
-use Rattle.ftl_checked.specs.declared.fault.GrammarFault.{GrammarFault}
-use Rattle.ftl_checked.specs.FirstFault.{fault_if, first_of, first_there}
+use Rattle.ftl_grammar_faults.specs.declared.fault.GrammarFault.{GrammarFault}
+use Rattle.ftl_grammar_faults.specs.FirstFault.{fault_if, first_of, first_there}
 
 -- each of a list of conditions
 pub none_in : (xs : List (Option GrammarFault)) → first_there xs ≡ None → AllByRecursion (λ x. x ≡ None) xs

@@ -12,8 +12,8 @@ use Rattle.ftl_syntax.specs.declared.rules.AttrKind.TheVariants as kinds
 use Rattle.ftl_syntax.specs.declared.rules.Class.{Class}
 use Rattle.ftl_syntax.specs.declared.rules.Grammar.{Grammar}
 use Rattle.ftl_syntax.specs.declared.rules.Interface.{Interface}
-use Rattle.ftl_checked.specs.Numbering.{class_at, interface_at, numbered, own_attributes, own_count, shared_attributes, shared_count}
-use Rattle.ftl_meaning.specs.GrammarOf.{attribute_at}
+use Rattle.ftl_grammar_faults.specs.Numbering.{class_at, interface_at, numbered, own_attributes, own_count, shared_attributes, shared_count}
+use Rattle.ftl_meaning.specs.GrammarOf.{declaration_at}
 
 -- the numbers of a numbered list are a range
 pub map-numbered : {X : Type 0} (n : ℕ) (xs : List X) → map (λ a. a.0) (numbered n xs) ≡ range_with_len n (length xs)
@@ -76,13 +76,13 @@ module _ (g : Grammar) where
 
   -- an attribute of an interface is the one of its number, and the interface is known
   pub shared_at : (i : ℕ) (p : ℕ × AttrDecl) → Contains (shared_attributes g i) p
-      → (i < length g.interfaces) × (attribute_at g p.0 ≡ p.1)
+      → (i < length g.interfaces) × (declaration_at g p.0 ≡ p.1)
   shared_at i p h =
       ⊎_elim
       (λ known.
       let s = in_numbered (shared_count (take i g.interfaces)) (interface_at g i).attrs p h in (
         known,
-        ap (attribute_at g) s.number
+        ap (declaration_at g) s.number
             ∙ get_or_append_left shared_all own_all no_attribute (shared_count (take i g.interfaces) + s.place)
             (piece_within (λ (x : Interface). x.attrs) (trees.interface [] [] []) g.interfaces i s.place known s.known)
             ∙ get_or-flat_map (λ (x : Interface). x.attrs) g.interfaces i s.place (trees.interface [] [] []) no_attribute known s.known
@@ -96,13 +96,13 @@ module _ (g : Grammar) where
 
   -- and so is one that a class adds
   pub own_at : (k : ℕ) (p : ℕ × AttrDecl) → Contains (own_attributes g k) p
-      → (k < length g.classes) × (attribute_at g p.0 ≡ p.1)
+      → (k < length g.classes) × (declaration_at g p.0 ≡ p.1)
   own_at k p h =
       ⊎_elim
       (λ known.
       let s = in_numbered (shared_count g.interfaces + own_count (take k g.classes)) (class_at g k).attrs p h in (
         known,
-        ap (attribute_at g)
+        ap (declaration_at g)
             (s.number
             ∙ (let z : (shared_count g.interfaces + own_count (take k g.classes)) + s.place ≡ shared_count g.interfaces + (own_count (take k g.classes) + s.place) = omega arith in z))
             ∙ get_or-append-add shared_all own_all (own_count (take k g.classes) + s.place) no_attribute

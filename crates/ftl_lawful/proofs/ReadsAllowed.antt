@@ -18,8 +18,8 @@ use Rattle.ftl_formula.specs.Expressions.{formula_of}
 use Rattle.ftl_formula.specs.Formula.{reads_of}
 use Rattle.ftl_formula.specs.declared.read_name.ReadName.{ReadName}
 use Rattle.ftl_formula.specs.declared.read_name.ReadName.TheVariants as names
-use Rattle.ftl_checked.specs.Allowed.{Leaf, Position, accumulator, for_kids, for_later, for_self, for_single, in_step, last_leaf, leaf_by, leaf_of, of_read, single_leaf}
-use Rattle.ftl_checked.specs.Numbering.{child_at, child_attributes, children_of, class_at, class_attributes, find_attribute, find_child, own_attributes, shared_attributes, interface_of}
+use Rattle.ftl_grammar_faults.specs.Allowed.{Leaf, Position, accumulator, for_kids, for_later, for_self, for_single, in_step, last_leaf, leaf_by, leaf_of, of_read, single_leaf}
+use Rattle.ftl_grammar_faults.specs.Numbering.{child_at, child_attributes, children_of, class_at, class_attributes, find_attribute, find_child, own_attributes, shared_attributes, interface_of}
 use Rattle.ftl_meaning.specs.GrammarOf.{grammar_of}
 use Rattle.ftl_meaning.specs.Meaning.{expression_reads, read_of}
 use Rattle.ftl_lawful.proofs.Found.{find_is}

@@ -13,12 +13,12 @@ use Rattle.ftl_syntax.specs.declared.rules.Grammar.{Grammar}
 use Rattle.ftl_syntax.specs.declared.rules.Rule.{Rule}
 use Rattle.ftl_formula.specs.Expressions.{formula_of}
 use Rattle.ftl_formula.specs.Formula.{reads_of}
-use Rattle.ftl_checked.specs.declared.fault.GrammarFault.TheVariants as fault
-use Rattle.ftl_checked.specs.declared.rule_name.RuleName as by_name
-use Rattle.ftl_checked.specs.Allowed.{Leaf, leaf_of}
-use Rattle.ftl_checked.specs.FirstFault.{bad_read, fault_if, first_of, form_fault, rule_fault, rule_faults, rule_name, same_slot}
-use Rattle.ftl_checked.specs.Numbering.{class_at}
-use Rattle.ftl_checked.specs.RuleForms.{Form, Slot, form_of, kid_slot, own_slot, parts_of, slot_of}
+use Rattle.ftl_grammar_faults.specs.declared.fault.GrammarFault.TheVariants as fault
+use Rattle.ftl_grammar_faults.specs.declared.rule_name.RuleName as by_name
+use Rattle.ftl_grammar_faults.specs.Allowed.{Leaf, leaf_of}
+use Rattle.ftl_grammar_faults.specs.FirstFault.{bad_read, fault_if, first_of, form_fault, rule_fault, rule_faults, rule_name, same_slot}
+use Rattle.ftl_grammar_faults.specs.Numbering.{class_at}
+use Rattle.ftl_grammar_faults.specs.RuleForms.{Form, Slot, form_of, kid_slot, own_slot, parts_of, slot_of}
 use Rattle.ftl_meaning.specs.GrammarOf.{name_of_rule}
 use Rattle.ftl_lawful.specs.Kept.{EachReadIs}
 use Rattle.ftl_lawful.proofs.NoFault.{no_fault, none_in, none_of}

@@ -5,7 +5,7 @@ use Rattle.ftl_lists.specs.Lists.{AreDistinct, NoneFalls}
 use Rattle.ftl_lists.proofs.Elements.{distinct-append, here_in, in_flat_map, later_in}
 use Rattle.ftl_model.specs.AttributeGrammar.{RuleName}
 use Rattle.ftl_order.specs.Lawful.{class_of_rule}
-use Rattle.ftl_checked.specs.Numbering.{numbered}
+use Rattle.ftl_grammar_faults.specs.Numbering.{numbered}
 use Rattle.ftl_lawful.proofs.Numbers.{in_numbered}
 
 -- two lists of which no entry of the first is greater than one of the second

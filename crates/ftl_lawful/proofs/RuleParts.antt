@@ -10,9 +10,9 @@ use Rattle.ftl_syntax.specs.declared.rules.Body.TheVariants as bodies
 use Rattle.ftl_syntax.specs.declared.rules.Child.{Child}
 use Rattle.ftl_syntax.specs.declared.rules.Grammar.{Grammar}
 use Rattle.ftl_syntax.specs.declared.rules.Rule as written
-use Rattle.ftl_checked.specs.Allowed.{for_kids, for_self, for_single}
-use Rattle.ftl_checked.specs.Numbering.{child_at, class_at, find_child}
-use Rattle.ftl_checked.specs.RuleForms.{Form, Slot, first_form, fold_form, fold_over_list, form_of, kid_slot, one_form, own_slot}
+use Rattle.ftl_grammar_faults.specs.Allowed.{for_kids, for_self, for_single}
+use Rattle.ftl_grammar_faults.specs.Numbering.{child_at, class_at, find_child}
+use Rattle.ftl_grammar_faults.specs.RuleForms.{Form, Slot, first_form, fold_form, fold_over_list, form_of, kid_slot, one_form, own_slot}
 use Rattle.ftl_meaning.specs.GrammarOf.{form_for, grammar_of, is_for, rule_by, rule_for}
 use Rattle.ftl_meaning.specs.Meaning.{form_parts}
 use Rattle.ftl_lawful.proofs.ReadsAllowed.{child_found, kids_reads, later_reads, self_reads, single_reads, step_reads}

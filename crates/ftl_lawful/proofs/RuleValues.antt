@@ -15,8 +15,8 @@ use Rattle.ftl_syntax.specs.declared.rules.Grammar.{Grammar}
 use Rattle.ftl_formula.specs.Expressions.{formula_of}
 use Rattle.ftl_formula.specs.Formula.{reads_of}
 use Rattle.ftl_formula.specs.declared.read_name.ReadName.{ReadName}
-use Rattle.ftl_checked.specs.Allowed.{Leaf, Position, accumulator, for_kids, for_later, for_self, in_step, leaf_of, of_read}
-use Rattle.ftl_checked.specs.RuleForms.{Form, first_form, fold_form, one_form}
+use Rattle.ftl_grammar_faults.specs.Allowed.{Leaf, Position, accumulator, for_kids, for_later, for_self, in_step, leaf_of, of_read}
+use Rattle.ftl_grammar_faults.specs.RuleForms.{Form, first_form, fold_form, one_form}
 use Rattle.ftl_meaning.specs.Meaning.{expression_reads, expression_value, leaf_value, look_up, read_of, rule_of_form, sight, value_seen}
 use Rattle.ftl_lawful.proofs.ValueOf.{FoundIn, value_in, value_same}
 

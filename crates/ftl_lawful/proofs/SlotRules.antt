@@ -17,9 +17,9 @@ use Rattle.ftl_syntax.specs.declared.rules.Child.{Child}
 use Rattle.ftl_syntax.specs.declared.rules.Grammar.{Grammar}
 use Rattle.ftl_syntax.specs.declared.rules.Target.{Target}
 use Rattle.ftl_syntax.specs.declared.rules.Target.TheVariants as targets
-use Rattle.ftl_checked.specs.Numbering.{child_at, child_attributes, class_at, class_attributes, find_attribute, find_child, interface_number, interface_of, own_attributes, shared_attributes}
-use Rattle.ftl_checked.specs.RuleForms.{Slot, is_inherited, is_synthesized_or_local, kid_slot, own_slot, slot_by, slot_of}
-use Rattle.ftl_meaning.specs.GrammarOf.{attribute_at, grammar_of, name_of_rule, sort_of}
+use Rattle.ftl_grammar_faults.specs.Numbering.{child_at, child_attributes, class_at, class_attributes, find_attribute, find_child, interface_number, interface_of, own_attributes, shared_attributes}
+use Rattle.ftl_grammar_faults.specs.RuleForms.{Slot, is_inherited, is_synthesized_or_local, kid_slot, own_slot, slot_by, slot_of}
+use Rattle.ftl_meaning.specs.GrammarOf.{declaration_at, grammar_of, name_of_rule, sort_of}
 use Rattle.ftl_lawful.proofs.Found.{find_is}
 use Rattle.ftl_lawful.proofs.Numbers.{own_at, shared_at}
 use Rattle.ftl_lawful.proofs.ReadsAllowed.{child_found, of_class}
@@ -43,7 +43,7 @@ module _ (w : ℕ) (g : Grammar) (k : ℕ) where
   meant = grammar_of w g
 
   -- an attribute of a class stands at its number
-  pub class_attribute : (p : ℕ × AttrDecl) → Contains (class_attributes g k) p → attribute_at g p.0 ≡ p.1
+  pub class_attribute : (p : ℕ × AttrDecl) → Contains (class_attributes g k) p → declaration_at g p.0 ≡ p.1
   class_attribute p h =
       ⊎_elim (λ shared. (shared_at g (interface_of g k) p shared).1) (λ own. (own_at g k p own).1)
       (Contains-append_cases (shared_attributes g (interface_of g k)) (own_attributes g k) p h)

@@ -4,8 +4,8 @@ use Rattle.std.proofs.lemmas.List.{append-nil}
 use Rattle.ftl_model.specs.AttributeGrammar.{Read, Rule}
 use Rattle.ftl_syntax.specs.declared.rules.Grammar.{Grammar}
 use Rattle.ftl_syntax.specs.declared.rules.Rule as written
-use Rattle.ftl_checked.specs.Allowed.{for_kids, for_later, for_self, in_step}
-use Rattle.ftl_checked.specs.RuleForms.{Form, first_form, fold_form, one_form}
+use Rattle.ftl_grammar_faults.specs.Allowed.{for_kids, for_later, for_self, in_step}
+use Rattle.ftl_grammar_faults.specs.RuleForms.{Form, first_form, fold_form, one_form}
 use Rattle.ftl_deps.specs.DepReads.{dep_read, reads_of_parts, rule_reads}
 use Rattle.ftl_meaning.specs.GrammarOf.{grammar_of, name_of_rule}
 use Rattle.ftl_meaning.specs.Meaning.{expression_reads, form_parts}

@@ -21,13 +21,13 @@ use Rattle.ftl_formula.specs.Expressions.{formula_of}
 use Rattle.ftl_formula.specs.Formula.{reads_of}
 use Rattle.ftl_formula.specs.declared.read_name.ReadName.{ReadName}
 use Rattle.ftl_formula.specs.declared.read_name.ReadName.TheVariants as names
-use Rattle.ftl_checked.specs.declared.fault.GrammarFault.TheVariants as fault
-use Rattle.ftl_checked.specs.declared.fault.What.{What}
-use Rattle.ftl_checked.specs.declared.fault.What.TheVariants as what
-use Rattle.ftl_checked.specs.Allowed.{Leaf, Position, accumulator, for_kids, for_later, for_self as in_self, for_single, in_step, leaf_of, may_read_acc, of_read}
-use Rattle.ftl_checked.specs.FirstFault.{class_fault, class_limits, first_fault, first_of, is_counted, limit_fault, name_fault, read_count, read_limits, too_many}
-use Rattle.ftl_checked.specs.Numbering.{child_at, class_at, find_child, interface_at, numbered, own_count, shared_count}
-use Rattle.ftl_checked.specs.RuleForms.{Form, Slot, expressions_of, first_form, fold_form, fold_over_list, form_of, kid_slot, one_form, own_slot}
+use Rattle.ftl_grammar_faults.specs.declared.fault.GrammarFault.TheVariants as fault
+use Rattle.ftl_grammar_faults.specs.declared.fault.What.{What}
+use Rattle.ftl_grammar_faults.specs.declared.fault.What.TheVariants as what
+use Rattle.ftl_grammar_faults.specs.Allowed.{Leaf, Position, accumulator, for_kids, for_later, for_self as in_self, for_single, in_step, leaf_of, may_read_acc, of_read}
+use Rattle.ftl_grammar_faults.specs.FirstFault.{class_fault, class_limits, first_fault, first_of, is_counted, limit_fault, name_fault, read_count, read_limits, too_many}
+use Rattle.ftl_grammar_faults.specs.Numbering.{child_at, class_at, find_child, interface_at, numbered, own_count, shared_count}
+use Rattle.ftl_grammar_faults.specs.RuleForms.{Form, Slot, expressions_of, first_form, fold_form, fold_over_list, form_of, kid_slot, one_form, own_slot}
 use Rattle.ftl_meaning.specs.GrammarOf.{form_for, grammar_of, is_for, rule_by, rule_for}
 use Rattle.ftl_meaning.specs.Meaning.{expression_reads, form_parts, read_of}
 use Rattle.ftl_lawful.specs.Limits.{IsWithinLimits}

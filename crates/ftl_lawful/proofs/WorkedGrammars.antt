@@ -1,9 +1,9 @@
 -- Worked grammars have no fault.
 use Rattle.std.proofs.Common.{refl}
-use Rattle.ftl_checked.specs.Worked as written
-use Rattle.ftl_checked.proofs.WorkedFormulas.{of-adding, of-num, of-reading, of-stacked, of-widest}
+use Rattle.ftl_grammar_faults.specs.Worked as written
+use Rattle.ftl_grammar_faults.proofs.WorkedFormulas.{of-adding, of-num, of-reading, of-stacked, of-widest}
 use Rattle.ftl_lawful.specs.Faultless.{IsFaultless}
-use Rattle.ftl_lawful.proofs.WorkedKinds.{kinds_by}
+use Rattle.ftl_grammar_faults.proofs.WorkedKinds.{kinds_by}
 
 -- the stack grammar as it is written
 pub stack_faultless : IsFaultless written.stack

@@ -10,7 +10,7 @@ use Rattle.ftl_model.specs.Tree.{Forest}
 use Rattle.ftl_model.specs.TreeOf.{IsTreeOf}
 use Rattle.ftl_model.specs.Values.{Value}
 use Rattle.ftl_order.specs.Lawful.{IsLawful}
-use Rattle.ftl_checked.specs.Worked as written
+use Rattle.ftl_grammar_faults.specs.Worked as written
 use Rattle.ftl_meaning.specs.Alike.{IsAlike}
 use Rattle.ftl_meaning.specs.GrammarOf.{grammar_of}
 

@@ -10,10 +10,10 @@ use Rattle.ftl_syntax.specs.declared.rules.Grammar.{Grammar}
 use Rattle.ftl_syntax.specs.declared.rules.Rule as written
 use Rattle.ftl_formula.specs.Expressions.{formula_of}
 use Rattle.ftl_formula.specs.Formula.{reads_of}
-use Rattle.ftl_checked.specs.Allowed.{leaf_of}
-use Rattle.ftl_checked.specs.FirstFault.{first_fault}
-use Rattle.ftl_checked.specs.Numbering.{class_at}
-use Rattle.ftl_checked.specs.RuleForms.{Form, Slot, form_of, parts_of, slot_of}
+use Rattle.ftl_grammar_faults.specs.Allowed.{leaf_of}
+use Rattle.ftl_grammar_faults.specs.FirstFault.{first_fault}
+use Rattle.ftl_grammar_faults.specs.Numbering.{class_at}
+use Rattle.ftl_grammar_faults.specs.RuleForms.{Form, Slot, form_of, parts_of, slot_of}
 use Rattle.ftl_meaning.specs.GrammarOf.{grammar_of, name_of_rule}
 use Rattle.ftl_meaning.specs.Meaning.{rule_of_form}
 

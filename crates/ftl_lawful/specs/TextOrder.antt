@@ -3,8 +3,8 @@ use Rattle.std.specs.Prelude.{◌≡◌, ℕ, ◌<◌, List, length, flat_map, m
 use Rattle.ftl_model.specs.AttributeGrammar.{Read}
 use Rattle.ftl_syntax.specs.declared.rules.Grammar.{Grammar}
 use Rattle.ftl_syntax.specs.declared.rules.Rule as written
-use Rattle.ftl_checked.specs.FirstFault.{first_fault}
-use Rattle.ftl_checked.specs.RuleForms.{Form, parts_of}
+use Rattle.ftl_grammar_faults.specs.FirstFault.{first_fault}
+use Rattle.ftl_grammar_faults.specs.RuleForms.{Form, parts_of}
 use Rattle.ftl_deps.specs.DepReads.{dep_read, rule_reads}
 use Rattle.ftl_meaning.specs.GrammarOf.{grammar_of, name_of_rule}
 use Rattle.ftl_meaning.specs.Meaning.{expression_reads}

@@ -3,8 +3,8 @@
 ghost use Rattle.std.specs.Prelude.{◌≢◌, Some};
 ghost use Rattle.ftl_order.specs.Lawful.{IsLawful};
 ghost use Rattle.ftl_syntax.specs.declared.rules.Grammar.{Grammar};
-ghost use Rattle.ftl_checked.specs.FirstFault.{first_fault};
-ghost use Rattle.ftl_checked.specs.declared.fault.GrammarFault.TheVariants.{OutOfMemory};
+ghost use Rattle.ftl_grammar_faults.specs.FirstFault.{first_fault};
+ghost use Rattle.ftl_grammar_faults.specs.declared.fault.GrammarFault.TheVariants.{OutOfMemory};
 ghost use Rattle.ftl_lawful.specs.Faultless.{SpelledAreFaultless};
 ghost use Rattle.ftl_lawful.specs.LawfulOf.{OfFaultless, HasOneTable, HasOneList, StaysInRange};
 ghost use Rattle.ftl_lawful.specs.Limits.{IsWithinLimits};

@@ -1,4 +1,4 @@
-//! Why the meaning of a grammar is lawful. Goes in: grammars without a fault, by `ftl_checked`,
+//! Why the meaning of a grammar is lawful. Goes in: grammars without a fault, by `ftl_grammar_faults`,
 //! and their meaning, by `ftl_meaning`. Comes out: laws, stated by empty functions, in the words of
 //! `specs/`. There is no code here.
 #![tactic(auto)]
@@ -12,4 +12,4 @@ pub use lawful::{
     faultless_grammars_are_lawful, faultless_grammars_are_small, faults_are_of_grammars,
     rules_are_kept,
 };
-pub use worked::{grammars_without_a_fault, words_of_attributes};
+pub use worked::grammars_without_a_fault;

@@ -8,8 +8,8 @@ use Rattle.ftl_model.specs.Solves.{rule_named}
 use Rattle.ftl_model.specs.Stack.{stack_in, stack_rules}
 use Rattle.ftl_model.specs.StackNames.{stack_names}
 use Rattle.ftl_model.specs.Values.{Value, number, overflow, value_of}
-use Rattle.ftl_checked.specs.Worked as written
-use Rattle.ftl_checked.proofs.WorkedFormulas.{of-adding, of-num, of-reading, of-stacked, of-widest}
+use Rattle.ftl_grammar_faults.specs.Worked as written
+use Rattle.ftl_grammar_faults.proofs.WorkedFormulas.{of-adding, of-num, of-reading, of-stacked, of-widest}
 use Rattle.ftl_meaning.specs.Alike.{IsAlike, IsSameRule, PrintsAlike}
 use Rattle.ftl_meaning.specs.GrammarOf.{grammar_of, names_of}
 

@@ -13,17 +13,18 @@ use Rattle.ftl_syntax.specs.declared.rules.AttrKind.{AttrKind}
 use Rattle.ftl_syntax.specs.declared.rules.AttrKind.TheVariants as kinds
 use Rattle.ftl_syntax.specs.declared.rules.Grammar.{Grammar}
 use Rattle.ftl_syntax.specs.declared.rules.Rule as written
-use Rattle.ftl_checked.specs.FirstFault.{same_slot}
-use Rattle.ftl_checked.specs.Numbering.{child_at, class_at, interface_at, interface_number, interface_of, is_among}
-use Rattle.ftl_checked.specs.Numbering.{numbered, own_attributes, own_count, shared_attributes, shared_count}
-use Rattle.ftl_checked.specs.RuleForms.{Form, Slot, form_of, kid_slot, own_slot, slot_of}
+use Rattle.ftl_grammar_faults.specs.FirstFault.{same_slot}
+use Rattle.ftl_grammar_faults.specs.Numbering.{child_at, class_at, interface_at, interface_number, interface_of}
+use Rattle.ftl_grammar_faults.specs.Numbering.{is_among}
+use Rattle.ftl_grammar_faults.specs.Numbering.{numbered, own_attributes, own_count, shared_attributes, shared_count}
+use Rattle.ftl_grammar_faults.specs.RuleForms.{Form, Slot, form_of, kid_slot, own_slot, slot_of}
 use Rattle.ftl_meaning.specs.Meaning.{rule_of_form}
 
 -- ---- attributes
 
 -- the attribute of this number; past the end an input without a name
-abbrev pub attribute_at : Grammar → ℕ → AttrDecl
-attribute_at g a =
+abbrev pub declaration_at : Grammar → ℕ → AttrDecl
+declaration_at g a =
     slice_index_or (flat_map (λ x. x.attrs) g.interfaces ++ flat_map (λ x. x.attrs) g.classes) a
     (trees.attr_decl kinds.Input [])
 
@@ -89,7 +90,7 @@ grammar_of greatest g =
       is_list = λ k c. (child_at g k c).many;
       shared = λ i. map (λ a. a.0) (shared_attributes g i);
       private = λ k. map (λ a. a.0) (own_attributes g k);
-      sort = λ a. sort_of (attribute_at g a).kind;
+      sort = λ a. sort_of (declaration_at g a).kind;
       rules = flat_map (λ k. rules_of_class g k.0) (numbered 0 g.classes);
       self_rule = λ k a. rule_for greatest g k (own_slot a);
       child_rule = λ k c a. rule_for greatest g k (kid_slot c a);
@@ -100,6 +101,6 @@ abbrev pub names_of : Grammar → Names
 names_of g =
     record {
       class_name = λ k. (class_at g k).name;
-      attribute_name = λ a. (attribute_at g a).name;
+      attribute_name = λ a. (declaration_at g a).name;
       shown = λ k. shown_attributes g (interface_of g k);
     }

@@ -2,4 +2,4 @@ pub mod Meaning
 pub mod GrammarOf
 pub mod Alike
 pub mod Worked
-pub use Rattle.ftl_checked.specs.FirstFault
+pub use Rattle.ftl_grammar_faults.specs.FirstFault

@@ -14,9 +14,10 @@ use Rattle.ftl_formula.specs.Expressions.{formula_of}
 use Rattle.ftl_formula.specs.Formula as formula
 use Rattle.ftl_formula.specs.Formula.{Formula, Question, reads_of}
 use Rattle.ftl_formula.specs.declared.read_name.ReadName.{ReadName}
-use Rattle.ftl_checked.specs.Allowed.{Leaf, Position, accumulator, for_kids, for_later, for_self, in_step, leaf_of}
-use Rattle.ftl_checked.specs.Allowed.{of_read}
-use Rattle.ftl_checked.specs.RuleForms.{Form, first_form, fold_form, one_form}
+use Rattle.ftl_grammar_faults.specs.Allowed.{Leaf, Position, accumulator, for_kids, for_later, for_self, in_step}
+use Rattle.ftl_grammar_faults.specs.Allowed.{leaf_of}
+use Rattle.ftl_grammar_faults.specs.Allowed.{of_read}
+use Rattle.ftl_grammar_faults.specs.RuleForms.{Form, first_form, fold_form, one_form}
 
 -- ---- formulas
 

@@ -17,8 +17,8 @@ use Rattle.ftl_syntax.specs.declared.expression.Test.{Test}
 use Rattle.ftl_syntax.specs.declared.expression.Test.TheVariants as tests
 use Rattle.ftl_syntax.specs.declared.rules.AttrKind.TheVariants as kinds
 use Rattle.ftl_syntax.specs.declared.rules.Grammar.{Grammar}
-use Rattle.ftl_checked.specs.Allowed.{for_self}
-use Rattle.ftl_checked.specs.Worked as written
+use Rattle.ftl_grammar_faults.specs.Allowed.{for_self}
+use Rattle.ftl_grammar_faults.specs.Worked as written
 use Rattle.ftl_meaning.specs.Meaning.{expression_value, sight}
 
 -- ---- expressions

@@ -3,7 +3,7 @@
 ghost use Rattle.std.specs.Prelude.{ℕ};
 ghost use Rattle.ftl_model.specs.Stack.{stack_in};
 ghost use Rattle.ftl_model.specs.StackNames.{stack_names};
-ghost use Rattle.ftl_checked.specs.Worked as written;
+ghost use Rattle.ftl_grammar_faults.specs.Worked as written;
 ghost use Rattle.ftl_meaning.specs.Alike.{IsAlike, PrintsAlike};
 ghost use Rattle.ftl_meaning.specs.GrammarOf.{grammar_of, names_of};
 

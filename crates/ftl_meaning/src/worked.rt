@@ -5,8 +5,8 @@ ghost use Rattle.ftl_model.specs.AttributeGrammar as model;
 ghost use Rattle.ftl_model.specs.AttributeGrammar.{class_inputs};
 ghost use Rattle.ftl_model.specs.Values.{narrow, wide, number, overflow};
 ghost use Rattle.ftl_model.specs.Worked.{EachHoldsIn};
-ghost use Rattle.ftl_checked.specs.RuleForms.{own_slot, kid_slot};
-ghost use Rattle.ftl_checked.specs.Worked as written;
+ghost use Rattle.ftl_grammar_faults.specs.RuleForms.{own_slot, kid_slot};
+ghost use Rattle.ftl_grammar_faults.specs.Worked as written;
 ghost use Rattle.ftl_meaning.specs.GrammarOf.{grammar_of, names_of, rule_for};
 ghost use Rattle.ftl_meaning.specs.Worked as worked;
 

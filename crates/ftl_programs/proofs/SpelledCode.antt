@@ -30,7 +30,7 @@ use Rattle.ftl_formula.specs.Formula.{both, either}
 use Rattle.ftl_formula.specs.Expressions.{Number, Truth, after, formula_of, atom_formula, factor_step, read_name, test_question, cond_question, conj_question, signed_step, sum_formula, term_formula, unary_formula}
 use Rattle.ftl_formula.specs.declared.read_name.ReadName.TheVariants as names
 use Rattle.ftl_formula.proofs.Equations.{of-Number, of-Acc, of-Read, of-Group, of-Least, of-Greatest, of-LastOr, of-If, of-Sum, of-bracketed, of-Compare, of-cond, of-conj, of-sum, of-term, of-unary, times_at, over_at, minus_at, plus_at}
-use Rattle.ftl_checked.specs.RuleForms.{expressions_of}
+use Rattle.ftl_grammar_faults.specs.RuleForms.{expressions_of}
 use Rattle.ftl_code.specs.Code.{AsksDivisors, HasDivisors, code_in, code_of}
 use Rattle.ftl_code.specs.declared.instruction.Instruction.{Instruction}
 use Rattle.ftl_code.specs.declared.instruction.Instruction.TheVariants as instruction

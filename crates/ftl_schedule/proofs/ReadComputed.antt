@@ -13,10 +13,10 @@ use Rattle.ftl_syntax.specs.declared.rules.AttrDecl.{AttrDecl}
 use Rattle.ftl_syntax.specs.declared.rules.AttrKind.{AttrKind}
 use Rattle.ftl_syntax.specs.declared.rules.AttrKind.TheVariants as kinds
 use Rattle.ftl_syntax.specs.declared.rules.Grammar.{Grammar}
-use Rattle.ftl_checked.specs.Checked.{all_attributes, attribute_named, class_named, is_input, is_own_computed, is_shared_computed, local_named, number_if, shared_named}
-use Rattle.ftl_checked.specs.Numbering.{find_attribute, interface_number, own_attributes, shared_attributes}
-use Rattle.ftl_checked.proofs.AttrInfos.{attribute_count_is}
-use Rattle.ftl_meaning.specs.GrammarOf.{attribute_at, grammar_of, sort_of}
+use Rattle.ftl_grammar_faults.specs.Checked.{all_attributes, attribute_named, class_named, is_input, is_own_computed, is_shared_computed, local_named, number_if, shared_named}
+use Rattle.ftl_grammar_faults.specs.Numbering.{find_attribute, interface_number, own_attributes, shared_attributes}
+use Rattle.ftl_grammar_tables.proofs.AttrInfos.{attribute_count_is}
+use Rattle.ftl_meaning.specs.GrammarOf.{declaration_at, grammar_of, sort_of}
 use Rattle.ftl_lawful.proofs.Found.{find_is}
 use Rattle.ftl_lawful.proofs.Numbers.{own_at, shared_at}
 use Rattle.ftl_dep_table.proofs.AttrKinds.{kind_past}
@@ -94,7 +94,7 @@ module _ (w : ℕ) (g : Grammar) where
   abbrev IsComputed : ℕ → Type 0
   IsComputed a = (a < (grammar_of w g).attribute_count) × ((grammar_of w g).sort a ≢ model.input)
 
-  of_kind : (a : ℕ) (k : AttrKind) → (attribute_at g a).kind ≡ k → is_input k ≡ false → IsComputed a
+  of_kind : (a : ℕ) (k : AttrKind) → (declaration_at g a).kind ≡ k → is_input k ≡ false → IsComputed a
   of_kind a k is computed = (
     ⊎_elim (λ below. subst (λ n. a < n) (attribute_count_is g) below)
         (λ past. absurd (let e : is_input kinds.Input ≡ false = subst (λ z. is_input z ≡ false) (sym is ∙ kind_past g a past) computed in cc e))
@@ -109,7 +109,7 @@ module _ (w : ℕ) (g : Grammar) where
       let there = (find_is (λ x. bytes_eq name x.1.name) (shared_attributes g i) p found).0 in
       let is = chosen (is_shared_computed p.1.kind) p.0 a picked in
       of_kind a p.1.kind
-      (ap (λ n. (attribute_at g n).kind) (sym is.1) ∙ ap (λ (d : AttrDecl). d.kind) (shared_at g i p there).1)
+      (ap (λ n. (declaration_at g n).kind) (sym is.1) ∙ ap (λ (d : AttrDecl). d.kind) (shared_at g i p there).1)
       (shared_not_input p.1.kind is.0))
 
   own_computed : (k : ℕ) (name : NameText) (a : ℕ) → local_named g k name ≡ Some a → IsComputed a
@@ -119,7 +119,7 @@ module _ (w : ℕ) (g : Grammar) where
       let there = (find_is (λ x. bytes_eq name x.1.name) (own_attributes g k) p found).0 in
       let is = chosen (is_own_computed p.1.kind) p.0 a picked in
       of_kind a p.1.kind
-      (ap (λ n. (attribute_at g n).kind) (sym is.1) ∙ ap (λ (d : AttrDecl). d.kind) (own_at g k p there).1)
+      (ap (λ n. (declaration_at g n).kind) (sym is.1) ∙ ap (λ (d : AttrDecl). d.kind) (own_at g k p there).1)
       (own_not_input p.1.kind is.0))
 
   named_computed : (owner name : NameText) (a : ℕ) → attribute_named g owner name ≡ Some a → IsComputed a

@@ -1,7 +1,7 @@
 -- The schedule that a written one stands for: each attribute by its number, or the first that names no computed one.
 use Rattle.std.specs.Prelude.{ℕ, List, [], ◌∷◌, ◌++◌, Option, Some, None, Result, Ok, Err}
 use Rattle.ftl_syntax.specs.declared.rules.Grammar.{Grammar}
-use Rattle.ftl_checked.specs.Checked.{attribute_named}
+use Rattle.ftl_grammar_faults.specs.Checked.{attribute_named}
 use Rattle.ftl_schedule_syntax.specs.declared.types.AttributeName.{AttributeName}
 use Rattle.ftl_schedule_syntax.specs.declared.types.WrittenPass.{WrittenPass}
 use Rattle.ftl_schedule_syntax.specs.declared.types.WrittenStage.{WrittenStage}

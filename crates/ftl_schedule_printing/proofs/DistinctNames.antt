@@ -8,8 +8,8 @@ use Rattle.std.proofs.lemmas.Slice.Eq.{bytes_eq-Decides}
 use Rattle.ftl_lists.specs.Lists.{AreDistinct}
 use Rattle.ftl_lists.proofs.Elements.{in_cases, nothing_in}
 use Rattle.ftl_syntax.specs.Trees.{NameText}
-use Rattle.ftl_checked.specs.FirstFault.{second_name}
-use Rattle.ftl_checked.specs.Numbering.{is_among}
+use Rattle.ftl_grammar_faults.specs.FirstFault.{second_name}
+use Rattle.ftl_grammar_faults.specs.Numbering.{is_among}
 
 pub same_name : (a b : NameText) → bytes_eq a b ≡ true → a ≡ b
 same_name a b e = (bytes_eq-Decides a b).0 e

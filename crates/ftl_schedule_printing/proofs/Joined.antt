@@ -3,7 +3,7 @@ use Rattle.std.proofs.Common.{◌≡◌, ℕ, ◌+◌, ◌<◌, refl, sym, ◌�
 use Rattle.std.proofs.lemmas.List.{append_assoc, append-nil, drop_more}
 use Rattle.std.proofs.Math.ListN.{drop_of_length-le}
 use Rattle.std.proofs.lemmas.Grind.{flat_map-append}
-use Rattle.ftl_checked.proofs.Counting.{left_by}
+use Rattle.ftl_grammar_faults.proofs.Counting.{left_by}
 use Rattle.ftl_tokens.specs.declared.kind.Kind.TheVariants as kind
 use Rattle.ftl_tokens.specs.Tokenized.{fixed}
 use Rattle.ftl_written.specs.Written.{text_of, written, written_bytes}

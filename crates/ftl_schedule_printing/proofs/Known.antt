@@ -4,8 +4,8 @@ use Rattle.std.specs.List.{All}
 use Rattle.std.proofs.lemmas.List.Elements.{All-contains_itself}
 use Rattle.ftl_lists.proofs.Elements.{flat_map_has}
 use Rattle.ftl_lists.proofs.Rising.{map_has}
-use Rattle.ftl_checked.specs.Checked.{CheckedGrammar}
-use Rattle.ftl_checked.proofs.AttrInfos.{attribute_count_is}
+use Rattle.ftl_grammar_faults.specs.Checked.{CheckedGrammar}
+use Rattle.ftl_grammar_tables.proofs.AttrInfos.{attribute_count_is}
 use Rattle.ftl_dep_table.specs.Meant.{meant}
 use Rattle.ftl_order.specs.Schedule as order
 use Rattle.ftl_order.specs.Schedule.{entries}

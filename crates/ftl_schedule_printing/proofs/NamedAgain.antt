@@ -19,15 +19,15 @@ use Rattle.ftl_syntax.specs.declared.rules.AttrKind.TheVariants as kinds
 use Rattle.ftl_syntax.specs.declared.rules.Class.{Class}
 use Rattle.ftl_syntax.specs.declared.rules.Grammar.{Grammar}
 use Rattle.ftl_syntax.specs.declared.rules.Interface.{Interface}
-use Rattle.ftl_checked.specs.Checked.{Declared, all_attributes, attribute_at, attribute_named, class_named, is_own_computed, is_shared_computed, local_named, number_if, owner_name_of, shared_named}
-use Rattle.ftl_checked.specs.FirstFault.{attribute_names, class_fault, fault_if, first_fault, first_of, interfaces_named, name_fault, root_inherits, second_name, twice_among, twice_in_class, twice_in_interface, unknown_among}
-use Rattle.ftl_checked.specs.FirstFault as grammars
-use Rattle.ftl_checked.specs.Numbering.{children_of, class_at, class_attributes, class_names, find_attribute, interface_at, interface_names, interface_number, interface_of, is_among, numbered, own_attributes, own_count, shared_attributes, shared_count}
-use Rattle.ftl_checked.specs.declared.fault.GrammarFault.{GrammarFault}
-use Rattle.ftl_checked.specs.declared.fault.GrammarFault.TheVariants as fault
-use Rattle.ftl_checked.proofs.AttrInfos.{attribute_count_is}
+use Rattle.ftl_grammar_faults.specs.Checked.{Declared, all_attributes, attribute_at, attribute_named, class_named, is_own_computed, is_shared_computed, local_named, number_if, owner_name_of, shared_named}
+use Rattle.ftl_grammar_faults.specs.FirstFault.{attribute_names, class_fault, fault_if, first_fault, first_of, interfaces_named, name_fault, root_inherits, second_name, twice_among, twice_in_class, twice_in_interface, unknown_among}
+use Rattle.ftl_grammar_faults.specs.FirstFault as grammars
+use Rattle.ftl_grammar_faults.specs.Numbering.{children_of, class_at, class_attributes, class_names, find_attribute, interface_at, interface_names, interface_number, interface_of, is_among, numbered, own_attributes, own_count, shared_attributes, shared_count}
+use Rattle.ftl_grammar_faults.specs.declared.fault.GrammarFault.{GrammarFault}
+use Rattle.ftl_grammar_faults.specs.declared.fault.GrammarFault.TheVariants as fault
+use Rattle.ftl_grammar_tables.proofs.AttrInfos.{attribute_count_is}
 use Rattle.ftl_meaning.specs.GrammarOf.{grammar_of, sort_of}
-use Rattle.ftl_lawful.specs.Faultless.{HasKinds, IsOwnKind, IsSharedKind}
+use Rattle.ftl_grammar_faults.specs.Kinds.{HasKinds, IsOwnKind, IsSharedKind}
 use Rattle.ftl_lawful.proofs.NoFault.{none_in, none_of}
 use Rattle.ftl_lawful.proofs.Numbers.{numbered_has}
 use Rattle.ftl_dep_table.proofs.AttrKinds.{kind_within}
@@ -45,7 +45,7 @@ use Rattle.ftl_schedule_reading.specs.Read.{unless}
 use Rattle.ftl_schedule_text.specs.ScheduleText.{IsTextOf, schedule_text}
 use Rattle.ftl_schedule_printing.specs.WrittenOf.{name_of, pass_by_name, stage_by_name, written_of}
 use Rattle.ftl_schedule_printing.specs.ReadBack.{IsReadBack}
-use Rattle.ftl_checked.proofs.Standing.{IsOwn, IsShared, own_is_in, shared_is_in}
+use Rattle.ftl_grammar_tables.proofs.Standing.{IsOwn, IsShared, own_is_in, shared_is_in}
 
 -- ---- places of names
 

@@ -1,6 +1,6 @@
 -- A schedule that is printed is read back.
 use Rattle.std.specs.Prelude.{◌≡◌, List, ℕ, None, Ok}
-use Rattle.ftl_checked.specs.Checked.{CheckedGrammar}
+use Rattle.ftl_grammar_faults.specs.Checked.{CheckedGrammar}
 use Rattle.ftl_syntax.specs.declared.rules.Grammar.{Grammar}
 use Rattle.ftl_dep_table.specs.Meant.{meant}
 use Rattle.ftl_lawful.specs.Faultless.{IsFaultless}

@@ -2,7 +2,7 @@
 use Rattle.std.specs.Prelude.{ℕ, ◌<◌, List, length, map}
 use Rattle.std.specs.List.{All}
 use Rattle.ftl_syntax.specs.declared.rules.Grammar.{Grammar}
-use Rattle.ftl_checked.specs.Checked.{all_attributes, attribute_at, owner_name_of}
+use Rattle.ftl_grammar_faults.specs.Checked.{all_attributes, attribute_at, owner_name_of}
 use Rattle.ftl_schedule_syntax.specs.Trees.{attribute_name, written_pass, written_schedule, written_stage}
 use Rattle.ftl_schedule_syntax.specs.declared.types.AttributeName.{AttributeName}
 use Rattle.ftl_schedule_syntax.specs.declared.types.WrittenPass.{WrittenPass}

@@ -7,11 +7,11 @@ use Rattle.ftl_model.specs.AttributeGrammar.{AttributeGrammar, Sort, for_self, i
 use Rattle.ftl_order.specs.Lawful.{IsLawful, IsRule, class_of_rule}
 use Rattle.ftl_order.specs.Ordered.{visit_place}
 use Rattle.ftl_order.specs.Schedule.{PassKind}
-use Rattle.ftl_checked.specs.Checked.{CheckedGrammar, all_rules}
-use Rattle.ftl_checked.specs.FirstFault.{first_fault}
+use Rattle.ftl_grammar_faults.specs.Checked.{CheckedGrammar, all_rules}
+use Rattle.ftl_grammar_faults.specs.FirstFault.{first_fault}
 use Rattle.ftl_deps.specs.DepReads.{rule_reads}
 use Rattle.ftl_deps.specs.Writers.{first_writer, is_writer}
-use Rattle.ftl_lawful.specs.Faultless.{HasKinds}
+use Rattle.ftl_grammar_faults.specs.Kinds.{HasKinds}
 use Rattle.ftl_lawful.proofs.Lawfulness.{faultless_lawful}
 use Rattle.ftl_lawful.proofs.WithinLimits.{within_limits}
 use Rattle.ftl_dep_table.specs.DepRows.{DepRows, dep_rows, writer_at}

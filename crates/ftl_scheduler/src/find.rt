@@ -3,7 +3,6 @@
 ghost use Rattle.std.specs.Prelude.{◌≡◌, IfErr, IfOk};
 ghost use Rattle.ftl_automatic.specs.Automatic.{IsAutomatic, SomeScheduleIsOrdered};
 ghost use Rattle.ftl_order.specs.Ordered.{IsOrdered};
-ghost use Rattle.ftl_lawful.specs.Faultless.{HasKinds};
 ghost use Rattle.ftl_stages.specs.Stages.{stages_of};
 ghost use Rattle.ftl_dep_table.specs.DepRows.{dep_rows};
 ghost use Rattle.ftl_dep_table.specs.Meant.{meant};
@@ -21,16 +20,13 @@ use ftl_schedule_faults::faultless_is_ordered;
 use ftl_verify::{Accepted, VerifyFault, attribute_count, verify};
 use std::alloc::{AllocError, Global};
 
-/// The automatic schedule, accepted, or the attributes that are left where there is none. Each
-/// attribute is to be declared by a word that may stand there, as it is in each grammar that tokens
-/// spell.
+/// The automatic schedule, accepted, or the attributes that are left where there is none.
 pub fn find_schedule(
     alloc: Global,
     checked: &Checked,
     deps: &DepTable,
 ) -> Result<Accepted, FindFault>
     requires table { deps.now ≡ dep_rows (meant checked.now) }
-    requires kinds { HasKinds checked.now.grammar }
     // where a schedule is found
     ensures found { IfOk result (λ a. IsAutomatic (meant checked.now) (stages_of a)) }
     ensures ordered { IfOk result (λ a. IsOrdered (meant checked.now) (stages_of a)) }
@@ -54,7 +50,6 @@ pub fn find_schedule(
 // The automatic schedule, or where there is none.
 fn outcome_of(alloc: Global, checked: &Checked, deps: &DepTable) -> Result<Outcome, AllocError>
     requires table { deps.now ≡ dep_rows (meant checked.now) }
-    requires kinds { HasKinds checked.now.grammar }
     ensures outcome { IfOk result (IsOutcome (meant checked.now)) }
 {
     let _ = checked.grammar();

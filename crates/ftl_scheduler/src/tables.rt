@@ -1,8 +1,7 @@
 //! The rows of needs of each kind of pass.
 
 ghost use Rattle.std.specs.Prelude.{◌≡◌, ◌<◌, ◌+◌, length, IfOk};
-ghost use Rattle.ftl_checked.specs.Checked.{all_rules};
-ghost use Rattle.ftl_lawful.specs.Faultless.{HasKinds};
+ghost use Rattle.ftl_grammar_faults.specs.Checked.{all_rules};
 ghost use Rattle.ftl_deps.specs.DepReads.{rule_reads};
 ghost use Rattle.ftl_dep_table.specs.DepRows.{dep_rows};
 ghost use Rattle.ftl_dep_table.specs.Meant.{meant};
@@ -31,7 +30,6 @@ pub fn tables_of(
     deps: &DepTable,
 ) -> Result<(Tables, BitRow), AllocError>
     requires table { deps.now ≡ dep_rows (meant checked.now) }
-    requires kinds { HasKinds checked.now.grammar }
     ensures tables { IfOk result (λ t. AreTablesOf (meant checked.now) t.0) }
     ensures usable { IfOk result (λ t. AreUsable t.0 t.1 (meant checked.now).attribute_count) }
     ensures computed { IfOk result (λ t. HasComputed (meant checked.now) t.1) }
@@ -53,7 +51,6 @@ fn needs_of_kind(
     kind: PassKind,
 ) -> Result<Needs, AllocError>
     requires table { deps.now ≡ dep_rows (meant checked.now) }
-    requires kinds { HasKinds checked.now.grammar }
     ensures entered { IfOk result (λ n. AreEnteredTo (meant checked.now) (kind_of kind) n
         (length (meant checked.now).rules) 0) }
 {
@@ -68,7 +65,6 @@ fn needs_of_kind(
 // Enters what a rule asks.
 fn enter_reads(checked: &Checked, deps: &DepTable, kind: PassKind, rule: u32, needs: &mut Needs)
     requires table { deps.now ≡ dep_rows (meant checked.now) }
-    requires kinds { HasKinds checked.now.grammar }
     requires within { rule < length (all_rules checked.now.grammar) }
     requires entered { AreEnteredTo (meant checked.now) (kind_of kind) needs.old rule 0 }
     ensures entered { AreEnteredTo (meant checked.now) (kind_of kind) needs.new (rule + 1) 0 }
@@ -89,7 +85,6 @@ fn enter_read(
     needs: &mut Needs,
 )
     requires table { deps.now ≡ dep_rows (meant checked.now) }
-    requires kinds { HasKinds checked.now.grammar }
     requires within { rule < length (all_rules checked.now.grammar) }
     requires place { place < length (rule_reads (meant checked.now)
         (rule_at (meant checked.now) rule)) }

@@ -1,6 +1,6 @@
 -- A tree with its grammar.
 use Rattle.ftl_model.specs.Tree.{Forest}
-use Rattle.ftl_checked.specs.Checked.{CheckedGrammar}
+use Rattle.ftl_grammar_faults.specs.Checked.{CheckedGrammar}
 
 -- a checked grammar, and a tree
 pub record CheckedTree : Type 0 where

@@ -4,9 +4,9 @@ use Rattle.ftl_order.specs.Lawful.{IsLawful}
 use Rattle.ftl_order.specs.OrderLaws.{LegalOrderExists, OneListSolves, OneTableSolves, WritersStandBefore}
 use Rattle.ftl_order.specs.Ordered.{IsOrdered}
 use Rattle.ftl_order.proofs.Scheduled.{one_list_under, one_table_under, order_under, writer_before_under}
-use Rattle.ftl_checked.specs.Checked.{CheckedGrammar}
-use Rattle.ftl_checked.specs.FirstFault as grammar
-use Rattle.ftl_lawful.specs.Faultless.{HasKinds}
+use Rattle.ftl_grammar_faults.specs.Checked.{CheckedGrammar}
+use Rattle.ftl_grammar_faults.specs.FirstFault as grammar
+use Rattle.ftl_grammar_faults.specs.Kinds.{HasKinds}
 use Rattle.ftl_lawful.proofs.Lawfulness.{faultless_lawful}
 use Rattle.ftl_dep_table.specs.Meant.{meant}
 use Rattle.ftl_order.specs.Schedule as order

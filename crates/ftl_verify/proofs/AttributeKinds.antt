@@ -5,8 +5,8 @@ use Rattle.ftl_syntax.specs.declared.rules.AttrDecl.{AttrDecl}
 use Rattle.ftl_syntax.specs.declared.rules.Class.{Class}
 use Rattle.ftl_syntax.specs.declared.rules.Grammar.{Grammar}
 use Rattle.ftl_syntax.specs.declared.rules.Interface.{Interface}
-use Rattle.ftl_checked.specs.Checked.{all_attributes, declared}
-use Rattle.ftl_checked.specs.Numbering.{numbered, own_count, shared_count}
+use Rattle.ftl_grammar_faults.specs.Checked.{all_attributes, declared}
+use Rattle.ftl_grammar_faults.specs.Numbering.{numbered, own_count, shared_count}
 pub use Rattle.ftl_dep_table.proofs.AttrKinds.{kind_within, kind_past}
 
 module _ {X : Type 0} (attrs : X → List AttrDecl) (b : Bool) where

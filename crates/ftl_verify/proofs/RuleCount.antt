@@ -7,9 +7,9 @@ use Rattle.ftl_model.specs.AttributeGrammar.{for_self, from_part, plain, plain_p
 use Rattle.ftl_model.specs.Solves.{rule_named}
 use Rattle.ftl_order.specs.Lawful.{IsRule, class_of_rule}
 use Rattle.ftl_order.specs.Ordered.{VisitPlace, visit_place}
-use Rattle.ftl_checked.specs.Checked.{CheckedGrammar, all_rules, rule_told}
-use Rattle.ftl_checked.specs.declared.info.RuleInfo.{RuleInfo}
-use Rattle.ftl_checked.specs.FirstFault.{first_fault}
+use Rattle.ftl_grammar_faults.specs.Checked.{CheckedGrammar, all_rules, rule_told}
+use Rattle.ftl_grammar_faults.specs.declared.info.RuleInfo.{RuleInfo}
+use Rattle.ftl_grammar_faults.specs.FirstFault.{first_fault}
 use Rattle.ftl_deps.specs.DepReads.{dep_read, dep_table, reads_of_parts, rule_reads}
 use Rattle.ftl_deps.specs.Writers.{first_writer}
 use Rattle.ftl_deps.specs.declared.dep_read.DepRead.{DepRead}

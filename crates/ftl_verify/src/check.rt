@@ -4,7 +4,6 @@ ghost use Rattle.std.specs.Prelude.{◌≡◌, IfOk};
 ghost use Rattle.ftl_model.specs.Outcome.{Gives};
 ghost use Rattle.ftl_order.specs.OrderLaws.{LegalOrderExists, OneListSolves, OneTableSolves};
 ghost use Rattle.ftl_order.specs.OrderLaws.{WritersStandBefore};
-ghost use Rattle.ftl_lawful.specs.Faultless.{HasKinds};
 ghost use Rattle.ftl_stages.specs.Stages.{stages_of};
 ghost use Rattle.ftl_dep_table.specs.DepRows.{dep_rows};
 ghost use Rattle.ftl_dep_table.specs.Meant.{meant};
@@ -23,9 +22,7 @@ use ftl_spots::Placed;
 use ftl_stages::Schedule;
 use std::alloc::Global;
 
-/// The schedule as one that is accepted, or its first fault. What is promised of the trees of the
-/// grammar stands where each attribute is declared by a word that may stand there, as in each
-/// grammar that tokens spell.
+/// The schedule as one that is accepted, or its first fault.
 pub fn verify(
     alloc: Global,
     checked: &Checked,
@@ -36,14 +33,10 @@ pub fn verify(
     requires computed { AreComputed (meant checked.now) (stages_of schedule) }
     ensures exact { Gives OutOfMemory (λ a. a) result (verified_as (meant checked.now) schedule) }
     // what an accepted schedule gives
-    ensures one_table { HasKinds checked.now.grammar
-        → IfOk result (λ a. OnEachTree (meant checked.now) (stages_of a) OneTableSolves) }
-    ensures one_list { HasKinds checked.now.grammar
-        → IfOk result (λ a. OnEachTree (meant checked.now) (stages_of a) OneListSolves) }
-    ensures legal_order { HasKinds checked.now.grammar
-        → IfOk result (λ a. OnEachTree (meant checked.now) (stages_of a) LegalOrderExists) }
-    ensures writers_before { HasKinds checked.now.grammar
-        → IfOk result (λ a. OnEachTree (meant checked.now) (stages_of a) WritersStandBefore) }
+    ensures one_table { IfOk result (λ a. OnEachTree (meant checked.now) (stages_of a) OneTableSolves) }
+    ensures one_list { IfOk result (λ a. OnEachTree (meant checked.now) (stages_of a) OneListSolves) }
+    ensures legal_order { IfOk result (λ a. OnEachTree (meant checked.now) (stages_of a) LegalOrderExists) }
+    ensures writers_before { IfOk result (λ a. OnEachTree (meant checked.now) (stages_of a) WritersStandBefore) }
 {
     let _ = checked.grammar();
     let placed = Placed::new(alloc, attribute_count(checked), schedule)?;

@@ -4,7 +4,7 @@ ghost use Rattle.std.specs.Prelude.{◌≡◌};
 ghost use Rattle.ftl_model.specs.AttributeGrammar.{is_input};
 ghost use Rattle.ftl_order.specs.Ordered.{block_of};
 ghost use Rattle.ftl_dep_table.specs.Meant.{meant};
-ghost use Rattle.ftl_meaning.specs.GrammarOf.{attribute_at};
+ghost use Rattle.ftl_meaning.specs.GrammarOf.{declaration_at};
 
 use ftl_checked::Checked;
 use ftl_syntax::AttrKind;
@@ -41,7 +41,7 @@ pub(crate) fn block_of(checked: &Checked, attr: u32) -> u32
 /// The kind of an attribute; past the end that of an input.
 #[tactic(auto, using(crate::proofs::AttributeKinds::kind_within, crate::proofs::AttributeKinds::kind_past))]
 fn kind_of(checked: &Checked, attr: u32) -> AttrKind
-    ensures kind { result ≡ (attribute_at checked.now.grammar attr).kind }
+    ensures kind { result ≡ (declaration_at checked.now.grammar attr).kind }
 {
     if attr < checked.attr_count() {
         checked.attr(attr).kind

@@ -4,7 +4,7 @@ ghost use Rattle.std.specs.Prelude.{◌≡◌, ◌<◌, length, if◌then◌else
 ghost use Rattle.ftl_order.specs.Ordered.{visit_place};
 ghost use Rattle.ftl_order.specs.Schedule.{spot_of};
 ghost use Rattle.ftl_stages.specs.Stages.{stages_of};
-ghost use Rattle.ftl_checked.specs.Checked.{all_rules};
+ghost use Rattle.ftl_grammar_faults.specs.Checked.{all_rules};
 ghost use Rattle.ftl_deps.specs.DepReads.{rule_reads};
 ghost use Rattle.ftl_dep_table.specs.DepRows.{dep_rows};
 ghost use Rattle.ftl_dep_table.specs.Meant.{meant};

@@ -17,8 +17,8 @@ use Rattle.ftl_formula.specs.Formula as form
 use Rattle.ftl_formula.specs.Formula.{Formula, Question, reads_in, reads_of}
 use Rattle.ftl_formula.specs.declared.read_name.ReadName.{ReadName}
 use Rattle.ftl_formula.specs.declared.read_name.ReadName.TheVariants as names
-use Rattle.ftl_checked.specs.Allowed.{Leaf, Position, accumulator, last_leaf, leaf_by, leaf_of, may_read_acc, may_read_last, of_read, prev_form, single_leaf, this_form}
-use Rattle.ftl_checked.specs.Numbering.{child_at, child_attributes, class_attributes, find_attribute, find_child}
+use Rattle.ftl_grammar_faults.specs.Allowed.{Leaf, Position, accumulator, last_leaf, leaf_by, leaf_of, may_read_acc, may_read_last, of_read, prev_form, single_leaf, this_form}
+use Rattle.ftl_grammar_faults.specs.Numbering.{child_at, child_attributes, class_attributes, find_attribute, find_child}
 use Rattle.ftl_meaning.specs.Meaning.{Sight, expression_reads, expression_value, leaf_value, look_up, read_of, value_by, value_seen}
 use Rattle.ftl_code.specs.Code.{code_of, taken_by, taken_in}
 use Rattle.ftl_code.specs.Machine.{Computes}

@@ -10,8 +10,8 @@ use Rattle.ftl_syntax.specs.Trees as trees
 use Rattle.ftl_syntax.specs.declared.rules.Class.{Class}
 use Rattle.ftl_syntax.specs.declared.rules.Grammar.{Grammar}
 use Rattle.ftl_syntax.specs.declared.rules.Rule.{Rule}
-use Rattle.ftl_checked.specs.Checked.{all_rules}
-use Rattle.ftl_checked.specs.Numbering.{class_at, numbered}
+use Rattle.ftl_grammar_faults.specs.Checked.{all_rules}
+use Rattle.ftl_grammar_faults.specs.Numbering.{class_at, numbered}
 use Rattle.ftl_lawful.specs.Kept.{StandsAt}
 use Rattle.ftl_lawful.proofs.Numbers.{Stands, in_numbered}
 use Rattle.ftl_programs.specs.RuleCode.{RuleCode, class_codes, rule_code, rule_codes}

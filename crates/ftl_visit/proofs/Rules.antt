@@ -18,11 +18,11 @@ use Rattle.ftl_syntax.specs.declared.rules.Grammar.{Grammar}
 use Rattle.ftl_syntax.specs.declared.rules.Rule as written
 use Rattle.ftl_formula.specs.Expressions.{formula_of}
 use Rattle.ftl_formula.specs.Formula.{reads_of}
-use Rattle.ftl_checked.specs.Allowed.{Position, for_kids, for_later, for_self, for_single, in_step, leaf_of}
-use Rattle.ftl_checked.specs.Checked.{CheckedGrammar, all_rules, info_by, rule_info, rule_told}
-use Rattle.ftl_checked.specs.FirstFault.{first_fault}
-use Rattle.ftl_checked.specs.Numbering.{child_at, class_at, find_child}
-use Rattle.ftl_checked.specs.RuleForms.{Form, Slot, expressions_of, first_form, fold_form, fold_over_list, form_of, kid_slot, one_form, own_slot, parts_of, slot_of}
+use Rattle.ftl_grammar_faults.specs.Allowed.{Position, for_kids, for_later, for_self, for_single, in_step, leaf_of}
+use Rattle.ftl_grammar_faults.specs.Checked.{CheckedGrammar, all_rules, info_by, rule_info, rule_told}
+use Rattle.ftl_grammar_faults.specs.FirstFault.{first_fault}
+use Rattle.ftl_grammar_faults.specs.Numbering.{child_at, class_at, find_child}
+use Rattle.ftl_grammar_faults.specs.RuleForms.{Form, Slot, expressions_of, first_form, fold_form, fold_over_list, form_of, kid_slot, one_form, own_slot, parts_of, slot_of}
 use Rattle.ftl_meaning.specs.GrammarOf.{name_of_rule}
 use Rattle.ftl_meaning.specs.Meaning.{Sight, form_parts, form_value, rule_of_form, sight}
 use Rattle.ftl_code.specs.Machine.{Computes}

@@ -5,7 +5,7 @@ ghost use Rattle.std.specs.Option.{is_some};
 ghost use Rattle.ftl_base.specs.Widths.{greatest_of_width};
 ghost use Rattle.ftl_model.specs.AttributeGrammar.{Occurrence, reads_in};
 ghost use Rattle.ftl_model.specs.Values.{Value};
-ghost use Rattle.ftl_checked.specs.Checked.{CheckedGrammar};
+ghost use Rattle.ftl_grammar_faults.specs.Checked.{CheckedGrammar};
 ghost use Rattle.ftl_code.specs.Machine.{Computes};
 ghost use Rattle.ftl_code.specs.declared.instruction.Instruction.{Instruction};
 ghost use Rattle.ftl_meaning.specs.Meaning.{Sight};

@@ -2,7 +2,7 @@
 ghost use Rattle.std.specs.Prelude.{◌≡◌, ◌<◌, ◌++◌, Some, None, flat_map, length, OnOk, Option};
 ghost use Rattle.std.specs.Option.{option_map, option_to_list};
 ghost use Rattle.ftl_dep_table.specs.Meant.{meant};
-ghost use Rattle.ftl_meaning.specs.GrammarOf.{attribute_at, sort_of};
+ghost use Rattle.ftl_meaning.specs.GrammarOf.{declaration_at, sort_of};
 ghost use Rattle.ftl_visit_list.specs.Visits.{inherited_rule, inherited_rules, local_rule, locals};
 ghost use Rattle.ftl_visit_list.specs.Visits.{children, child_block, child_blocks, rule_in};
 ghost use Rattle.ftl_visit_list.specs.Visits.{rules_by_key, rules_for, synthesized_rule};
@@ -205,7 +205,7 @@ fn add_rule(rule: Option<u32>, ops: &mut VisitOps) -> Result<(), AllocError>
 /// The kind of an attribute; past the end that of an input.
 #[tactic(auto, using(ftl_dep_table::proofs::AttrKinds::kind_within, ftl_dep_table::proofs::AttrKinds::kind_past))]
 fn kind_of(checked: &Checked, attr: u32) -> AttrKind
-    ensures kind { result ≡ (attribute_at checked.now.grammar attr).kind }
+    ensures kind { result ≡ (declaration_at checked.now.grammar attr).kind }
 {
     if attr < checked.attr_count() {
         checked.attr(attr).kind

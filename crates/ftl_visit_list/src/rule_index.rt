@@ -1,7 +1,7 @@
 //! The numbers of rules, by what they define.
 ghost use Rattle.std.specs.Prelude.{◌≡◌, ◌<◌, ◌+◌, None, Some, IfOk, OnOk, length, take};
-ghost use Rattle.ftl_checked.specs.Checked.{all_rules};
-ghost use Rattle.ftl_checked.specs.FirstFault.{first_fault};
+ghost use Rattle.ftl_grammar_faults.specs.Checked.{all_rules};
+ghost use Rattle.ftl_grammar_faults.specs.FirstFault.{first_fault};
 ghost use Rattle.ftl_dep_table.specs.Meant.{meant};
 ghost use Rattle.ftl_dep_table.specs.Products.{or_this, told_name};
 ghost use Rattle.ftl_visit_list.specs.Targets.{FindsFirst, at_target, same_target, target_of};
@@ -23,7 +23,7 @@ pub struct RuleIndex<'a> {
 impl<'a> Model for RuleIndex<'a> {
     ghost use Rattle.std.specs.Coded.{codes};
     ghost use Rattle.ftl_syntax.specs.contracts.expression.Expr as e;
-    ghost use Rattle.ftl_checked.specs.Checked.{CheckedGrammar};
+    ghost use Rattle.ftl_grammar_faults.specs.Checked.{CheckedGrammar};
     ghost use Rattle.ftl_dep_table.specs.Meant.{meant};
     ghost use Rattle.ftl_visit_list.specs.Targets.{FindsFirst};
 

@@ -1,7 +1,7 @@
 use Rattle.std.proofs.Common.{◌≡◌, ◌++◌, drop, flat_map}
-use Rattle.ftl_checked.specs.FirstFault.{class_fault, first_of}
+use Rattle.ftl_grammar_faults.specs.FirstFault.{class_fault, first_of}
 use Rattle.ftl_checked.specs.Needs.{infos_of}
-use Rattle.ftl_checked.specs.Numbering.{numbered}
+use Rattle.ftl_grammar_faults.specs.Numbering.{numbered}
 use Rattle.ftl_checked.proofs.class_checks.all_classes.Given as goal
 
 abbrev pub invariant-loop-number : goal.invariant-loop-number

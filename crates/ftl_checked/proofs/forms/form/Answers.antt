@@ -1,5 +1,5 @@
 use Rattle.std.proofs.Common.{ap}
-use Rattle.ftl_checked.specs.declared.info.ChildInfo.{ChildInfo}
+use Rattle.ftl_grammar_faults.specs.declared.info.ChildInfo.{ChildInfo}
 use Rattle.ftl_checked.proofs.forms.form.Goals as goal
 
 pub returns-in-Own-clause-form : goal.returns-in-Own-clause-form

@@ -1,7 +1,7 @@
 use Rattle.std.proofs.Common.{◌≡◌, drop}
-use Rattle.ftl_checked.specs.FirstFault.{first_of}
+use Rattle.ftl_grammar_faults.specs.FirstFault.{first_of}
 use Rattle.ftl_checked.specs.Needs.{kid_need}
-use Rattle.ftl_checked.specs.Numbering.{children_of, numbered, class_at}
+use Rattle.ftl_grammar_faults.specs.Numbering.{children_of, numbered, class_at}
 use Rattle.ftl_checked.proofs.needs.kids_needs.Given as goal
 
 abbrev pub invariant-loop-place : goal.invariant-loop-place

@@ -1,6 +1,6 @@
 use Rattle.std.proofs.Common.{Option, sym, subst}
-use Rattle.ftl_checked.specs.Finds.{Finds}
-use Rattle.ftl_checked.specs.declared.fault.GrammarFault.{GrammarFault}
+use Rattle.ftl_grammar_faults.specs.Finds.{Finds}
+use Rattle.ftl_grammar_faults.specs.declared.fault.GrammarFault.{GrammarFault}
 use Rattle.ftl_checked.proofs.NeedLists.{missing_parts}
 use Rattle.ftl_checked.proofs.needs.missing.Goals as goal
 

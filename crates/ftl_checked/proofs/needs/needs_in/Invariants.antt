@@ -1,8 +1,8 @@
 use Rattle.std.proofs.Common.{◌≡◌, ◌+◌, drop}
 use Rattle.std.specs.Option.{option_map}
-use Rattle.ftl_checked.specs.FirstFault.{first_of}
+use Rattle.ftl_grammar_faults.specs.FirstFault.{first_of}
 use Rattle.ftl_checked.specs.Needs.{kid_in, need_of}
-use Rattle.ftl_checked.specs.Numbering.{numbered}
+use Rattle.ftl_grammar_faults.specs.Numbering.{numbered}
 use Rattle.ftl_checked.proofs.needs.needs_in.Given as goal
 
 abbrev pub invariant-loop-place : goal.invariant-loop-place

@@ -1,8 +1,8 @@
 use Rattle.std.proofs.Common.{◌≡◌, ◌++◌, List, drop, map, flat_map}
 use Rattle.std.specs.Option.{option_to_list}
 use Rattle.ftl_formula.specs.declared.read_name.ReadName.{ReadName}
-use Rattle.ftl_checked.specs.Allowed.{Leaf, leaf_of}
-use Rattle.ftl_checked.specs.Found.{position_of}
+use Rattle.ftl_grammar_faults.specs.Allowed.{Leaf, leaf_of}
+use Rattle.ftl_checked.specs.Positions.{position_of}
 use Rattle.ftl_checked.specs.ReadNumbers.{leaf_in}
 use Rattle.ftl_checked.proofs.numbered_read.part_numbers.Given as goal
 

@@ -1,8 +1,8 @@
 use Rattle.std.proofs.Common.{arith, ◌≡◌, ◌+◌, ◌∷◌, Some, drop}
 use Rattle.std.proofs.lemmas.Grind.{common_steps}
-use Rattle.ftl_checked.specs.RuleForms.{slot_of}
+use Rattle.ftl_grammar_faults.specs.RuleForms.{slot_of}
 use Rattle.ftl_checked.specs.Slots.{slot_in}
-use Rattle.ftl_checked.proofs.Counting.{left_by}
+use Rattle.ftl_grammar_faults.proofs.Counting.{left_by}
 use Rattle.ftl_checked.proofs.RuleLists.{rule_passes, slot_more, info_more}
 use Rattle.ftl_checked.proofs.rules.class_rules.Goals as goal
 

@@ -1,8 +1,8 @@
 use Rattle.std.proofs.Common.{◌≡◌, ◌++◌, [], drop, map}
 use Rattle.ftl_syntax.specs.declared.rules.Rule.{Rule}
-use Rattle.ftl_checked.specs.Checked.{info_by}
-use Rattle.ftl_checked.specs.FirstFault.{first_there, rule_faults}
-use Rattle.ftl_checked.specs.RuleForms.{slot_of}
+use Rattle.ftl_grammar_faults.specs.Checked.{info_by}
+use Rattle.ftl_grammar_faults.specs.FirstFault.{first_there, rule_faults}
+use Rattle.ftl_grammar_faults.specs.RuleForms.{slot_of}
 use Rattle.ftl_checked.specs.Slots.{slots_of}
 use Rattle.ftl_checked.proofs.rules.class_rules.Given as goal
 

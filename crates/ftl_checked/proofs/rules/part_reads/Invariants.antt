@@ -1,12 +1,12 @@
 use Rattle.std.proofs.Common.{◌≡◌, drop, Option}
 use Rattle.std.specs.Option.{is_none}
 use Rattle.ftl_formula.specs.declared.read_name.ReadName.{ReadName}
-use Rattle.ftl_checked.specs.Allowed.{leaf_of}
-use Rattle.ftl_checked.specs.Found.{position_of}
-use Rattle.ftl_checked.specs.FirstFault.{fault_if, first_of, rule_name}
-use Rattle.ftl_checked.specs.Numbering.{class_at}
-use Rattle.ftl_checked.specs.declared.fault.GrammarFault.{GrammarFault}
-use Rattle.ftl_checked.specs.declared.fault.GrammarFault.TheVariants as fault
+use Rattle.ftl_grammar_faults.specs.Allowed.{leaf_of}
+use Rattle.ftl_checked.specs.Positions.{position_of}
+use Rattle.ftl_grammar_faults.specs.FirstFault.{fault_if, first_of, rule_name}
+use Rattle.ftl_grammar_faults.specs.Numbering.{class_at}
+use Rattle.ftl_grammar_faults.specs.declared.fault.GrammarFault.{GrammarFault}
+use Rattle.ftl_grammar_faults.specs.declared.fault.GrammarFault.TheVariants as fault
 use Rattle.ftl_checked.proofs.rules.part_reads.Given as goal
 
 abbrev pub invariant-loop-read : goal.invariant-loop-read

@@ -1,5 +1,5 @@
 use Rattle.std.proofs.Common.{◌≡◌, ◌++◌, drop}
-use Rattle.ftl_checked.specs.Numbering.{numbered}
+use Rattle.ftl_grammar_faults.specs.Numbering.{numbered}
 use Rattle.ftl_dep_table.proofs.DepRows.{rows_from}
 use Rattle.ftl_dep_table.proofs.dep_rows.all_rows.Given as goal
 

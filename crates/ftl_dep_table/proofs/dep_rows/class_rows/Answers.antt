@@ -1,10 +1,10 @@
 use Rattle.std.proofs.Common.{arith, ◌≡◌, ◌<◌, ◌+◌, ◌∷◌, Some, ap, sym, ◌∙◌, length, get_or, drop, List, subst}
 use Rattle.std.proofs.lemmas.Grind.{common_steps}
 use Rattle.std.proofs.lemmas.Option.{slice_get-get_or}
-use Rattle.ftl_checked.proofs.Counting.{left_by}
+use Rattle.ftl_grammar_faults.proofs.Counting.{left_by}
 use Rattle.std.specs.List.{slice_get}
 use Rattle.ftl_syntax.specs.declared.rules.Rule.{Rule}
-use Rattle.ftl_checked.specs.Numbering.{class_at}
+use Rattle.ftl_grammar_faults.specs.Numbering.{class_at}
 use Rattle.ftl_lawful.specs.Kept.{StandsAt}
 use Rattle.ftl_dep_table.proofs.DepRows.{row_more}
 use Rattle.ftl_dep_table.proofs.dep_rows.class_rows.Goals as goal

@@ -1,6 +1,6 @@
 use Rattle.std.proofs.Common.{arith, ◌≡◌, ◌<◌, length, take, ap, ◌∙◌}
 use Rattle.std.proofs.lemmas.Grind.{common_steps}
-use Rattle.ftl_checked.specs.Checked.{all_rules}
+use Rattle.ftl_grammar_faults.specs.Checked.{all_rules}
 use Rattle.ftl_dep_table.specs.DepRows.{writer_table}
 use Rattle.ftl_dep_table.specs.Meant.{meant}
 use Rattle.ftl_dep_table.proofs.WriterRows.{writers_all, writers_more}

@@ -1,7 +1,7 @@
 use Rattle.std.proofs.Common.{◌≡◌, ◌<◌, IfOk, List, [], length, map, get_or, ap, ap₂, sym, subst, ◌∙◌}
 use Rattle.std.specs.List.{All}
-use Rattle.ftl_checked.specs.Checked.{all_rules}
-use Rattle.ftl_checked.specs.declared.info.RuleInfo.{RuleInfo}
+use Rattle.ftl_grammar_faults.specs.Checked.{all_rules}
+use Rattle.ftl_grammar_faults.specs.declared.info.RuleInfo.{RuleInfo}
 use Rattle.ftl_deps.specs.DepReads.{dep_table}
 use Rattle.ftl_deps.specs.Writers.{first_writer}
 use Rattle.ftl_deps.specs.declared.dep_read.DepRead.{DepRead}

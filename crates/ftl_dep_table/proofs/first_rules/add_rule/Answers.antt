@@ -2,9 +2,9 @@ use Rattle.std.proofs.Common.{arith, ◌≡◌, ◌<◌, length, take, ap, sym, 
 use Rattle.std.specs.Prelude.{IfSome}
 use Rattle.std.specs.List.{position}
 use Rattle.std.proofs.lemmas.List.{length-take-le}
-use Rattle.ftl_checked.specs.Checked.{rule_told}
-use Rattle.ftl_checked.specs.Numbering.{class_at}
-use Rattle.ftl_checked.specs.declared.info.RuleInfo.{RuleInfo}
+use Rattle.ftl_grammar_faults.specs.Checked.{rule_told}
+use Rattle.ftl_grammar_faults.specs.Numbering.{class_at}
+use Rattle.ftl_grammar_faults.specs.declared.info.RuleInfo.{RuleInfo}
 use Rattle.ftl_dep_table.specs.Meant.{meant}
 use Rattle.ftl_dep_table.specs.Products.{at_product, or_this, same_product, told_name, writes, written_elsewhere, written_here}
 use Rattle.ftl_dep_table.specs.declared.product.Product.{Product}

@@ -1,7 +1,7 @@
 use Rattle.std.proofs.Common.{arith, ◌≡◌, length, take, ap, ◌∙◌}
 use Rattle.std.specs.List.{position}
 use Rattle.std.proofs.lemmas.Grind.{common_steps}
-use Rattle.ftl_checked.specs.Checked.{all_rules}
+use Rattle.ftl_grammar_faults.specs.Checked.{all_rules}
 use Rattle.ftl_dep_table.specs.Meant.{meant}
 use Rattle.ftl_dep_table.specs.Products.{writes}
 use Rattle.ftl_dep_table.proofs.RuleNumbers.{rules_all}

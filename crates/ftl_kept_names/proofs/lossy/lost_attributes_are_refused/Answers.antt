@@ -1,5 +1,5 @@
 use Rattle.std.proofs.Common.{◌≡◌, refl, ap, arith, get_or}
-use Rattle.ftl_checked.specs.Numbering.{class_at, interface_at}
+use Rattle.ftl_grammar_faults.specs.Numbering.{class_at, interface_at}
 use Rattle.ftl_meaning.specs.Worked.{two}
 use Rattle.ftl_kept_names.proofs.lossy.lost_attributes_are_refused.Goals as goal
 

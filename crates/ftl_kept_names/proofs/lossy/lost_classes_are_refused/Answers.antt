@@ -1,6 +1,6 @@
 use Rattle.std.proofs.Common.{◌≡◌, refl, ap, arith, get_or}
 use Rattle.std.proofs.lemmas.Bool.{true≢false}
-use Rattle.ftl_checked.specs.Numbering.{child_at, class_at, interface_at}
+use Rattle.ftl_grammar_faults.specs.Numbering.{child_at, class_at, interface_at}
 use Rattle.ftl_meaning.specs.Worked.{two}
 use Rattle.ftl_kept_names.proofs.lossy.lost_classes_are_refused.Goals as goal
 

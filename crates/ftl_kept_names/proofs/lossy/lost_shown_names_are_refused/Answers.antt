@@ -5,7 +5,7 @@ use Rattle.ftl_model.specs.Values.{narrow}
 use Rattle.ftl_syntax.specs.Trees as trees
 use Rattle.ftl_syntax.specs.declared.rules.AttrKind.TheVariants as kinds
 use Rattle.ftl_syntax.specs.declared.rules.Interface.{Interface}
-use Rattle.ftl_checked.specs.Numbering.{class_at, interface_at}
+use Rattle.ftl_grammar_faults.specs.Numbering.{class_at, interface_at}
 use Rattle.ftl_meaning.specs.GrammarOf.{grammar_of}
 use Rattle.ftl_meaning.specs.Worked.{shown_backwards}
 use Rattle.ftl_kept_names.specs.Shown.{IsClassUnder}

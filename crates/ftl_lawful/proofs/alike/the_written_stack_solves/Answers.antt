@@ -2,7 +2,7 @@ use Rattle.ftl_base.specs.Widths.{greatest_of_width}
 use Rattle.ftl_base.specs.declared.width.Width.{Width}
 use Rattle.ftl_model.specs.AttributeGrammar.{AttributeGrammar}
 use Rattle.ftl_model.specs.Stack.{stack_in}
-use Rattle.ftl_checked.specs.Worked as written
+use Rattle.ftl_grammar_faults.specs.Worked as written
 use Rattle.ftl_meaning.specs.GrammarOf.{grammar_of}
 use Rattle.ftl_meaning.proofs.StackMeaning.{stack_alike}
 use Rattle.ftl_lawful.proofs.AlikeTrees.{same_solutions, same_trees}

@@ -10,12 +10,12 @@ use Rattle.ftl_order.proofs.Scheduled.{one_list_under, one_table_under}
 use Rattle.ftl_order.proofs.TableRange.{value_in_range}
 use Rattle.ftl_order.proofs.TreeEquations.{reads_end_by}
 use Rattle.ftl_syntax.specs.declared.rules.Grammar.{Grammar}
-use Rattle.ftl_checked.specs.FirstFault.{first_fault}
+use Rattle.ftl_grammar_faults.specs.FirstFault.{first_fault}
 use Rattle.ftl_meaning.specs.GrammarOf.{grammar_of}
 use Rattle.ftl_lawful.specs.Faultless.{IsFaultless, IsSpelled}
 use Rattle.ftl_lawful.specs.LawfulOf.{StaysInRange}
 use Rattle.ftl_lawful.proofs.Lawfulness.{faultless_lawful}
-use Rattle.ftl_lawful.proofs.SpelledKinds.{spelled_kinds}
+use Rattle.ftl_grammar_faults.proofs.SpelledKinds.{spelled_kinds}
 use Rattle.ftl_lawful.proofs.lawful.faultless_grammars_are_lawful.Goals as goal
 
 -- under an ordered schedule chains of reads end, so values stay in the range

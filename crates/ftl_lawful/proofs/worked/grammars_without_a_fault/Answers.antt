@@ -1,10 +1,10 @@
 use Rattle.std.proofs.Common.{refl}
-use Rattle.ftl_checked.specs.Worked as written
-use Rattle.ftl_checked.proofs.WorkedFormulas.{of-adding, of-adding_three, of-last_or, of-num, of-reading, of-so_far}
+use Rattle.ftl_grammar_faults.specs.Worked as written
+use Rattle.ftl_grammar_faults.proofs.WorkedFormulas.{of-adding, of-adding_three, of-last_or, of-num, of-reading, of-so_far}
 use Rattle.ftl_formula.proofs.Equations.{minus_at, of-Compare, of-Group, of-If, of-Number, of-Sum, of-cond, of-conj, of-sum, of-term, of-unary, over_at, plus_at}
 use Rattle.ftl_meaning.specs.Worked.{branches, two}
 use Rattle.ftl_lawful.proofs.WorkedGrammars.{stack_faultless}
-use Rattle.ftl_lawful.proofs.WorkedKinds.{kinds_by}
+use Rattle.ftl_grammar_faults.proofs.WorkedKinds.{kinds_by}
 use Rattle.ftl_lawful.proofs.worked.grammars_without_a_fault.Goals as goal
 
 pub returns-clause-stack : goal.returns-clause-stack

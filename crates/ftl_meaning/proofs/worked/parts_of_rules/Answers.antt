@@ -1,5 +1,5 @@
 use Rattle.std.proofs.Common.{refl}
-use Rattle.ftl_checked.proofs.WorkedFormulas.{of-num, of-reading, of-adding, of-so_far, of-last_or, of-adding_three}
+use Rattle.ftl_grammar_faults.proofs.WorkedFormulas.{of-num, of-reading, of-adding, of-so_far, of-last_or, of-adding_three}
 use Rattle.ftl_meaning.proofs.worked.parts_of_rules.Goals as goal
 
 pub returns-clause-fold : goal.returns-clause-fold

@@ -1,6 +1,6 @@
 use Rattle.std.proofs.Common.{refl}
 use Rattle.ftl_formula.proofs.Equations.{of-If, of-cond, of-conj, of-Compare, of-Sum, of-sum, of-term, of-unary, of-Number, of-Group, over_at, minus_at, plus_at}
-use Rattle.ftl_checked.proofs.WorkedFormulas.{of-num, of-reading, of-adding}
+use Rattle.ftl_grammar_faults.proofs.WorkedFormulas.{of-num, of-reading, of-adding}
 use Rattle.ftl_meaning.proofs.worked.tables_that_solve.Goals as goal
 
 pub returns-clause-branches : goal.returns-clause-branches

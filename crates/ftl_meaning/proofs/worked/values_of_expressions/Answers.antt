@@ -1,6 +1,6 @@
 use Rattle.std.proofs.Common.{refl}
 use Rattle.ftl_formula.proofs.Equations.{of-If, of-cond, of-conj, of-Compare, of-bracketed, of-Sum, of-sum, of-term, of-unary, of-Number, of-Read, of-Group, of-Least, of-Greatest, times_at, over_at, minus_at, plus_at}
-use Rattle.ftl_checked.proofs.WorkedFormulas.{of-num}
+use Rattle.ftl_grammar_faults.proofs.WorkedFormulas.{of-num}
 use Rattle.ftl_meaning.proofs.worked.values_of_expressions.Goals as goal
 
 pub returns-clause-not_taken : goal.returns-clause-not_taken

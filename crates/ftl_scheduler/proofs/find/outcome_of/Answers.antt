@@ -13,6 +13,6 @@ find_outcome-requires c = record {
 pub returns : goal.returns
 returns c = record {
   outcome = c.find_outcome.ensures.outcome (meant c.args.checked.now)
-      (lawful c.args.checked.now c.grammar.ensures.lawful c.requires.kinds) c.in_ok-tables.ensures.tables
+      (lawful c.args.checked.now c.grammar.ensures.lawful c.grammar.ensures.kinds) c.in_ok-tables.ensures.tables
       c.in_ok-tables.ensures.computed;
 }

@@ -31,14 +31,14 @@ enter-requires-clause-writer c =
     subst (λ m. c.standing-x.result.attr < m) (sym c.attribute_count.ensures.count)
     (subst (λ m. m < (meant c.args.checked.now).attribute_count)
     (sym (ap (λ (p : VisitPlace). p.attribute) c.standing-x.ensures.place))
-    (rule_computed c.args.checked.now c.grammar.ensures.lawful c.requires.kinds c.in-Some.writer known).0)
+    (rule_computed c.args.checked.now c.grammar.ensures.lawful c.grammar.ensures.kinds c.in-Some.writer known).0)
 
 pub enter-requires-clause-reader : goal.enter-requires-clause-reader
 enter-requires-clause-reader c =
     subst (λ m. c.standing-y.result.attr < m) (sym c.attribute_count.ensures.count)
     (subst (λ m. m < (meant c.args.checked.now).attribute_count)
     (sym (ap (λ (p : VisitPlace). p.attribute) c.standing-y.ensures.place))
-    (rule_computed c.args.checked.now c.grammar.ensures.lawful c.requires.kinds c.args.rule c.requires.within).0)
+    (rule_computed c.args.checked.now c.grammar.ensures.lawful c.grammar.ensures.kinds c.args.rule c.requires.within).0)
 
 pub returns-in-Some : goal.returns-in-Some
 returns-in-Some c = record {

@@ -17,7 +17,7 @@ pub returns-clause-usable : goal.returns-clause-usable
 returns-clause-usable c =
     let checked = c.args.checked.now in
     let none = c.grammar.ensures.lawful in
-    let kinds = c.requires.kinds in
+    let kinds = c.grammar.ensures.kinds in
     let all = c.computed_row.result in
     let has = c.computed_row.ensures.computed in
     let down = c.in_ok-needs_of_kind.ensures.entered in

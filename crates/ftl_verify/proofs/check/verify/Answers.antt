@@ -14,9 +14,10 @@ new-requires c = record {
 }
 
 pub returns-in-None-clause-one_table : goal.returns-in-None-clause-one_table
-returns-in-None-clause-one_table c kinds =
+returns-in-None-clause-one_table c =
     let checked = c.args.checked.now in
     let none = c.grammar.ensures.lawful in
+    let kinds = c.grammar.ensures.kinds in
     let ordered : IsOrdered (meant checked) (stages_of c.new-in-None.result) =
     subst (λ (x : Schedule). IsOrdered (meant checked) (stages_of x)) (sym c.new-in-None.ensures.schedule)
     (is_ordered (meant checked) c.args.schedule c.in_ok-placed.placed c.in_ok-placed.ensures.exact
@@ -24,9 +25,10 @@ returns-in-None-clause-one_table c kinds =
     accepted_one_table checked none kinds (stages_of c.new-in-None.result) ordered
 
 pub returns-in-None-clause-one_list : goal.returns-in-None-clause-one_list
-returns-in-None-clause-one_list c kinds =
+returns-in-None-clause-one_list c =
     let checked = c.args.checked.now in
     let none = c.grammar.ensures.lawful in
+    let kinds = c.grammar.ensures.kinds in
     let ordered : IsOrdered (meant checked) (stages_of c.new-in-None.result) =
     subst (λ (x : Schedule). IsOrdered (meant checked) (stages_of x)) (sym c.new-in-None.ensures.schedule)
     (is_ordered (meant checked) c.args.schedule c.in_ok-placed.placed c.in_ok-placed.ensures.exact
@@ -34,9 +36,10 @@ returns-in-None-clause-one_list c kinds =
     accepted_one_list checked none kinds (stages_of c.new-in-None.result) ordered
 
 pub returns-in-None-clause-legal_order : goal.returns-in-None-clause-legal_order
-returns-in-None-clause-legal_order c kinds =
+returns-in-None-clause-legal_order c =
     let checked = c.args.checked.now in
     let none = c.grammar.ensures.lawful in
+    let kinds = c.grammar.ensures.kinds in
     let ordered : IsOrdered (meant checked) (stages_of c.new-in-None.result) =
     subst (λ (x : Schedule). IsOrdered (meant checked) (stages_of x)) (sym c.new-in-None.ensures.schedule)
     (is_ordered (meant checked) c.args.schedule c.in_ok-placed.placed c.in_ok-placed.ensures.exact
@@ -44,9 +47,10 @@ returns-in-None-clause-legal_order c kinds =
     accepted_legal_order checked none kinds (stages_of c.new-in-None.result) ordered
 
 pub returns-in-None-clause-writers_before : goal.returns-in-None-clause-writers_before
-returns-in-None-clause-writers_before c kinds =
+returns-in-None-clause-writers_before c =
     let checked = c.args.checked.now in
     let none = c.grammar.ensures.lawful in
+    let kinds = c.grammar.ensures.kinds in
     let ordered : IsOrdered (meant checked) (stages_of c.new-in-None.result) =
     subst (λ (x : Schedule). IsOrdered (meant checked) (stages_of x)) (sym c.new-in-None.ensures.schedule)
     (is_ordered (meant checked) c.args.schedule c.in_ok-placed.placed c.in_ok-placed.ensures.exact

@@ -1,7 +1,7 @@
 use Rattle.std.proofs.Common.{arith, ◌≡◌, take, ap, sym, ◌∙◌}
 use Rattle.std.specs.List.{position}
 use Rattle.std.proofs.lemmas.List.{length-take-le}
-use Rattle.ftl_checked.specs.Checked.{rule_told}
+use Rattle.ftl_grammar_faults.specs.Checked.{rule_told}
 use Rattle.ftl_dep_table.specs.Meant.{meant}
 use Rattle.ftl_dep_table.specs.Products.{or_this, told_name}
 use Rattle.ftl_dep_table.proofs.RuleNumbers.{rules_long, rules_more}

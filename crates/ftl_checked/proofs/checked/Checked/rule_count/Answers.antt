@@ -1,8 +1,8 @@
 use Rattle.std.proofs.Common.{arith, length, ap, ◌∙◌}
 use Rattle.std.proofs.lemmas.Grind.{common_steps}
 use Rattle.std.proofs.lemmas.List.{length-map}
-use Rattle.ftl_checked.specs.Checked.{all_rules, rule_info}
-use Rattle.ftl_checked.proofs.AttrInfos.{rule_count_is}
+use Rattle.ftl_grammar_faults.specs.Checked.{all_rules, rule_info}
+use Rattle.ftl_grammar_tables.proofs.AttrInfos.{rule_count_is}
 use Rattle.ftl_checked.proofs.checked.Checked.rule_count.Goals as goal
 
 pub overflow_cast-result : goal.overflow_cast-result

@@ -1,6 +1,6 @@
 use Rattle.std.proofs.Common.{refl, ◌∙◌, ◌++◌, ◌∷◌, [], ap, map}
 use Rattle.std.specs.List.{list_any}
-use Rattle.ftl_checked.specs.FirstFault.{same_slot}
+use Rattle.ftl_grammar_faults.specs.FirstFault.{same_slot}
 use Rattle.ftl_checked.specs.Slots.{slot_in}
 use Rattle.ftl_checked.specs.contracts.slots.RuleSlotPartialEq.TheImpl as block
 use Rattle.ftl_checked.proofs.SlotSets.{slot_added}

@@ -1,0 +1,2 @@
+pub mod NameFaults
+pub use Rattle.ftl_syntax.specs.Trees

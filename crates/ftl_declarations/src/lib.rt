@@ -1,0 +1,9 @@
+//! The conditions on what a grammar declares: how much there is of anything, and names. Goes in: a
+//! grammar as it is written, with its tables. Comes out: the first fault among these conditions.
+#![tactic(auto)]
+
+mod limits;
+mod names;
+
+pub use limits::limits_hold;
+pub use names::names_stand;

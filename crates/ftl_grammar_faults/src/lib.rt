@@ -1,0 +1,21 @@
+//! The first fault of a grammar. Goes in: a grammar as it is written, of `ftl_syntax`. Comes out:
+//! `specs/Numbering.antt`, the numbers that names stand for; `specs/Allowed.antt`, what a read by
+//! name is; `specs/RuleForms.antt`, what a rule defines; `specs/FirstFault.antt`, the first fault;
+//! `specs/Checked.antt`, what the numbers of a lawful grammar stand for. There is no code here but
+//! the types of faults and of what is told, and laws.
+#![tactic(auto)]
+
+mod fault;
+mod info;
+mod kinds;
+mod rule_name;
+mod worked;
+
+pub use fault::{GrammarFault, What};
+pub use info::{AttrInfo, ChildInfo, Field, RuleInfo};
+pub use kinds::words_of_attributes;
+pub use rule_name::RuleName;
+pub use worked::{
+    bad_reads, faults_of_names, faults_of_one_child, faults_of_one_class, faults_of_targets,
+    grammars_without_a_fault, numbers_of_attributes, reads_by_name,
+};

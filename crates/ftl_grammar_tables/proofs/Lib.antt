@@ -1,0 +1,5 @@
+pub mod Places
+pub mod Finding
+pub mod Seconds
+pub mod AttrInfos
+pub mod Standing

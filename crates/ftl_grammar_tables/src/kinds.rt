@@ -1,0 +1,14 @@
+//! Kinds of attributes.
+ghost use Rattle.std.specs.Prelude.{◌≡◌};
+ghost use Rattle.ftl_grammar_faults.specs.RuleForms.{is_inherited};
+
+use ftl_syntax::AttrKind;
+
+pub fn inherits(kind: AttrKind) -> bool
+    ensures inherited { result ≡ is_inherited kind }
+{
+    match kind {
+        AttrKind::Inh => true,
+        AttrKind::Syn | AttrKind::Input | AttrKind::Local => false,
+    }
+}
