@@ -10,3 +10,4 @@ pub mod Raised
 pub mod Ends
 pub mod KidPlaces
 pub mod KidRows
+pub mod RowWidths

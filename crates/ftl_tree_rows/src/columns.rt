@@ -1,7 +1,7 @@
 //! Columns: numbers, one for each node.
 ghost use Rattle.std.specs.Prelude.{◌≡◌, ◌<◌, ◌≤◌, max, length, map, sum, replicate, slice_index_or, slice_set, IfOk};
 ghost use Rattle.std.specs.List.{All};
-ghost use Rattle.ftl_tree_rows.specs.Rows.{sums_from};
+ghost use Rattle.ftl_tree_rows.specs.Rows.{starts_by, sums_from};
 
 use crate::row::NodeRow;
 use std::alloc::{AllocError, Global};
@@ -53,4 +53,17 @@ pub(crate) fn raise(numbers: &mut [u32], place: usize, least: u32)
 {
     let number = numbers[place];
     numbers[place] = number.max(least);
+}
+
+/// Where each node begins in a list in which it has as many entries as the table says of its class,
+/// and where the last one ends.
+pub fn class_starts(alloc: Global, rows: &[NodeRow], table: &[u32]) -> Result<Vec<u32>, AllocError>
+    requires known { All (λ row. row.class < length table.now) rows.now }
+    requires bound { sum (map (λ row. slice_index_or table.now row.class 0) rows.now)
+        ≤ 4294967295 }
+    ensures starts { IfOk result (λ v. v.items
+        ≡ starts_by (λ k. slice_index_or table.now k 0) rows.now) }
+{
+    let widths = row_widths(alloc, rows, table)?;
+    sums(alloc, &widths)
 }

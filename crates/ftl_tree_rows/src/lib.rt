@@ -11,7 +11,7 @@ mod row;
 mod sizes;
 
 pub use class_row::ClassRow;
-pub use columns::{row_widths, sums};
+pub use columns::{class_starts, row_widths, sums};
 pub use kid_runs::{kid_counts, kids_in_runs};
 pub use row::{NodeRow, Place};
 pub use sizes::subtree_sizes;
