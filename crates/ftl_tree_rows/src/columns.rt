@@ -1,5 +1,6 @@
 //! Columns: numbers, one for each node.
-ghost use Rattle.std.specs.Prelude.{◌≡◌, ◌<◌, ◌≤◌, max, length, map, sum, replicate, slice_index_or, slice_set, IfOk};
+ghost use Rattle.std.specs.Prelude.{◌≡◌, ◌<◌, ◌≤◌, max, length, map, sum, replicate, IfOk};
+ghost use Rattle.std.specs.Prelude.{slice_index_or, slice_set};
 ghost use Rattle.std.specs.List.{All};
 ghost use Rattle.ftl_tree_rows.specs.Rows.{starts_by, sums_from};
 
