@@ -1,4 +1,5 @@
 pub mod CheckedTree
 pub mod FlatTree
+pub mod OwnerRuns
 pub use Rattle.ftl_tree_rows.specs.Rows
 pub use Rattle.ftl_tree_rows.specs.KidRuns

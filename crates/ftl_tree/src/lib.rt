@@ -3,9 +3,13 @@
 //! calls tell what stands at each node. `ftl_tree_rows` says which rows are those of which tree.
 #![tactic(auto)]
 
+mod build;
 mod class_attrs;
+mod class_table;
+mod input_counts;
 mod runs;
 mod tree;
+mod widths;
 
 pub use ftl_tree_rows::{NodeRow, Place};
 pub use tree::Tree;

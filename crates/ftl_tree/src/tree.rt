@@ -1,5 +1,5 @@
 //! Trees as flat rows.
-ghost use Rattle.std.specs.Prelude.{◌≡◌, ◌<◌, ◌≤◌, length, slice_index_or, Contains};
+ghost use Rattle.std.specs.Prelude.{◌≡◌, ◌<◌, ◌≤◌, length, slice_index_or, Contains, IfOk};
 ghost use Rattle.std.specs.Option.{option_map};
 ghost use Rattle.ftl_lists.specs.Lists.{place_in};
 ghost use Rattle.ftl_model.specs.AttributeGrammar.{attributes_of, class_inputs, input_value};
@@ -7,17 +7,21 @@ ghost use Rattle.ftl_model.specs.Path.{node_at, class_at, child_at, kid_at, kids
 ghost use Rattle.ftl_model.specs.Path.{down, number_of, parent_of, inputs_at};
 ghost use Rattle.ftl_model.specs.Solves.{instance_of};
 ghost use Rattle.ftl_model.specs.Table.{first_instance, instance_count, instance_number};
-ghost use Rattle.ftl_model.specs.Tree.{size};
+ghost use Rattle.ftl_model.specs.Tree.{Forest, size};
 ghost use Rattle.ftl_model.specs.TreeOf.{IsTreeOf};
 ghost use Rattle.ftl_model.specs.Values.{number};
 ghost use Rattle.ftl_dep_table.specs.Meant.{meant};
 ghost use Rattle.ftl_tree_rows.specs.KidRuns.{IsChildOf, kid_numbers};
-ghost use Rattle.ftl_tree_rows.specs.Rows.{row_of};
+ghost use Rattle.ftl_tree_rows.specs.Rows.{AreNodesOf, row_of};
 
+use crate::build::{KidRuns, child_slots, first_inputs, first_instances, kid_runs};
 use crate::class_attrs::{attribute_place, is_shared};
+use crate::class_table::class_rows;
+use crate::input_counts::counts_of_inputs;
 use crate::runs::run_of;
 use ftl_checked::Checked;
-use ftl_tree_rows::{ClassRow, NodeRow, Place};
+use ftl_tree_rows::{ClassRow, NodeRow, Place, subtree_sizes};
+use std::alloc::{AllocError, Global};
 use std::marker::Model;
 
 /// A tree of a checked grammar, as rows in preorder. Contracts see the grammar and the tree.
@@ -213,5 +217,41 @@ impl<'a> Tree<'a> {
         let shared_end = counts[row.shared_first as usize + row.shared_count as usize];
         let own = counts[row.own_first as usize];
         (shared_end - shared) as usize + (below - own) as usize
+    }
+}
+
+impl<'a> Tree<'a> {
+    /// The tree that has these rows, in preorder, and these inputs, which stand node by node, each
+    /// node's in the order of its class.
+    pub fn from_nodes(
+        alloc: Global,
+        checked: &'a Checked,
+        rows: Vec<NodeRow>,
+        inputs: Vec<i64>,
+    ) -> Result<Tree<'a>, AllocError>
+        requires nodes { (t : Forest) × AreNodesOf (meant checked.now) t rows.items inputs.items }
+        ensures tree { (t : Forest) → AreNodesOf (meant checked.now) t rows.items inputs.items
+            → IfOk result (λ r. r ≡ record { checked = checked.now; tree = t }) }
+    {
+        let classes = class_rows(alloc, checked)?;
+        let input_counts = counts_of_inputs(alloc, checked)?;
+        let first_instances = first_instances(alloc, checked, &classes, &rows)?;
+        let first_inputs = first_inputs(alloc, checked, &classes, &input_counts, &rows)?;
+        let slots = child_slots(alloc, checked, &rows)?;
+        let sizes = subtree_sizes(alloc, &rows)?;
+        let KidRuns { starts, kids } = kid_runs(alloc, &rows, &slots)?;
+        Ok(Tree {
+            checked,
+            classes,
+            input_counts,
+            rows,
+            sizes,
+            inputs,
+            first_instances,
+            first_inputs,
+            slots,
+            run_starts: starts,
+            kids,
+        })
     }
 }

@@ -95,3 +95,12 @@ pub place_second : (s n o m a : ℕ) → IsOutsideRun s n a → o ≤ a → a < 
 place_second s n o m a out h k =
     place_outside s n a (range_with_len o m) out
     ∙ ap (λ x. n + x) (ap (λ xs. place_in xs a) (sym (append-nil (range_with_len o m))) ∙ place_inside o m a [] h k)
+
+-- a list has no more that pass than entries
+pub fewer : (p : ℕ → Bool) (xs : List ℕ) → length (filter p xs) ≤ length xs
+fewer p [] = omega arith
+fewer p (x ∷ xs) = go (p x) (fewer p xs)
+  where
+    go : (b : Bool) → length (filter p xs) ≤ length xs → length (cond b (x ∷ filter p xs) (filter p xs)) ≤ suc (length xs)
+    go true h = omega (arith, h)
+    go false h = omega (arith, h)

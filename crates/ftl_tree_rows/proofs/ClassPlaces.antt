@@ -1,14 +1,16 @@
 -- The places of the attributes and of the inputs of a class, by its row.
-use Rattle.std.proofs.Common.{◌≡◌, ℕ, ◌+◌, ◌-◌, ◌<◌, Bool, true, List, [], ◌++◌, length, get_or, sym, ap, ◌∙◌, subst, arith, ⊎_elim, Contains, filter}
+use Rattle.std.proofs.Common.{◌≡◌, ℕ, ◌+◌, ◌-◌, ◌<◌, ◌≤◌, Bool, true, List, [], ◌++◌, length, get_or, sym, ap, ◌∙◌, subst, arith, ⊎_elim, Contains, filter, length-append}
 use Rattle.std.specs.List.{range_with_len}
 use Rattle.std.proofs.lemmas.List.{append-nil}
+use Rattle.std.proofs.lemmas.List.FromFn.{length-range_with_len}
 use Rattle.std.proofs.lemmas.List.Elements.{Contains-append_cases, filter-append}
 use Rattle.ftl_lists.specs.Lists.{place_in}
 use Rattle.ftl_lists.proofs.Elements.{in_filter, in_range_from}
 use Rattle.ftl_model.specs.AttributeGrammar.{AttributeGrammar, attributes_of, class_inputs, is_input}
 use Rattle.ftl_tree_rows.specs.declared.class_row.ClassRow.{ClassRow}
 use Rattle.ftl_tree_rows.specs.ClassRows.{AreInputCounts, IsClassRow, IsInRun, IsOutsideRun, attributes_in, inputs_below}
-use Rattle.ftl_tree_rows.proofs.AttributePlaces.{in_second, passed-count, passed_inside, passed_outside}
+use Rattle.ftl_tree_rows.specs.Rows.{attribute_width, input_width}
+use Rattle.ftl_tree_rows.proofs.AttributePlaces.{fewer, in_second, passed-count, passed_inside, passed_outside}
 
 module _ (g : AttributeGrammar) (k : ℕ) (row : ClassRow) (h : IsClassRow g k row) where
   abbrev passes : ℕ → Bool
@@ -71,4 +73,33 @@ module _ (g : AttributeGrammar) (k : ℕ) (row : ClassRow) (h : IsClassRow g k r
               ∙ passed_outside passes row.shared_first row.shared_count a theirs outside
               ∙ ap (λ m. length (filter passes (range_with_len row.shared_first row.shared_count)) + m)
               (ap (λ xs. place_in xs a) (sym (append-nil theirs)) ∙ passed_inside passes row.own_first row.own_count i a [] at (omega (arith, low, high)) is_one);
+        }
+
+  pub attribute_width_is : attribute_width g k ≡ row.shared_count + row.own_count
+  attribute_width_is =
+      ap length h.attributes
+      ∙ length-append (range_with_len row.shared_first row.shared_count) (range_with_len row.own_first row.own_count)
+      ∙ omega (arith, length-range_with_len row.shared_first row.shared_count, length-range_with_len row.own_first row.own_count)
+
+  module _ (counts : List ℕ) (are : AreInputCounts g counts) where
+    -- how many inputs the class has
+    pub record InputWidth : Type 0 where
+      pub shared : ℕ
+      pub own : ℕ
+      pub first : get_or counts (row.shared_first + row.shared_count) 0 ≡ get_or counts row.shared_first 0 + shared
+      pub second : get_or counts (row.own_first + row.own_count) 0 ≡ get_or counts row.own_first 0 + own
+      pub width : input_width g k ≡ shared + own
+      pub few : shared + own ≤ 128
+
+    pub input_width_is : InputWidth
+    input_width_is =
+        let theirs = filter passes (range_with_len row.shared_first row.shared_count) in
+        let mine = filter passes (range_with_len row.own_first row.own_count) in
+        record {
+          shared = length theirs;
+          own = length mine;
+          first = omega (arith, passed-count passes row.shared_first row.shared_count, are.each row.shared_first (omega (arith, h.shared)), are.each (row.shared_first + row.shared_count) h.shared);
+          second = omega (arith, passed-count passes row.own_first row.own_count, are.each row.own_first (omega (arith, h.own)), are.each (row.own_first + row.own_count) h.own);
+          width = ap length split ∙ length-append theirs mine;
+          few = omega (arith, fewer passes (range_with_len row.shared_first row.shared_count), fewer passes (range_with_len row.own_first row.own_count), length-range_with_len row.shared_first row.shared_count, length-range_with_len row.own_first row.own_count, h.few);
         }

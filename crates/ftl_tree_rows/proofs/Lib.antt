@@ -5,3 +5,9 @@ pub mod AttributePlaces
 pub mod Inputs
 pub mod Runs
 pub mod ClassPlaces
+pub mod SumSteps
+pub mod Raised
+pub mod Ends
+pub mod KidPlaces
+pub mod KidRows
+pub mod RowWidths

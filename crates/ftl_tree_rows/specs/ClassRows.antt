@@ -25,6 +25,7 @@ pub record IsClassRow (g : AttributeGrammar) (class : ℕ) (row : ClassRow) : Ty
   pub attributes : attributes_of g class ≡ attributes_in row
   pub shared : row.shared_first + row.shared_count ≤ g.attribute_count
   pub own : row.own_first + row.own_count ≤ g.attribute_count
+  pub few : row.shared_count + row.own_count ≤ 128
 
 -- there is a row for each class
 pub record AreClassRows (g : AttributeGrammar) (rows : List ClassRow) : Type 0 where
@@ -39,3 +40,8 @@ inputs_below g a = length (filter (λ b. is_input (g.sort b)) (range_with_len 0 
 pub record AreInputCounts (g : AttributeGrammar) (counts : List ℕ) : Type 0 where
   pub length_is : length counts ≡ suc g.attribute_count
   pub each : (a : ℕ) → a ≤ g.attribute_count → slice_index_or counts a 0 ≡ inputs_below g a
+
+-- a table has the width of each class
+pub record AreWidths (width : ℕ → ℕ) (count : ℕ) (table : List ℕ) : Type 0 where
+  pub length_is : length table ≡ count
+  pub each : (k : ℕ) → k < count → slice_index_or table k 0 ≡ width k

@@ -78,3 +78,24 @@ sums_from n (x ∷ xs) = n ∷ sums_from (n + x) xs
 -- where each node begins in a list in which a node of a class has so many entries, and where the last one ends
 abbrev pub starts_by : (class_width : ℕ → ℕ) → List NodeRow → List ℕ
 starts_by width rows = sums_from 0 (map (λ row. width row.class) rows)
+
+-- ---- what a tree is built from
+
+-- the rows are those of this tree, which is one of the grammar and within the limits
+pub record AreTreeRows (g : AttributeGrammar) (t : Forest) (rows : List NodeRow) : Type 0 where
+  pub is_tree : IsTreeOf g t
+  pub rows_are : rows ≡ rows_of t
+  pub few_nodes : size t ≤ 1048576
+  pub few_instances : instance_count g t ≤ 33554432
+
+-- the rows are those of some tree of the grammar
+abbrev pub IsPreorder : AttributeGrammar → List NodeRow → Type 0
+IsPreorder g rows = (t : Forest) × AreTreeRows g t rows
+
+-- the rows and the inputs are those of this tree
+abbrev pub AreNodesOf : AttributeGrammar → Forest → List NodeRow → (inputs : List ℤ) → Type 0
+AreNodesOf g t rows inputs = AreTreeRows g t rows × (inputs ≡ all_inputs t)
+
+-- where the tree of each node ends
+abbrev pub ends_of : Forest → List ℕ
+ends_of t = map (λ p. number_of t p + size_at t p) (preorder t)

@@ -1,4 +1,4 @@
-use Rattle.std.proofs.Common.{[], ◌∷◌, Bool, List, ap, arith, cond, false, filter, suc, true, get_or, length, pos, rules, subst, sym, ◌≡◌, ◌<◌, ◌≤◌, ◌+◌, ◌∙◌, ℕ, Contains, SFits, w64}
+use Rattle.std.proofs.Common.{ap, arith, get_or, length, pos, rules, subst, sym, ◌≡◌, ◌<◌, ◌+◌, ◌∙◌, ℕ, Contains, SFits, w64}
 use Rattle.std.proofs.lemmas.Int.{ints}
 use Rattle.std.proofs.lemmas.List.{get_or_default}
 use Rattle.ftl_lists.specs.Lists.{place_in}
@@ -10,20 +10,12 @@ use Rattle.ftl_model.specs.Values.{number}
 use Rattle.ftl_model.proofs.Fits.{fits_at}
 use Rattle.ftl_dep_table.specs.Meant.{meant}
 use Rattle.ftl_tree_rows.proofs.Access.{has_at}
+use Rattle.ftl_tree_rows.proofs.AttributePlaces.{fewer}
 use Rattle.ftl_tree_rows.proofs.Inputs.{InputStands, input_stands}
 use Rattle.ftl_tree.specs.CheckedTree.{CheckedTree}
 use Rattle.ftl_tree.specs.declared.tree.Tree.TheInside.{Inside}
 use Rattle.ftl_tree.proofs.Known.{Known, class_within, first_room, known, length_first_inputs}
 use Rattle.ftl_tree.proofs.tree.Tree.input.Goals as goal
-
--- a list has no more that pass than entries
-fewer : (p : ℕ → Bool) (xs : List ℕ) → length (filter p xs) ≤ length xs
-fewer p [] = omega arith
-fewer p (x ∷ xs) = go (p x) (fewer p xs)
-  where
-    go : (b : Bool) → length (filter p xs) ≤ length xs → length (cond b (x ∷ filter p xs) (filter p xs)) ≤ suc (length xs)
-    go true h = omega (arith, h)
-    go false h = omega (arith, h)
 
 -- the input that stands where the node's begin, at its place
 stands : (i : Inside) (t : CheckedTree) (k : Known i t) (n a first place : ℕ) → n < size t.tree

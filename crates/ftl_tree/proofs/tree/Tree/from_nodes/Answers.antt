@@ -1,0 +1,37 @@
+use Rattle.std.proofs.Common.{ap, subst, sym, ◌∙◌, List, ℕ}
+use Rattle.ftl_model.specs.Tree.{Forest}
+use Rattle.ftl_dep_table.specs.Meant.{meant}
+use Rattle.ftl_tree_rows.specs.declared.row.NodeRow.{NodeRow}
+use Rattle.ftl_tree_rows.specs.KidRuns.{HasRuns, HasSlots}
+use Rattle.ftl_tree_rows.specs.Rows.{AreTreeRows, attribute_width, input_width, starts_by}
+use Rattle.ftl_tree_rows.proofs.Shapes.{kept_back}
+use Rattle.ftl_tree.proofs.Made.{are_rows, made}
+use Rattle.ftl_tree.proofs.tree.Tree.from_nodes.Goals as goal
+
+pub invariant_of-result : goal.invariant_of-result
+invariant_of-result c =
+    let g = meant c.args.checked.now in
+    let t = c.requires.nodes.0 in
+    let n = c.requires.nodes.1 in
+    let slots = c.in_ok-slots.ensures.slots ∙ ap (starts_by g.child_count) c.deref-6.ensures.value in
+    let has : HasSlots g t c.args.rows.items c.in_ok-slots.slots.items = record { tree_rows = n.0; slots_are = slots } in
+    let seen = subst (λ (xs : List ℕ). HasSlots g t c.deref-8.result.now xs) (sym c.deref-9.ensures.value)
+    (subst (λ (rows : List NodeRow). HasSlots g t rows c.in_ok-slots.slots.items) (sym c.deref-8.ensures.value) has) in
+    made _ t n
+    (c.in_ok-sizes.ensures.sizes g t (subst (AreTreeRows g t) (sym c.deref-7.ensures.value) n.0))
+    c.in_ok-classes.ensures.rows c.in_ok-input_counts.ensures.counts
+    (c.in_ok-first_instances.ensures.starts ∙ ap (starts_by (attribute_width g)) c.deref-2.ensures.value)
+    (c.in_ok-first_inputs.ensures.starts ∙ ap (starts_by (input_width g)) c.deref-5.ensures.value)
+    slots
+    (subst (λ (xs : List ℕ). HasRuns g t xs c.in_ok-starts.field-0.starts.items c.in_ok-starts.field-0.kids.items) c.deref-9.ensures.value
+    (c.in_ok-starts.ensures.runs g t seen))
+
+pub returns : goal.returns
+returns c = record {
+  tree = λ t n.
+      let g = meant c.args.checked.now in
+      ap (λ (f : Forest). record { checked = c.args.checked.now; tree = f })
+      (kept_back g t c.args.rows.items c.in_ok-sizes.sizes.items c.args.inputs.items
+      (are_rows g t c.args.rows.items c.in_ok-sizes.sizes.items c.args.inputs.items n
+      (c.in_ok-sizes.ensures.sizes g t (subst (AreTreeRows g t) (sym c.deref-7.ensures.value) n.0))));
+}
