@@ -4,3 +4,4 @@ pub mod TextLines
 pub mod GrammarLines
 pub mod ScheduleLines
 pub mod DocumentLines
+pub mod WorkedRules
