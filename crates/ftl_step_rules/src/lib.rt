@@ -1,0 +1,8 @@
+//! The rules of a checked grammar by what they define. Goes in: a grammar with the numbers of its
+//! rules at hand. Comes out: tables by class, child and attribute, which
+//! `specs/RuleTables.antt` defines.
+#![tactic(auto)]
+
+mod tables;
+
+pub use tables::RuleTables;
