@@ -1,0 +1,41 @@
+-- The attributes of each class as two runs of numbers, and the place of an input by counting.
+use Rattle.std.specs.Prelude.{◌≡◌, ◌⊎◌, ℕ, suc, ◌+◌, ◌<◌, ◌≤◌, List, ◌++◌, length, filter, slice_index_or}
+use Rattle.std.specs.List.{range_with_len}
+use Rattle.ftl_model.specs.AttributeGrammar.{AttributeGrammar, attributes_of, is_input}
+use Rattle.ftl_tree_rows.specs.declared.class_row.ClassRow.{ClassRow}
+
+-- a number in a run of so many numbers
+abbrev pub IsInRun : (first count number : ℕ) → Type 0
+IsInRun first count n = (first ≤ n) × (n < first + count)
+
+-- a number before or behind a run
+abbrev pub IsOutsideRun : (first count number : ℕ) → Type 0
+IsOutsideRun first count n = (n < first) ⊎ (first + count ≤ n)
+
+-- the attributes of a class: its interface's, then its own
+abbrev pub attributes_in : ClassRow → List ℕ
+attributes_in row = range_with_len row.shared_first row.shared_count ++ range_with_len row.own_first row.own_count
+
+-- a class without attributes
+abbrev pub no_attributes : ClassRow
+no_attributes = record { shared_first = 0; shared_count = 0; own_first = 0; own_count = 0 }
+
+-- the row is of this class
+pub record IsClassRow (g : AttributeGrammar) (class : ℕ) (row : ClassRow) : Type 0 where
+  pub attributes : attributes_of g class ≡ attributes_in row
+  pub shared : row.shared_first + row.shared_count ≤ g.attribute_count
+  pub own : row.own_first + row.own_count ≤ g.attribute_count
+
+-- there is a row for each class
+pub record AreClassRows (g : AttributeGrammar) (rows : List ClassRow) : Type 0 where
+  pub count : length rows ≡ g.class_count
+  pub each : (k : ℕ) → k < g.class_count → IsClassRow g k (slice_index_or rows k no_attributes)
+
+-- how many inputs have smaller numbers
+abbrev pub inputs_below : AttributeGrammar → (attribute : ℕ) → ℕ
+inputs_below g a = length (filter (λ b. is_input (g.sort b)) (range_with_len 0 a))
+
+-- these are the counts of inputs below each attribute, and below the end
+pub record AreInputCounts (g : AttributeGrammar) (counts : List ℕ) : Type 0 where
+  pub length_is : length counts ≡ suc g.attribute_count
+  pub each : (a : ℕ) → a ≤ g.attribute_count → slice_index_or counts a 0 ≡ inputs_below g a
