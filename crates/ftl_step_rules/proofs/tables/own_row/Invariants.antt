@@ -1,7 +1,7 @@
-use Rattle.std.proofs.Common.{◌≡◌, None, Some}
+use Rattle.std.proofs.Common.{◌≡◌, None}
 use Rattle.ftl_dep_table.specs.Meant.{meant}
 use Rattle.ftl_visit_list.specs.Visits.{rule_number}
-use Rattle.ftl_step_rules.specs.RuleTables.{by_number, class_kid_rules, rules_by_attribute}
+use Rattle.ftl_step_rules.specs.RuleTables.{by_number}
 use Rattle.ftl_step_rules.proofs.tables.own_row.Given as goal
 
 abbrev pub invariant-loop-attr : goal.invariant-loop-attr
