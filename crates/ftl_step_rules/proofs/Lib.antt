@@ -1,1 +1,3 @@
 pub mod ByNumber
+pub mod AttributeRuns
+pub mod ClassRuns

@@ -3,6 +3,8 @@
 //! `specs/RuleTables.antt` defines.
 #![tactic(auto)]
 
+mod attributes;
 mod tables;
 
+pub use attributes::class_attributes;
 pub use tables::RuleTables;
