@@ -1,0 +1,3 @@
+pub mod RuleReads
+pub mod InstanceReads
+pub mod Entries
