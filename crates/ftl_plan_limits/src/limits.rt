@@ -1,0 +1,71 @@
+//! The first fault of a plan.
+ghost use Rattle.std.specs.Prelude.{◌≡◌, ◌≤◌, length, IfOk};
+ghost use Rattle.std.specs.List.{range_with_len};
+ghost use Rattle.ftl_dep_table.specs.Meant.{meant};
+ghost use Rattle.ftl_stages.specs.Stages.{stages_of};
+ghost use Rattle.ftl_instance_reads.specs.ReadTables.{AreTables, IsSound};
+ghost use Rattle.ftl_plan_limits.specs.PlanFaults.{first_along, first_fault};
+ghost use Rattle.ftl_plan_limits.specs.StageReads.{many_by, wide_by};
+
+use crate::fault::PlanFault;
+use crate::reads::{StageReads, stage_reads};
+use ftl_instance_reads::ReadTables;
+use ftl_tree::Tree;
+use ftl_verify::Accepted;
+use std::alloc::{AllocError, Global};
+
+/// The first stage whose steps have more than 67108864 reads, or else the first step of more than
+/// 1048576; none where there is neither. Takes time as there are instances.
+pub fn first_fault(
+    alloc: Global,
+    tables: &ReadTables,
+    accepted: &Accepted,
+    tree: &Tree<'_>,
+) -> Result<Option<PlanFault>, AllocError>
+    requires sound { IsSound (meant tree.now.checked) }
+    requires tables { AreTables (meant tree.now.checked) tables.now }
+    requires stages { length (stages_of accepted.now) ≤ 2048 }
+    ensures fault { IfOk result (λ fault. fault ≡ first_fault (meant tree.now.checked)
+        (stages_of accepted.now) tree.now.tree) }
+{
+    let counts = stage_reads(alloc, tables, accepted, tree)?;
+    match first_too_many(counts.as_slice()) {
+        Some(fault) => Ok(Some(fault)),
+        None => Ok(first_too_wide(counts.as_slice())),
+    }
+}
+
+/// The first stage that reads too much.
+fn first_too_many(counts: &[StageReads]) -> Option<PlanFault>
+    requires few { length counts.now ≤ 2048 }
+    ensures fault { result
+        ≡ first_along (many_by counts.now) (range_with_len 0 (length counts.now)) }
+{
+    for stage in 0..counts.len() {
+        let count = counts[stage].total;
+        if count > 67108864 {
+            return Some(PlanFault::TooManyReads {
+                stage: stage as u32 + 1,
+                count,
+            });
+        }
+    }
+    None
+}
+
+/// The first stage with a step that reads too much.
+fn first_too_wide(counts: &[StageReads]) -> Option<PlanFault>
+    requires few { length counts.now ≤ 2048 }
+    ensures fault { result
+        ≡ first_along (wide_by counts.now) (range_with_len 0 (length counts.now)) }
+{
+    for stage in 0..counts.len() {
+        if let Some(count) = counts[stage].wide {
+            return Some(PlanFault::StepTooWide {
+                stage: stage as u32 + 1,
+                count,
+            });
+        }
+    }
+    None
+}
