@@ -1,0 +1,26 @@
+-- The fields of a plan.
+use Rattle.std.specs.Prelude.{◌≡◌, None}
+use Rattle.ftl_dep_table.specs.Meant.{meant}
+use Rattle.ftl_instance_reads.specs.ReadTables.{AreTables, IsSound}
+use Rattle.ftl_stages.specs.Stages.{stages_of}
+use Rattle.ftl_plan_limits.specs.PlanFaults.{first_fault}
+use Rattle.ftl_plan.specs.Planned.{MayBePlanned, PlanMeaning}
+use Rattle.ftl_plan.specs.declared.plan.Plan.TheInside.{Inside}
+
+abbrev pub plan_inside : Inside → PlanMeaning
+plan_inside p =
+    record {
+      checked = p.checked.now;
+      schedule = p.accepted.now;
+      programs = p.programs.now;
+      tree = p.tree.now.tree;
+      grain = p.grain;
+    }
+
+-- all belong to one grammar, and there is no fault
+pub record IsPlan (p : Inside) : Type 0 where
+  pub tree : p.tree.now.checked ≡ p.checked.now
+  pub may : MayBePlanned (plan_inside p)
+  pub sound : IsSound (meant p.checked.now)
+  pub tables : AreTables (meant p.checked.now) p.tables
+  pub no_fault : first_fault (meant p.checked.now) (stages_of p.accepted.now) p.tree.now.tree ≡ None

@@ -1,0 +1,40 @@
+-- What a plan is made of, and whether there is one.
+use Rattle.std.specs.Prelude.{◌≡◌, ℕ, ◌≤◌, length, Option, Some, None, Result, Ok, Err}
+use Rattle.ftl_model.specs.Tree.{Forest}
+use Rattle.ftl_order.specs.Ordered.{IsOrdered}
+use Rattle.ftl_checked.specs.Checked.{CheckedGrammar}
+use Rattle.ftl_dep_table.specs.Meant.{meant}
+use Rattle.ftl_lawful.specs.Faultless.{HasKinds}
+use Rattle.ftl_programs.specs.RuleCode.{Compiled, rule_codes}
+use Rattle.ftl_stages.specs.Stages.{stages_of}
+use Rattle.ftl_stages.specs.declared.types.Schedule.{Schedule}
+use Rattle.ftl_plan_limits.specs.PlanFaults.{first_fault}
+use Rattle.ftl_plan_limits.specs.declared.fault.PlanFault.{PlanFault}
+
+-- a grammar, a schedule, the code of the rules, a tree, and how many nodes an item has at most
+pub record PlanMeaning : Type 0 where
+  pub checked : CheckedGrammar
+  pub schedule : Schedule
+  pub programs : Compiled
+  pub tree : Forest
+  pub grain : ℕ
+
+-- the schedule is ordered, and the code is that of the grammar, whose attributes are declared by words that may stand
+-- there; there are at most so many stages, and the grain is in range
+pub record MayBePlanned (p : PlanMeaning) : Type 0 where
+  pub kinds : HasKinds p.checked.grammar
+  pub ordered : IsOrdered (meant p.checked) (stages_of p.schedule)
+  pub stages : length (stages_of p.schedule) ≤ 2048
+  pub rules : p.programs.rules ≡ rule_codes p.checked.grammar
+  pub width : p.programs.width ≡ p.checked.width
+  pub some_nodes : 1 ≤ p.grain
+  pub most_nodes : p.grain ≤ 1048576
+
+-- a plan where there is no fault
+abbrev pub unless_fault : Option PlanFault → PlanMeaning → Result PlanMeaning PlanFault
+unless_fault None p = Ok p
+unless_fault (Some fault) p = Err fault
+
+-- the plan, or its first fault
+abbrev pub planned : PlanMeaning → Result PlanMeaning PlanFault
+planned p = unless_fault (first_fault (meant p.checked) (stages_of p.schedule) p.tree) p

@@ -1,0 +1,108 @@
+//! Plans.
+ghost use Rattle.std.specs.Prelude.{◌≡◌, length, IfOk};
+ghost use Rattle.ftl_dep_table.specs.Meant.{meant};
+ghost use Rattle.ftl_items.specs.WordLaws.{first_words};
+ghost use Rattle.ftl_model.specs.Outcome.{Gives};
+ghost use Rattle.ftl_stages.specs.Stages.{stages_of};
+ghost use Rattle.ftl_plan.specs.Planned.{MayBePlanned, planned};
+ghost use Rattle.ftl_plan_limits.specs.declared.fault.PlanFault.TheVariants.{OutOfMemory};
+
+use crate::sound::is_sound;
+use crate::words::node_words;
+use ftl_checked::Checked;
+use ftl_plan_limits::{PlanFault, ReadTables, first_fault};
+use ftl_programs::Programs;
+use ftl_tree::Tree;
+use ftl_verify::Accepted;
+use std::alloc::{AllocError, Global};
+use std::marker::Model;
+
+/// The stages of a tree. It borrows what it is made of.
+#[derive(Drop)]
+pub struct Plan<'a> {
+    checked: &'a Checked,
+    accepted: &'a Accepted,
+    programs: &'a Programs,
+    tree: &'a Tree<'a>,
+    tables: ReadTables,
+    grain: u32,
+}
+
+impl<'a> Model for Plan<'a> {
+    ghost use Rattle.std.specs.Coded.{codes};
+    ghost use Rattle.ftl_model.specs.ForestCode.{forest_code};
+    ghost use Rattle.ftl_syntax.specs.contracts.expression.Expr as e;
+    ghost use Rattle.ftl_plan.specs.PlanInside.{IsPlan, plan_inside};
+    ghost use Rattle.ftl_plan.specs.Planned.{PlanMeaning};
+
+    ghost Value = { PlanMeaning };
+
+    ghost coded = { Prim.hlevel (codes, e.the_row.coded, forest_code) };
+
+    ghost view = { plan_inside };
+
+    ghost invariant = { IsPlan };
+}
+
+impl<'a> Plan<'a> {
+    /// The plan of a tree with items of at most so many nodes, or its first fault. All must belong
+    /// to one grammar.
+    pub fn new(
+        alloc: Global,
+        checked: &'a Checked,
+        accepted: &'a Accepted,
+        programs: &'a Programs,
+        tree: &'a Tree<'a>,
+        grain: u32,
+    ) -> Result<Plan<'a>, PlanFault>
+        requires tree { tree.now.checked ≡ checked.now }
+        requires may { MayBePlanned (record {
+          checked = checked.now;
+          schedule = accepted.now;
+          programs = programs.now;
+          tree = tree.now.tree;
+          grain = grain;
+        }) }
+        ensures exact { Gives OutOfMemory (λ p. p) result (planned (record {
+          checked = checked.now;
+          schedule = accepted.now;
+          programs = programs.now;
+          tree = tree.now.tree;
+          grain = grain;
+        })) }
+    {
+        is_sound(checked);
+        let tables = ReadTables::new(alloc, checked)?;
+        match first_fault(alloc, &tables, accepted, tree)? {
+            Some(fault) => Err(fault),
+            None => Ok(Plan {
+                checked,
+                accepted,
+                programs,
+                tree,
+                tables,
+                grain,
+            }),
+        }
+    }
+
+    /// How many stages the schedule has.
+    pub fn stage_count(&self) -> u32
+        ensures count { result ≡ length (stages_of self.now.schedule) }
+    {
+        self.accepted.schedule().stages.len() as u32
+    }
+
+    /// The words of all cells before the first stage: those of the inputs, and 0 elsewhere.
+    pub fn first_words(&self, alloc: Global) -> Result<Vec<u64>, AllocError>
+        ensures words { IfOk result (λ v. v.items
+            ≡ first_words (meant self.now.checked) self.now.tree) }
+    {
+        let cells = self.tree.instance_count() as usize;
+        let mut words = Vec::with_capacity(alloc, cells)?;
+        for node in 0..self.tree.node_count() {
+            node_words(&self.tables, self.tree, node, &mut words)?;
+        }
+        Ok(words)
+    }
+}
