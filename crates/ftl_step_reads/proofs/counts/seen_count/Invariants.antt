@@ -7,6 +7,6 @@ use Rattle.ftl_step_reads.proofs.counts.seen_count.Given as goal
 abbrev pub invariant-loop-read : goal.invariant-loop-read
 invariant-loop-read l = record {
   count : l.count + length (seen_by (kids_in l.tree l.node) l.at_hand (map read_meant (drop l.read-index l.reads)))
-  ≡ length (seen_by (kids_in l.tree l.node) l.at_hand (map read_meant l.reads));
-  bound : l.count ≤ l.read-index
+      ≡ length (seen_by (kids_in l.tree l.node) l.at_hand (map read_meant l.reads));
+  bound : l.count ≤ l.read-index;
 }
