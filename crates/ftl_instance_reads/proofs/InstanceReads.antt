@@ -42,7 +42,8 @@ kid_passes : (k c a : ℕ) → is_of_class k (Some c) a (for_child k c a) ≡ tr
 kid_passes k c a = ap₂ (λ x y. x && y) (same_test k) (ap₂ (λ x y. x && y) (same_test c) (same_test a))
 
 -- a rule of a number, with what it reads
-pub record ReadsBy (g : AttributeGrammar) (t : Forest) (r : ℕ) (runs_at : Path) (number : ℕ) (p : Path) (a : ℕ) : Type 0 where
+pub record ReadsBy (g : AttributeGrammar) (t : Forest) (r : ℕ) (runs_at : Path) (number : ℕ) (p : Path) (a : ℕ) :
+    Type 0 where
   pub within : r < length g.rules
   pub class : class_of_rule (rule_at g r) ≡ class_at t runs_at
   pub reads : read_count g t (instance_of p a)

@@ -79,7 +79,8 @@ rule_may_stand g sound class r within of =
     }
 
 -- the parts that stand at its place
-pub parts_at : (g : AttributeGrammar) (rows : List RuleParts) (r : ℕ) (d : RuleParts) → map parts_meant rows ≡ all_parts g
+pub parts_at : (g : AttributeGrammar) (rows : List RuleParts) (r : ℕ) (d : RuleParts)
+    → map parts_meant rows ≡ all_parts g
     → r < length g.rules → (r < length rows) × (parts_meant (get_or rows r d) ≡ parts_named g (rule_at g r))
 parts_at g rows r d are within =
     let long : length rows ≡ length g.rules =

@@ -40,7 +40,8 @@ fn inherited_reads(tables: &ReadTables, tree: &Tree<'_>, node: u32, attr: u32) -
     requires tables { AreTables (meant tree.now.checked) tables.now }
     requires node { node < size tree.now.tree }
     requires attr { OfClass (meant tree.now.checked) (class_in tree.now node) attr }
-    requires none { rule_number (meant tree.now.checked) (class_in tree.now node) None attr ≡ None }
+    requires none { rule_number (meant tree.now.checked) (class_in tree.now node) None attr
+        ≡ None }
     ensures count { result
         ≡ read_count (meant tree.now.checked) tree.now.tree (instance_in tree.now node attr) }
     ensures bound { result ≤ 268435712 }
@@ -62,7 +63,8 @@ fn own_rule(tables: &ReadTables, tree: &Tree<'_>, node: u32, attr: u32) -> Optio
     requires tables { AreTables (meant tree.now.checked) tables.now }
     requires node { node < size tree.now.tree }
     requires attr { OfClass (meant tree.now.checked) (class_in tree.now node) attr }
-    ensures rule { result ≡ rule_number (meant tree.now.checked) (class_in tree.now node) None attr }
+    ensures rule { result
+        ≡ rule_number (meant tree.now.checked) (class_in tree.now node) None attr }
 {
     let _nodes = tree.node_count();
     let class = tree.class(node);

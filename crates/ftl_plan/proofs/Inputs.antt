@@ -14,7 +14,8 @@ use Rattle.ftl_order.specs.Lawful.{IsLawful, OfClass}
 input_is_value : (greatest : ℕ) (n : ℤ) → IsInput greatest n → IsValueIn greatest (number n)
 input_is_value greatest n h = ((let low = h.0 in omega (arith, ints, low)), h.1)
 
-input_in_range : (greatest : ℕ) (ns : List ℤ) (i : ℕ) → AreInputs greatest ns → IsValueIn greatest (number (get_or ns i (pos 0)))
+input_in_range : (greatest : ℕ) (ns : List ℤ) (i : ℕ) → AreInputs greatest ns
+    → IsValueIn greatest (number (get_or ns i (pos 0)))
 input_in_range greatest [] i h = (omega (arith, ints), omega (arith, ints))
 input_in_range greatest (n ∷ ns) zero h = input_is_value greatest n h.0
 input_in_range greatest (n ∷ ns) (suc i) h = input_in_range greatest ns i h.1
@@ -25,7 +26,10 @@ in_wide greatest n most h =
 
 greatest_is : (g : AttributeGrammar) → IsLawful g → g.greatest ≤ wide
 greatest_is g law =
-    ⊎_elim (λ e. let z : g.greatest ≤ wide = omega (arith, e) in z) (λ e. let z : g.greatest ≤ wide = omega (arith, e) in z)
+    ⊎_elim (λ e. let z : g.greatest ≤ wide = omega (arith, e) in z) (λ e. let z : g.greatest ≤ wide = omega (
+      arith,
+      e,
+    ) in z)
     law.width
 
 stays : (n : ℤ) → IsValueIn wide (number n) → value_of wide n ≡ number n

@@ -51,18 +51,21 @@ module _ (g : AttributeGrammar) (s : Schedule) (t : Forest) (counts : List Stage
       are.each k below ∙ ap (λ xs. reads_of_steps g t (filter (is_of_stage g s k) xs)) all_cells
 
   maps_twice : (n : ℕ) (o : Option Instance)
-      → option_map (StepTooWide n) (option_map (read_count g t) o) ≡ option_map (λ i. StepTooWide n (read_count g t i)) o
+      → option_map (StepTooWide n) (option_map (read_count g t) o) ≡ option_map (λ i. StepTooWide n (read_count g t
+      i)) o
   maps_twice n None = refl
   maps_twice n (Some i) = refl
 
-  pub many_is : first_along (many_by counts) (range_with_len 0 (length counts)) ≡ first_of_stages s (too_many_reads g s t)
+  pub many_is : first_along (many_by counts) (range_with_len 0 (length counts)) ≡ first_of_stages s (too_many_reads
+      g s t)
   many_is =
       ap (λ n. first_along (many_by counts) (range_with_len 0 n)) are.stages
       ∙ same_along (many_by counts) (too_many_reads g s t) 0 (length s)
       (λ k below.
       ap (λ (c : StageReads). fault_past 67108864 (TooManyReads (k + 1)) c.total) (whole k (omega (arith, below))))
 
-  pub wide_is : first_along (wide_by counts) (range_with_len 0 (length counts)) ≡ first_of_stages s (step_too_wide g s t)
+  pub wide_is : first_along (wide_by counts) (range_with_len 0 (length counts)) ≡ first_of_stages s (step_too_wide
+      g s t)
   wide_is =
       ap (λ n. first_along (wide_by counts) (range_with_len 0 n)) are.stages
       ∙ same_along (wide_by counts) (step_too_wide g s t) 0 (length s)

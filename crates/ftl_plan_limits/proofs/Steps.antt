@@ -15,7 +15,8 @@ use Rattle.ftl_plan_limits.specs.declared.reads.StageReads.{StageReads}
 abbrev reads : ℕ → Option ℕ → StageReads
 reads n o = record { total = n; wide = o }
 
-pub take_one : {X : Type 0} (xs : List X) (n : ℕ) (d : X) → n < length xs → take (n + 1) xs ≡ take n xs ++ get_or xs n d ∷ []
+pub take_one : {X : Type 0} (xs : List X) (n : ℕ) (d : X) → n < length xs
+    → take (n + 1) xs ≡ take n xs ++ get_or xs n d ∷ []
 take_one [] n d below = absurd (let z : ⊥ = omega (arith, below) in z)
 take_one (x ∷ xs) zero d below = refl
 take_one (x ∷ xs) (suc n) d below =
@@ -51,7 +52,11 @@ module _ (g : AttributeGrammar) (t : Forest) where
 
   filter_more : (p : Instance → Bool) (xs : List Instance) (i : Instance)
       → filter p (xs ++ i ∷ []) ≡ filter p xs ++ (if p i then i ∷ [] else [])
-  filter_more p [] i = elim (p i) as (λ b. (if b then i ∷ [] else []) ≡ [] ++ (if b then i ∷ [] else [])) [ true ↦ refl | false ↦ refl ]
+  filter_more p [] i = elim (p i) as (λ b. (if b then i ∷ [] else []) ≡ [] ++ (if b then i ∷ [] else [])) [
+    | true ↦
+        refl
+    | false ↦ refl
+  ]
   filter_more p (x ∷ xs) i =
       elim (p x) as
       (λ b. (if b then x ∷ filter p (xs ++ i ∷ []) else filter p (xs ++ i ∷ []))

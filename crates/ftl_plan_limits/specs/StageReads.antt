@@ -50,7 +50,8 @@ abbrev pub cells_before : AttributeGrammar → Forest → (node : ℕ) → ℕ
 cells_before g t n = sum_by (width_at g t) (take n (preorder t))
 
 -- there is a count for each stage, of what its steps read among the first so many instances
-pub record AreCounts (g : AttributeGrammar) (s : Schedule) (t : Forest) (cells : ℕ) (counts : List StageReads) : Type 0 where
+pub record AreCounts (g : AttributeGrammar) (s : Schedule) (t : Forest) (cells : ℕ) (counts : List StageReads) :
+    Type 0 where
   pub stages : length counts ≡ length s
   pub each : (k : ℕ) → k < length s → slice_index_or counts k no_reads ≡ reads_so_far g s t k cells
 
@@ -59,7 +60,8 @@ abbrev pub HaveRoom : (cells : ℕ) → List StageReads → Type 0
 HaveRoom cells counts = (k : ℕ) → k < length counts → (slice_index_or counts k no_reads).total ≤ cells * 268435712
 
 -- the counts with one instance more
-pub record AreFurther (g : AttributeGrammar) (s : Schedule) (t : Forest) (i : Instance) (old new : List StageReads) : Type 0 where
+pub record AreFurther (g : AttributeGrammar) (s : Schedule) (t : Forest) (i : Instance) (old new : List StageReads)
+    : Type 0 where
   pub stages : length new ≡ length old
   pub each : (k : ℕ) → k < length old
       → slice_index_or new k no_reads

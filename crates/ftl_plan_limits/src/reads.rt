@@ -12,7 +12,7 @@ ghost use Rattle.ftl_plan_limits.specs.StageReads.{no_reads, or_wide, with_step}
 
 use ftl_instance_reads::{ReadTables, instance_reads};
 use ftl_tree::Tree;
-use ftl_verify::{Accepted, is_input};
+use ftl_verify::Accepted;
 use std::alloc::{AllocError, Global};
 
 /// How much the steps of a stage read in all, and how much the first of them reads that reads more
@@ -75,7 +75,7 @@ fn add_node(
     }
 }
 
-/// Counts what an instance reads, where it is computed.
+/// Counts what an instance reads, where a stage computes it; an input reads nothing.
 fn add_instance(
     tables: &ReadTables,
     accepted: &Accepted,
@@ -94,7 +94,7 @@ fn add_instance(
     ensures little { AreLittleMore counts.old counts.new }
 {
     let stage = accepted.spot(attr).stage;
-    if is_input(tree.checked(), attr) || stage >= counts.len() {
+    if stage >= counts.len() {
         return;
     }
     let reads = instance_reads(tables, tree, node, attr);

@@ -105,9 +105,11 @@ classes_more c rows k within =
     ∙ ap (λ (all : List Parts). rows ++ all)
     (sym (map-append (parts c) (rules_of_class c.grammar k)
     (flat_map (λ (p : ℕ × Class). rules_of_class c.grammar p.0) (numbered (k + 1) (drop (k + 1) c.grammar.classes))))
-    ∙ ap (λ n. rows_from c ((k, get_or c.grammar.classes k none) ∷ numbered n (drop (k + 1) c.grammar.classes))) (add-one k)
+    ∙ ap (λ n. rows_from c ((k, get_or c.grammar.classes k none) ∷ numbered n (drop (k + 1) c.grammar.classes)))
+    (add-one k)
     ∙ ap (λ xs. rows_from c (numbered k xs))
-    (sym (drop-cons c.grammar.classes k none within ∙ ap (λ n. get_or c.grammar.classes k none ∷ drop n c.grammar.classes) (sym (add-one k)))))
+    (sym (drop-cons c.grammar.classes k none within ∙ ap (λ n. get_or c.grammar.classes k none ∷ drop n
+    c.grammar.classes) (sym (add-one k)))))
 
 -- none are left
 pub classes_end : (c : CheckedGrammar) (n : ℕ) (xs : List Class) → rows_from c (numbered n (drop (length xs) xs)) ≡ []

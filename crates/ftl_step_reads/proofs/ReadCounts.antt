@@ -72,7 +72,8 @@ fold_reads kids n m start step =
 pub kids_few : (c : ℕ) (f : Forest) → count_in c f ≤ size f
 kids_few c none = omega arith
 kids_few c (tree class child inputs below beside) =
-    elim (child == c) as (λ b. (if b then suc (count_in c beside) else count_in c beside) ≤ suc (size below + size beside)) [
+    elim (child == c) as (λ b. (if b then suc (count_in c beside) else count_in c beside) ≤ suc (size below + size
+    beside)) [
       | true ↦ let i = kids_few c beside in omega (arith, i)
       | false ↦ let i = kids_few c beside in omega (arith, i)
     ]

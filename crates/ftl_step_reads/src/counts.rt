@@ -87,7 +87,8 @@ fn seen_count(tree: &Tree<'_>, node: u32, reads: &[PartRead], at_hand: u32) -> u
 fn occurrence_count(tree: &Tree<'_>, node: u32, read: PartRead, at_hand: u32) -> u64
     requires node { node < size tree.now.tree }
     requires read { IsOfChildren (children_in tree.now node) (read_meant read) }
-    ensures count { result ≡ length (occurrences (kids_in tree.now node) at_hand (read_meant read)) }
+    ensures count { result
+        ≡ length (occurrences (kids_in tree.now node) at_hand (read_meant read)) }
     ensures bound { result ≤ 1 }
 {
     match read {

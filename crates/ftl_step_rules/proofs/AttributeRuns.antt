@@ -1,10 +1,11 @@
 -- The attributes of interfaces and classes as runs of numbers.
 use Rattle.std.proofs.Common.{◌≡◌, ℕ, zero, suc, ◌+◌, ◌-◌, ◌<◌, ◌≤◌, List, [], ◌∷◌, ◌++◌, append_assoc, flat_map, get_or, length, map, take, refl, sym, ◌∙◌, ap, arith, length-append, add-one}
 use Rattle.std.specs.List.{range_with_len}
-use Rattle.ftl_grammar_faults.specs.Numbering.{numbered}
+use Rattle.ftl_checked.specs.Numbering.{numbered}
 
 -- the numbers of numbered entries are a run
-pub numbers_of : {X : Type 0} (n : ℕ) (xs : List X) → map (λ (a : ℕ × X). a.0) (numbered n xs) ≡ range_with_len n (length xs)
+pub numbers_of : {X : Type 0} (n : ℕ) (xs : List X)
+    → map (λ (a : ℕ × X). a.0) (numbered n xs) ≡ range_with_len n (length xs)
 numbers_of n [] = refl
 numbers_of n (x ∷ xs) =
     ap (λ ys. n ∷ ys) (numbers_of (suc n) xs ∙ ap (λ m. range_with_len m (length xs)) (sym (add-one n)))
@@ -52,7 +53,8 @@ run_more before old new first at low so_far is =
     ∙ ap (λ n. range_with_len first n) (let z : at - first + 1 ≡ at + 1 - first = omega (arith, low) in z))
 
 -- the attributes of an interface past the end, and of one that is there
-pub count_whole : {X Y : Type 0} (f : X → List Y) (xs : List X) → length (flat_map f (take (length xs) xs)) ≡ length (flat_map f xs)
+pub count_whole : {X Y : Type 0} (f : X → List Y) (xs : List X)
+    → length (flat_map f (take (length xs) xs)) ≡ length (flat_map f xs)
 count_whole f [] = refl
 count_whole f (x ∷ xs) =
     length-append (f x) (flat_map f (take (length xs) xs))

@@ -6,9 +6,9 @@ use Rattle.ftl_syntax.specs.Trees as trees
 use Rattle.ftl_syntax.specs.declared.rules.Class.{Class}
 use Rattle.ftl_syntax.specs.declared.rules.Grammar.{Grammar}
 use Rattle.ftl_syntax.specs.declared.rules.Interface.{Interface}
-use Rattle.ftl_grammar_faults.specs.Checked.{all_attributes}
-use Rattle.ftl_grammar_faults.specs.Numbering.{class_at, interface_at, own_attributes, own_count, shared_attributes, shared_count}
-use Rattle.ftl_grammar_tables.proofs.AttrInfos.{attribute_count_is}
+use Rattle.ftl_checked.specs.Checked.{all_attributes}
+use Rattle.ftl_checked.specs.Numbering.{class_at, interface_at, own_attributes, own_count, shared_attributes, shared_count}
+use Rattle.ftl_checked.proofs.AttrInfos.{attribute_count_is}
 use Rattle.ftl_step_rules.proofs.AttributeRuns.{count_whole, numbers_of, run_within}
 
 pub record SharedRun (g : Grammar) (xs : List Interface) (i first len : ℕ) (x : Interface) : Type 0 where
@@ -37,13 +37,14 @@ shared_is g xs i first len x run =
     (run.long ∙ ap (λ (y : Interface). length y.attrs) here)
     ∙ sym (numbers_of (shared_count (take i g.interfaces)) (interface_at g i).attrs)
 
-pub record OwnRun (g : Grammar) (xs : List Interface) (ks : List Class) (k shared own len : ℕ) (x : Class) : Type 0 where
-  pub interfaces : xs ≡ g.interfaces
-  pub all : ks ≡ g.classes
-  pub known : k < length ks
-  pub before : shared ≡ shared_count (take (length xs) xs)
-  pub start : own ≡ own_count (take k ks)
-  pub long : len ≡ length (get_or ks k x).attrs
+pub record OwnRun (g : Grammar) (xs : List Interface) (ks : List Class) (k shared own len : ℕ) (x : Class) : Type 0
+  where
+    pub interfaces : xs ≡ g.interfaces
+    pub all : ks ≡ g.classes
+    pub known : k < length ks
+    pub before : shared ≡ shared_count (take (length xs) xs)
+    pub start : own ≡ own_count (take k ks)
+    pub long : len ≡ length (get_or ks k x).attrs
 
 pub own_fits : (g : Grammar) (xs : List Interface) (ks : List Class) (k shared own len count : ℕ) (x : Class)
     → OwnRun g xs ks k shared own len x → count ≡ length (all_attributes g) → count < 2 ^ 32

@@ -46,7 +46,8 @@ module _ (g : AttributeGrammar) (law : IsLawful g) (class : ℕ) (known : class 
   run ops = flat_map (rules_run g) ops
 
   -- a rule stands where its test passes first
-  module _ (child : Option ℕ) (a : ℕ) (w : RuleName) (only : (v : RuleName) → is_of_class class child a v ≡ true → v ≡ w)
+  module _ (child : Option ℕ) (a : ℕ) (w : RuleName) (only : (v : RuleName) → is_of_class class child a v ≡ true →
+      v ≡ w)
       (passes : is_of_class class child a w ≡ true) where
     there : Contains g.rules w → run (rule_in g class child a) ≡ w ∷ []
     there h = by (rule_number g class child a) refl

@@ -21,7 +21,8 @@ returns-in_default-clause-count c =
     root_is g law t.tree fits c.args.node (grind (arith, c.in_default)) in
     sym
     (ap (λ (p : Path). read_count g t.tree (instance_of p c.args.attr)) is
-    ∙ at_root g law t.tree fits c.args.attr (subst (Has t.tree) is (there g law t.tree fits c.args.node c.requires.node))
+    ∙ at_root g law t.tree fits c.args.attr (subst (Has t.tree) is (there g law t.tree fits c.args.node
+    c.requires.node))
     (subst (λ p. OfClass g (class_at t.tree p) c.args.attr) is c.requires.attr)
     (subst (λ p. rule_number g (class_at t.tree p) None c.args.attr ≡ None) is c.requires.none))
 

@@ -31,7 +31,8 @@ bounds-rows-child c =
     (c.as_slice-tables.ensures ∙ c.requires.tables.kids) below in
     let declared : c.args.child < g.child_count k =
     subst (λ n. c.args.child < g.child_count n) (sym is) c.requires.child in
-    let at_child = entry (λ n. rules_by_attribute g k (Some n)) (g.child_count k) c.as_slice-rows.result.now c.args.child
+    let at_child = entry (λ n. rules_by_attribute g k (Some n)) (g.child_count k) c.as_slice-rows.result.now
+    c.args.child
     (c.as_slice-rows.ensures ∙ c.index-tables-class.is ∙ at_class.is c.index-tables-class.result) declared in
     at_child.within
 
@@ -48,7 +49,8 @@ bounds-row-attr c =
     (c.as_slice-tables.ensures ∙ c.requires.tables.kids) below in
     let declared : c.args.child < g.child_count k =
     subst (λ n. c.args.child < g.child_count n) (sym is) c.requires.child in
-    let at_child = entry (λ n. rules_by_attribute g k (Some n)) (g.child_count k) c.as_slice-rows.result.now c.args.child
+    let at_child = entry (λ n. rules_by_attribute g k (Some n)) (g.child_count k) c.as_slice-rows.result.now
+    c.args.child
     (c.as_slice-rows.ensures ∙ c.index-tables-class.is ∙ at_class.is c.index-tables-class.result) declared in
     let at_attr = entry (rule_number g k (Some c.args.child)) g.attribute_count c.as_slice-row.result.now c.args.attr
     (c.as_slice-row.ensures ∙ c.index-rows-child.is ∙ at_child.is c.index-rows-child.result) c.requires.attr in
@@ -67,7 +69,8 @@ returns c =
     (c.as_slice-tables.ensures ∙ c.requires.tables.kids) below in
     let declared : c.args.child < g.child_count k =
     subst (λ n. c.args.child < g.child_count n) (sym is) c.requires.child in
-    let at_child = entry (λ n. rules_by_attribute g k (Some n)) (g.child_count k) c.as_slice-rows.result.now c.args.child
+    let at_child = entry (λ n. rules_by_attribute g k (Some n)) (g.child_count k) c.as_slice-rows.result.now
+    c.args.child
     (c.as_slice-rows.ensures ∙ c.index-tables-class.is ∙ at_class.is c.index-tables-class.result) declared in
     let at_attr = entry (rule_number g k (Some c.args.child)) g.attribute_count c.as_slice-row.result.now c.args.attr
     (c.as_slice-row.ensures ∙ c.index-rows-child.is ∙ at_child.is c.index-rows-child.result) c.requires.attr in

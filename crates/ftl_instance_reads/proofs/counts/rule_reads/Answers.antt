@@ -15,7 +15,8 @@ pub bounds-rows-rule : goal.bounds-rows-rule
 bounds-rows-rule c =
     let g = meant c.args.tree.now.checked in
     let rows = c.as_slice-rows.result.now in
-    let are : map parts_meant rows ≡ all_parts g = ap (map parts_meant) c.as_slice-rows.ensures ∙ c.requires.tables.parts in
+    let are : map parts_meant rows ≡ all_parts g = ap (map parts_meant) c.as_slice-rows.ensures ∙
+    c.requires.tables.parts in
     let none : RuleParts = Plain [] in
     (parts_at g rows c.args.rule none are c.requires.rule).0
 
@@ -23,11 +24,13 @@ pub read_count-requires-clause-parts : goal.read_count-requires-clause-parts
 read_count-requires-clause-parts c =
     let g = meant c.args.tree.now.checked in
     let rows = c.as_slice-rows.result.now in
-    let are : map parts_meant rows ≡ all_parts g = ap (map parts_meant) c.as_slice-rows.ensures ∙ c.requires.tables.parts in
+    let are : map parts_meant rows ≡ all_parts g = ap (map parts_meant) c.as_slice-rows.ensures ∙
+    c.requires.tables.parts in
     let here = (parts_at g rows c.args.rule c.index-rows-rule.result are c.requires.rule).1 in
     let may = rule_may_stand g c.requires.sound (class_in c.args.tree.now c.args.node) c.args.rule c.requires.rule
     c.requires.class in
-    let whole : MayStandAt c.args.tree.now c.args.node (parts_meant (get_or rows c.args.rule c.index-rows-rule.result)) =
+    let whole : MayStandAt c.args.tree.now c.args.node (parts_meant (get_or rows c.args.rule
+    c.index-rows-rule.result)) =
     subst (MayStandAt c.args.tree.now c.args.node) (sym here) (record { children = may.children; few = may.few }) in
     subst (λ (p : RuleParts). MayStandAt c.args.tree.now c.args.node (parts_meant p)) (sym c.index-rows-rule.is) whole
 
@@ -35,7 +38,8 @@ pub returns-clause-count : goal.returns-clause-count
 returns-clause-count c =
     let g = meant c.args.tree.now.checked in
     let rows = c.as_slice-rows.result.now in
-    let are : map parts_meant rows ≡ all_parts g = ap (map parts_meant) c.as_slice-rows.ensures ∙ c.requires.tables.parts in
+    let are : map parts_meant rows ≡ all_parts g = ap (map parts_meant) c.as_slice-rows.ensures ∙
+    c.requires.tables.parts in
     let here = (parts_at g rows c.args.rule c.index-rows-rule.result are c.requires.rule).1 in
     c.read_count.ensures.count
     ∙ ap (λ (p : Parts). reads_here c.args.tree.now c.args.node p c.args.number)

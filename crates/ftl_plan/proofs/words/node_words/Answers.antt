@@ -53,6 +53,7 @@ returns c =
     record {
       added =
           c.loop-attr.invariant
-          ∙ ap (λ (xs : List ℕ). c.args.words.now.items ++ map (λ a. word_before g t.tree (instance_in t c.args.node a)) xs)
+          ∙ ap (λ (xs : List ℕ). c.args.words.now.items ++ map (λ a. word_before g t.tree (instance_in t
+          c.args.node a)) xs)
           (take_all place c.as_slice-attr-items.result.now past ∙ row);
     }

@@ -8,4 +8,5 @@ abbrev pub invariant-loop-attr : goal.invariant-loop-attr
 invariant-loop-attr l =
     l.words.items
     ≡ l.initial.words.items
-    ++ map (λ a. word_before (meant l.tree.checked) l.tree.tree (instance_in l.tree l.node a)) (take l.attr-index l.attr-items)
+    ++ map (λ a. word_before (meant l.tree.checked) l.tree.tree (instance_in l.tree l.node a)) (take l.attr-index
+    l.attr-items)

@@ -13,7 +13,8 @@ returns-in-Some c =
     let g = meant t.checked in
     let s = stages_of c.args.accepted.now in
     let are : AreCounts g s t.tree (instance_count g t.tree) c.as_slice.result.now =
-    subst (AreCounts g s t.tree (instance_count g t.tree)) (sym c.as_slice.ensures.value) c.in_ok-counts.ensures.counts in
+    subst (AreCounts g s t.tree (instance_count g t.tree)) (sym c.as_slice.ensures.value)
+    c.in_ok-counts.ensures.counts in
     let found : Some c.in-Some.fault ≡ first_of_stages s (too_many_reads g s t.tree) =
     c.in-Some.ensures.fault ∙ many_is g s t.tree c.as_slice.result.now are in
     record { fault = ap (λ o. or_else o (first_of_stages s (step_too_wide g s t.tree))) found }
@@ -24,7 +25,8 @@ returns c =
     let g = meant t.checked in
     let s = stages_of c.args.accepted.now in
     let are : AreCounts g s t.tree (instance_count g t.tree) c.as_slice.result.now =
-    subst (AreCounts g s t.tree (instance_count g t.tree)) (sym c.as_slice.ensures.value) c.in_ok-counts.ensures.counts in
+    subst (AreCounts g s t.tree (instance_count g t.tree)) (sym c.as_slice.ensures.value)
+    c.in_ok-counts.ensures.counts in
     let more : AreCounts g s t.tree (instance_count g t.tree) c.as_slice-in-None.result.now =
     subst (AreCounts g s t.tree (instance_count g t.tree)) (sym c.as_slice-in-None.ensures.value)
     c.in_ok-counts.ensures.counts in

@@ -6,4 +6,5 @@ use Rattle.ftl_step_rules.proofs.attributes.class_attributes.Goals as goal
 pub loop-class-preserved : goal.loop-class-preserved
 loop-class-preserved c =
     next_entry (attributes_of (meant c.args.checked.now)) c.loop-class.class c.loop-class.table c.push.new.self
-    c.in_ok-attributes_of.field-0 c.in_ok-push.ensures.ok c.loop-class.invariant c.in_ok-attributes_of.ensures.attributes
+    c.in_ok-attributes_of.field-0 c.in_ok-push.ensures.ok c.loop-class.invariant
+    c.in_ok-attributes_of.ensures.attributes

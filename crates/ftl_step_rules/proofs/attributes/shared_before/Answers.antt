@@ -7,7 +7,8 @@ use Rattle.ftl_step_rules.proofs.attributes.shared_before.Goals as goal
 pub overflow_add-total : goal.overflow_add-total
 overflow_add-total c =
     let x = c.index-interfaces-at.result in
-    let w = run_within (λ (y : Interface). y.attrs) c.args.interfaces.now c.loop-at.at x (let h = c.loop-at-test.true in let k = c.requires.within in omega (arith, h, k)) in
+    let w = run_within (λ (y : Interface). y.attrs) c.args.interfaces.now c.loop-at.at x (let h =
+    c.loop-at-test.true in let k = c.requires.within in omega (arith, h, k)) in
     let len = c.len-total.ensures in
     let is = c.index-interfaces-at.is in
     grind (arith, common_steps, w, len, is)

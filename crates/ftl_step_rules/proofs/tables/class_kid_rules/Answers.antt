@@ -6,5 +6,6 @@ use Rattle.ftl_step_rules.proofs.tables.class_kid_rules.Goals as goal
 
 pub loop-child-preserved : goal.loop-child-preserved
 loop-child-preserved c =
-    next_entry (λ n. rules_by_attribute (meant c.args.index.now) c.args.class (Some n)) c.loop-child.child c.loop-child.table c.push.new.self c.in_ok-kid_row.field-0 c.in_ok-push.ensures.ok
+    next_entry (λ n. rules_by_attribute (meant c.args.index.now) c.args.class (Some n)) c.loop-child.child
+    c.loop-child.table c.push.new.self c.in_ok-kid_row.field-0 c.in_ok-push.ensures.ok
     c.loop-child.invariant c.in_ok-kid_row.ensures.rules

@@ -6,5 +6,6 @@ use Rattle.ftl_step_rules.proofs.tables.kid_row.Goals as goal
 
 pub loop-attr-preserved : goal.loop-attr-preserved
 loop-attr-preserved c =
-    next_entry (rule_number (meant c.args.index.now) c.args.class (Some c.args.child)) c.loop-attr.attr c.loop-attr.row c.push.new.self c.kid.result c.in_ok-push.ensures.ok
+    next_entry (rule_number (meant c.args.index.now) c.args.class (Some c.args.child)) c.loop-attr.attr
+    c.loop-attr.row c.push.new.self c.kid.result c.in_ok-push.ensures.ok
     c.loop-attr.invariant c.kid.ensures.number

@@ -6,5 +6,6 @@ use Rattle.ftl_step_rules.proofs.tables.own_rules.Goals as goal
 
 pub loop-class-preserved : goal.loop-class-preserved
 loop-class-preserved c =
-    next_entry (λ k. rules_by_attribute (meant c.args.index.now) k None) c.loop-class.class c.loop-class.table c.push.new.self c.in_ok-own_row.field-0 c.in_ok-push.ensures.ok
+    next_entry (λ k. rules_by_attribute (meant c.args.index.now) k None) c.loop-class.class c.loop-class.table
+    c.push.new.self c.in_ok-own_row.field-0 c.in_ok-push.ensures.ok
     c.loop-class.invariant c.in_ok-own_row.ensures.rules
