@@ -2,9 +2,9 @@
 use Rattle.std.specs.Prelude.{◌≡◌, ℕ, ◌≤◌, length, Option, Some, None, Result, Ok, Err}
 use Rattle.ftl_model.specs.Tree.{Forest}
 use Rattle.ftl_order.specs.Ordered.{IsOrdered}
-use Rattle.ftl_checked.specs.Checked.{CheckedGrammar}
+use Rattle.ftl_grammar_faults.specs.Checked.{CheckedGrammar}
 use Rattle.ftl_dep_table.specs.Meant.{meant}
-use Rattle.ftl_lawful.specs.Faultless.{HasKinds}
+use Rattle.ftl_grammar_faults.specs.Kinds.{HasKinds}
 use Rattle.ftl_programs.specs.RuleCode.{Compiled, rule_codes}
 use Rattle.ftl_stages.specs.Stages.{stages_of}
 use Rattle.ftl_stages.specs.declared.types.Schedule.{Schedule}

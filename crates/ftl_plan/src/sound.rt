@@ -1,7 +1,7 @@
 //! Why the grammar of a plan is lawful.
 ghost use Rattle.ftl_dep_table.specs.Meant.{meant};
 ghost use Rattle.ftl_instance_reads.specs.ReadTables.{IsSound};
-ghost use Rattle.ftl_lawful.specs.Faultless.{HasKinds};
+ghost use Rattle.ftl_grammar_faults.specs.Kinds.{HasKinds};
 
 use ftl_checked::Checked;
 use ftl_lawful::{faultless_grammars_are_lawful, faultless_grammars_are_small};

@@ -1,7 +1,7 @@
 -- The attributes of interfaces and classes as runs of numbers.
 use Rattle.std.proofs.Common.{◌≡◌, ℕ, zero, suc, ◌+◌, ◌-◌, ◌<◌, ◌≤◌, List, [], ◌∷◌, ◌++◌, append_assoc, flat_map, get_or, length, map, take, refl, sym, ◌∙◌, ap, arith, length-append, add-one}
 use Rattle.std.specs.List.{range_with_len}
-use Rattle.ftl_checked.specs.Numbering.{numbered}
+use Rattle.ftl_grammar_faults.specs.Numbering.{numbered}
 
 -- the numbers of numbered entries are a run
 pub numbers_of : {X : Type 0} (n : ℕ) (xs : List X)

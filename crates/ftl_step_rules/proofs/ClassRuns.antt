@@ -6,9 +6,9 @@ use Rattle.ftl_syntax.specs.Trees as trees
 use Rattle.ftl_syntax.specs.declared.rules.Class.{Class}
 use Rattle.ftl_syntax.specs.declared.rules.Grammar.{Grammar}
 use Rattle.ftl_syntax.specs.declared.rules.Interface.{Interface}
-use Rattle.ftl_checked.specs.Checked.{all_attributes}
-use Rattle.ftl_checked.specs.Numbering.{class_at, interface_at, own_attributes, own_count, shared_attributes, shared_count}
-use Rattle.ftl_checked.proofs.AttrInfos.{attribute_count_is}
+use Rattle.ftl_grammar_faults.specs.Checked.{all_attributes}
+use Rattle.ftl_grammar_faults.specs.Numbering.{class_at, interface_at, own_attributes, own_count, shared_attributes, shared_count}
+use Rattle.ftl_grammar_tables.proofs.AttrInfos.{attribute_count_is}
 use Rattle.ftl_step_rules.proofs.AttributeRuns.{count_whole, numbers_of, run_within}
 
 pub record SharedRun (g : Grammar) (xs : List Interface) (i first len : ℕ) (x : Interface) : Type 0 where

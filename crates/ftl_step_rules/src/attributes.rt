@@ -2,7 +2,7 @@
 ghost use Rattle.std.specs.Prelude.{◌≡◌, ◌<◌, ◌≤◌, ◌+◌, ◌++◌, flat_map, length, take, IfOk, OnOk};
 ghost use Rattle.std.specs.List.{range_with_len};
 ghost use Rattle.ftl_model.specs.AttributeGrammar.{attributes_of};
-ghost use Rattle.ftl_checked.specs.Numbering.{own_count, shared_count};
+ghost use Rattle.ftl_grammar_faults.specs.Numbering.{own_count, shared_count};
 ghost use Rattle.ftl_dep_table.specs.Meant.{meant};
 ghost use Rattle.ftl_step_rules.specs.RuleTables.{by_number};
 

@@ -1,7 +1,7 @@
 //! Tables of the numbers of rules.
 ghost use Rattle.std.specs.Prelude.{◌≡◌, ◌<◌, None, Some, length, IfOk};
-ghost use Rattle.ftl_checked.specs.Checked.{all_attributes};
-ghost use Rattle.ftl_checked.specs.Numbering.{class_at};
+ghost use Rattle.ftl_grammar_faults.specs.Checked.{all_attributes};
+ghost use Rattle.ftl_grammar_faults.specs.Numbering.{class_at};
 ghost use Rattle.ftl_dep_table.specs.Meant.{meant};
 ghost use Rattle.ftl_visit_list.specs.Visits.{rule_number};
 ghost use Rattle.ftl_step_rules.specs.RuleTables.{by_number, class_kid_rules, kid_rules, own_rules};

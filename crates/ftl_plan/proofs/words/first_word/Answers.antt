@@ -2,7 +2,7 @@ use Rattle.std.proofs.Common.{◌≡◌, true, ap, ◌∙◌, sym}
 use Rattle.ftl_model.specs.AttributeGrammar.{Sort, is_input}
 use Rattle.ftl_model.specs.Path.{node_at}
 use Rattle.ftl_model.specs.Values.{word_of_value}
-use Rattle.ftl_checked.specs.Checked.{CheckedGrammar}
+use Rattle.ftl_grammar_faults.specs.Checked.{CheckedGrammar}
 use Rattle.ftl_dep_table.specs.Meant.{meant}
 use Rattle.ftl_items.specs.WordLaws.{first_word}
 use Rattle.ftl_instance_reads.specs.ReadTables.{class_in, instance_in}

@@ -1,5 +1,5 @@
 use Rattle.std.proofs.Common.{◌≡◌, take}
-use Rattle.ftl_checked.specs.Numbering.{own_count}
+use Rattle.ftl_grammar_faults.specs.Numbering.{own_count}
 use Rattle.ftl_step_rules.proofs.attributes.own_before.Given as goal
 
 abbrev pub invariant-loop-at : goal.invariant-loop-at

@@ -1,6 +1,6 @@
 use Rattle.std.proofs.Common.{ap, ◌∙◌}
 use Rattle.ftl_dep_table.specs.Meant.{meant}
-use Rattle.ftl_checked.specs.Checked.{CheckedGrammar}
+use Rattle.ftl_grammar_faults.specs.Checked.{CheckedGrammar}
 use Rattle.ftl_step_rules.specs.RuleTables.{kid_rules, own_rules}
 use Rattle.ftl_instance_reads.proofs.tables.ReadTables.new.Goals as goal
 

@@ -1,5 +1,5 @@
 use Rattle.std.proofs.Common.{◌≡◌, ap, ◌∙◌, sym, Option, Some, None, subst}
-use Rattle.ftl_checked.specs.Checked.{CheckedGrammar}
+use Rattle.ftl_grammar_faults.specs.Checked.{CheckedGrammar}
 use Rattle.ftl_dep_table.specs.Meant.{meant}
 use Rattle.ftl_stages.specs.Stages.{stages_of}
 use Rattle.ftl_plan_limits.specs.PlanFaults.{first_fault}
