@@ -28,7 +28,8 @@ def earlier(names, place, reads, prefix):
 
 
 def wide(reads):
-    """128 classes with 64 shared and 15 own attributes each, each of which reads those before it, and a child."""
+    """128 classes with 64 shared and 15 own attributes each, each of which reads those before it, and a child; and an
+    interface of 64 inputs, so that there are 2048 attributes in all."""
     shared = [f"s{k}" for k in range(64)]
     own = [f"l{k}" for k in range(OWN)]
     names = own + shared
@@ -39,7 +40,8 @@ def wide(reads):
         rules.append(f"self.{name}:={sum_of(below + before)};")
     body = "\n".join(rules)
     classes = "".join(f"class C{n}:R{{local {','.join(own)}; c:R;\n{body}}}\n" for n in range(CLASSES))
-    text = f"root R; interface R {{ syn {','.join(shared)}; }}\n{classes}"
+    inputs = ",".join(f"i{k}" for k in range(64))
+    text = f"root R; interface R {{ syn {','.join(shared)}; }} interface I {{ input {inputs}; }}\n{classes}"
     entries = " ".join([f"R.{name}" for name in shared])
     locals_ = " ".join(f"C{n}.{name}" for name in own for n in range(CLASSES))
     return text, f"bottomup {{ {locals_} {entries} }}", CLASSES * len(names)
