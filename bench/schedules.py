@@ -1,0 +1,82 @@
+#!/usr/bin/env python3
+"""Finds the automatic schedule of grammars of 256 to 2048 computed attributes: of one pass, of one pass with many reads,
+and of as many passes as attributes. Prints the milliseconds of finding it, and the growth from size to size.
+
+usage: bench/schedules.py [PROGRAM]     PROGRAM is crates/ftl_schedule_bench/out/ftl_schedule_bench if left out
+"""
+import os
+import subprocess
+import sys
+
+TOP = os.path.dirname(os.path.dirname(os.path.abspath(__file__)))
+RUNS = 5
+HELD = 64  # attributes of an interface
+
+
+def one_pass(count, reads):
+    """Synthesized attributes alone, each of which reads so many of those before it, and one of a child."""
+    text = ["root I0;"]
+    for n in range(count // HELD):
+        text.append(f"interface I{n} {{ syn {','.join(f'a{k}' for k in range(HELD))}; }}")
+    for n in range(count // HELD):
+        last = n + 1 == count // HELD
+        rules = []
+        for k in range(HELD):
+            own = [f"self.a{j}" for j in range(max(0, k - reads), k)]
+            below = [] if last else [f"d.a{HELD - 1 - k}"]
+            rules.append(f"self.a{k} := {' + '.join(own + below + ['c.a%d' % k])};")
+        text.append(f"class C{n} : I{n} {{ c : I{n}; {'' if last else f'd : I{n + 1};'} {' '.join(rules)} }}")
+    return "\n".join(text) + "\n"
+
+
+def one_each(count):
+    """A chain of attributes, in turn of those that read themselves at the parent, so that only a topdown pass may have
+    them, and of those that read themselves at a child, so that only a bottomup pass may."""
+    text = ["root R;", "interface R { }"]
+    inherited = [f"a{k}" for k in range(0, HELD, 2)]
+    synthesized = [f"a{k}" for k in range(1, HELD, 2)]
+    for n in range(count // HELD):
+        text.append(f"interface I{n} {{ inh {','.join(inherited)}; syn {','.join(synthesized)}; }}")
+    text.append("class C : R { d : I0; " + " ".join(f"d.{a} := 0;" for a in inherited) + " }")
+    for n in range(count // HELD):
+        rules = ["c.a0 := self.a0;"]
+        rules += [f"c.a{k} := self.a{k} + self.a{k - 1};" for k in range(2, HELD, 2)]
+        rules += [f"self.a{k} := c.a{k} + self.a{k - 1};" for k in range(1, HELD, 2)]
+        below = ""
+        if n + 1 < count // HELD:
+            below = f"d : I{n + 1};"
+            rules += [f"d.a0 := self.a{HELD - 1};"] + [f"d.{a} := 0;" for a in inherited[1:]]
+        text.append(f"class C{n} : I{n} {{ c : I{n}; {below} {' '.join(rules)} }}")
+    return "\n".join(text) + "\n"
+
+
+def run(program, text):
+    """The least nanoseconds of finding the schedule."""
+    page = f"%page 1\n%grammar\n{text}%schedule auto\n".encode()
+
+    def once():
+        told = subprocess.run([program, "time"], input=page, stdout=subprocess.PIPE, check=True).stdout.split()
+        if told[4:] != [b"found"]:
+            sys.exit(f"the program told {told}")
+        return int(told[3])
+    return min(once() for _ in range(RUNS))
+
+
+def main():
+    program = sys.argv[1] if len(sys.argv) > 1 else os.path.join(TOP, "crates/ftl_schedule_bench/out/ftl_schedule_bench")
+    if not os.path.exists(program):
+        sys.exit(f"{program} is not built: run 'rt run' in crates/ftl_schedule_bench once")
+    print(f"{'grammar':32} {'attributes':>10} {'ms':>9} {'growth':>7}")
+    grammars = [("one pass, 1 read beside", lambda n: one_pass(n, 1)), ("one pass, 63 reads beside", lambda n: one_pass(n, 63)),
+                ("as many passes as attributes", one_each)]
+    for name, make in grammars:
+        before = None
+        for count in (256, 512, 1024, 2048):
+            time = run(program, make(count))
+            growth = "" if before is None else f"{time / before:7.2f}"
+            print(f"{name:32} {count:10} {time / 1e6:9.2f} {growth:>7}")
+            before = time
+
+
+if __name__ == "__main__":
+    main()
