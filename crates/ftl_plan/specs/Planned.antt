@@ -4,7 +4,6 @@ use Rattle.ftl_model.specs.Tree.{Forest}
 use Rattle.ftl_order.specs.Ordered.{IsOrdered}
 use Rattle.ftl_grammar_faults.specs.Checked.{CheckedGrammar}
 use Rattle.ftl_dep_table.specs.Meant.{meant}
-use Rattle.ftl_grammar_faults.specs.Kinds.{HasKinds}
 use Rattle.ftl_programs.specs.RuleCode.{Compiled, rule_codes}
 use Rattle.ftl_stages.specs.Stages.{stages_of}
 use Rattle.ftl_stages.specs.declared.types.Schedule.{Schedule}
@@ -19,10 +18,9 @@ pub record PlanMeaning : Type 0 where
   pub tree : Forest
   pub grain : ℕ
 
--- the schedule is ordered, and the code is that of the grammar, whose attributes are declared by words that may stand
--- there; there are at most so many stages, and the grain is in range
+-- the schedule is ordered, and the code is that of the grammar; there are at most so many stages, and the grain is in
+-- range
 pub record MayBePlanned (p : PlanMeaning) : Type 0 where
-  pub kinds : HasKinds p.checked.grammar
   pub ordered : IsOrdered (meant p.checked) (stages_of p.schedule)
   pub stages : length (stages_of p.schedule) ≤ 2048
   pub rules : p.programs.rules ≡ rule_codes p.checked.grammar

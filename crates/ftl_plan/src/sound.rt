@@ -1,15 +1,12 @@
 //! Why the grammar of a plan is lawful.
 ghost use Rattle.ftl_dep_table.specs.Meant.{meant};
 ghost use Rattle.ftl_instance_reads.specs.ReadTables.{IsSound};
-ghost use Rattle.ftl_grammar_faults.specs.Kinds.{HasKinds};
 
 use ftl_checked::Checked;
 use ftl_lawful::{faultless_grammars_are_lawful, faultless_grammars_are_small};
 
-/// A law: a checked grammar whose attributes are declared by words that may stand there is lawful,
-/// and within the limits on counts.
+/// A law: a checked grammar is lawful, and within the limits on counts.
 pub(crate) fn is_sound(checked: &Checked)
-    requires kinds { HasKinds checked.now.grammar }
     ensures sound { IsSound (meant checked.now) }
 {
     let _ = checked.grammar();

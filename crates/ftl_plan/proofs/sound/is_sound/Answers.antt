@@ -4,7 +4,7 @@ use Rattle.ftl_plan.proofs.sound.is_sound.Goals as goal
 pub returns : goal.returns
 returns c =
     let k = c.args.checked.now in
-    let fine : IsFaultless k.grammar = record { faults = c.grammar.ensures.lawful; kinds = c.requires.kinds } in
+    let fine : IsFaultless k.grammar = record { faults = c.grammar.ensures.lawful; kinds = c.grammar.ensures.kinds } in
     record {
       sound = record {
         law = c.faultless_grammars_are_lawful.ensures.lawful k.grammar k.width fine;
