@@ -41,7 +41,7 @@ fn own_rules(alloc: Global, index: &RuleIndex<'_>) -> Result<Items<Items<Option<
     Ok(table)
 }
 
-#[tactic(auto, using(ftl_checked::proofs::AttrInfos::attribute_count_is))]
+#[tactic(auto, using(ftl_grammar_tables::proofs::AttrInfos::attribute_count_is))]
 fn own_row(
     alloc: Global,
     index: &RuleIndex<'_>,
@@ -84,7 +84,7 @@ fn class_kid_rules(
     Ok(table)
 }
 
-#[tactic(auto, using(ftl_checked::proofs::AttrInfos::attribute_count_is))]
+#[tactic(auto, using(ftl_grammar_tables::proofs::AttrInfos::attribute_count_is))]
 fn kid_row(
     alloc: Global,
     index: &RuleIndex<'_>,
