@@ -1,0 +1,3 @@
+pub mod Words
+pub mod ShownAmong
+pub mod Lines

@@ -1,0 +1,12 @@
+//! The printed boxes of a tree. Goes in: a tree of a checked grammar, and the word of each of its
+//! attribute instances. Comes out: a line for each node, which `ftl_model` defines for the table
+//! of their values. `specs/WordValues.antt` says which value a word stands for.
+#![tactic(auto)]
+
+mod laws;
+mod print;
+mod shown;
+mod word;
+
+pub use laws::words_are_undone;
+pub use print::{print_boxes, shows_overflow};
