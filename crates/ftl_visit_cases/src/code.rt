@@ -1,0 +1,80 @@
+//! Code of parts of rules.
+
+use ftl_base::Cmp;
+use ftl_code::Instruction;
+use ftl_visit::{Part, Programs};
+use std::alloc::AllocError;
+use std::fmt::Write;
+use std::str::SplitWhitespace;
+
+/// The rule and the part that these words name.
+pub(crate) fn part_in(words: &mut SplitWhitespace<'_>) -> Option<(u32, Part)> {
+    let rule = words.next()?.parse::<u32>().ok()?;
+    let part = match words.next()? {
+        "plain" => Part::Plain,
+        "first" => Part::First,
+        "then" => Part::Then,
+        "from" => Part::From,
+        "with" => Part::With,
+        _ => return None,
+    };
+    Some((rule, part))
+}
+
+/// The code that a request asks for by a rule and a part, and how many reads it takes.
+pub(crate) fn write_code(
+    out: &mut String,
+    programs: &Programs,
+    request: &str,
+) -> Result<(), AllocError> {
+    let Some((rule, part)) = part_in(&mut request.split_whitespace()) else {
+        return out.push_str(" no request");
+    };
+    let Some(code) = programs.code(rule, part) else {
+        return out.push_str(" no such part");
+    };
+    write!(out, " {} reads:", code.read_count())?;
+    for instruction in code.instructions() {
+        write_instruction(out, *instruction)?;
+    }
+    Ok(())
+}
+
+fn write_instruction(out: &mut String, instruction: Instruction) -> Result<(), AllocError> {
+    match instruction {
+        Instruction::Number(number) => write!(out, " {number}"),
+        Instruction::Divide(number) => write!(out, " divide-by-{number}"),
+        Instruction::Compare(comparison) => out.push_str(comparison_word(comparison)),
+        other => out.push_str(word_of(other)),
+    }
+}
+
+fn word_of(instruction: Instruction) -> &'static str {
+    match instruction {
+        Instruction::Read => " read",
+        Instruction::Last => " last",
+        Instruction::Accumulator => " acc",
+        Instruction::Negate => " negate",
+        Instruction::Add => " add",
+        Instruction::Subtract => " subtract",
+        Instruction::Multiply => " multiply",
+        Instruction::Least => " least",
+        Instruction::Greatest => " greatest",
+        Instruction::Choose => " choose",
+        Instruction::Not => " not",
+        Instruction::Both => " both",
+        Instruction::Either => " either",
+        Instruction::Number(_) | Instruction::Divide(_) | Instruction::Compare(_) => "",
+    }
+}
+
+fn comparison_word(comparison: Cmp) -> &'static str {
+    match comparison {
+        Cmp::Less => " less",
+        Cmp::LessEq => " less-or-equal",
+        Cmp::More => " more",
+        Cmp::MoreEq => " more-or-equal",
+        Cmp::Equal => " equal",
+        Cmp::Unequal => " unequal",
+    }
+}
