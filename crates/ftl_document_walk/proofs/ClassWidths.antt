@@ -1,5 +1,6 @@
 -- How many attributes a class has.
-use Rattle.std.proofs.Common.{◌≡◌, ℕ, suc, ◌+◌, ◌<◌, ◌≤◌, refl, sym, subst, ap, ⊎_elim, arith, List, [], ◌∷◌, ◌++◌, length, take, get_or, None, length-append}
+use Rattle.std.proofs.Common.{◌≡◌, ℕ, suc, ◌+◌, ◌<◌, ◌≤◌, refl, sym, subst, ap, ⊎_elim, arith, List, [], ◌∷◌, ◌++◌}
+use Rattle.std.proofs.Common.{length, take, get_or, None, length-append}
 use Rattle.std.proofs.lemmas.Bool.{cases_lt}
 use Rattle.std.proofs.lemmas.List.{length-map, get_or_past}
 use Rattle.std.proofs.Math.Seq.{get_or-append_seam}
@@ -9,7 +10,8 @@ use Rattle.ftl_syntax.specs.declared.rules.AttrDecl.{AttrDecl}
 use Rattle.ftl_syntax.specs.declared.rules.Grammar.{Grammar}
 use Rattle.ftl_syntax.specs.declared.rules.Interface.{Interface}
 use Rattle.ftl_grammar_faults.specs.FirstFault.{first_fault}
-use Rattle.ftl_grammar_faults.specs.Numbering.{class_at, class_attributes, interface_at, interface_of, numbered, own_attributes, own_count, shared_attributes, shared_count}
+use Rattle.ftl_grammar_faults.specs.Numbering.{class_at, class_attributes, interface_at, interface_of, numbered}
+use Rattle.ftl_grammar_faults.specs.Numbering.{own_attributes, own_count, shared_attributes, shared_count}
 use Rattle.ftl_lawful.proofs.WithinLimits.{within_limits}
 use Rattle.ftl_document_walk.specs.Tables.{AreTables, IsTableOf}
 use Rattle.ftl_document_walk.specs.declared.class_tables.ClassTable.{ClassTable}
@@ -23,7 +25,8 @@ pub width_is : (g : Grammar) (k : ℕ)
     → length (class_attributes g k) ≡ length (interface_at g (interface_of g k)).attrs + length (class_at g k).attrs
 width_is g k =
     let both = length-append (shared_attributes g (interface_of g k)) (own_attributes g k) in
-    let one = numbered_length (shared_count (take (interface_of g k) g.interfaces)) (interface_at g (interface_of g k)).attrs in
+    let one = numbered_length (shared_count (take (interface_of g k) g.interfaces)) (interface_at g
+    (interface_of g k)).attrs in
     let two = numbered_length (shared_count g.interfaces + own_count (take k g.classes)) (class_at g k).attrs in
     omega (arith, both, one, two)
 

@@ -1,5 +1,6 @@
 -- The next node of a walk: its fault is the document's, and without one the walk goes on before its fields.
-use Rattle.std.proofs.Common.{◌≡◌, ℕ, suc, ◌+◌, ◌≤◌, Bool, true, false, cond, sym, subst, ◌∙◌, ap, ap₂, arith, List, [], ◌∷◌, ◌++◌, length, map, drop, Some, None}
+use Rattle.std.proofs.Common.{◌≡◌, ℕ, suc, ◌+◌, ◌≤◌, Bool, true, false, cond, sym, subst, ◌∙◌, ap, ap₂, arith, List}
+use Rattle.std.proofs.Common.{[], ◌∷◌, ◌++◌, length, map, drop, Some, None}
 use Rattle.std.specs.List.{sum_by}
 use Rattle.std.proofs.lemmas.Option.{none-some, same_Some}
 use Rattle.ftl_grammar_faults.specs.Checked.{class_named}
@@ -44,7 +45,8 @@ module _ (g : Grammar) (node : WrittenNode) (rows : List WrittenRow) (p : Progre
       → first_node_fault g node ≡ Some e
   node_wrong e is =
       h.faults
-      ∙ ap (λ o. first_there (o ∷ map (node_fault g) (numbered (suc p.number) (nodes_in g (class_number g name) h.fields ++ all_nodes g h.outer)))) is
+      ∙ ap (λ o. first_there (o ∷ map (node_fault g) (numbered (suc p.number) (nodes_in g
+      (class_number g name) h.fields ++ all_nodes g h.outer)))) is
 
   module _ (q : Progress) (k : ℕ) (class : IsClassOf g wanted name k) (e : HasEntered g p from end k q)
       (few : length (class_attributes g k) ≤ 128)
@@ -84,8 +86,10 @@ module _ (g : Grammar) (node : WrittenNode) (rows : List WrittenRow) (p : Progre
           left = ap (λ n. drop n rows) e.at ∙ h.left;
           faults =
               h.faults
-              ∙ ap (λ o. first_there (o ∷ map (node_fault g) (numbered (suc p.number) (nodes_in g (class_number g name) h.fields ++ all_nodes g h.outer)))) fine
-              ∙ ap₂ (λ n m. first_there (map (node_fault g) (numbered n (nodes_in g m h.fields ++ all_nodes g h.outer)))) (sym up) number;
+              ∙ ap (λ o. first_there (o ∷ map (node_fault g) (numbered (suc p.number) (nodes_in g
+              (class_number g name) h.fields ++ all_nodes g h.outer)))) fine
+              ∙ ap₂ (λ n m. first_there (map (node_fault g) (numbered n
+              (nodes_in g m h.fields ++ all_nodes g h.outer)))) (sym up) number;
           nodes = omega (arith, same_length, up, all);
           few = h.few;
           count = omega (arith, same_sum, same_width, more, sum);

@@ -1,19 +1,23 @@
 -- One row more of a walk, or the end of a region.
-use Rattle.std.proofs.Common.{◌≡◌, ◌+◌, ◌*◌, ◌<◌, ◌≤◌, sym, subst, ◌∙◌, ap, arith, List, [], ◌∷◌, ◌++◌, length, map, drop, None}
+use Rattle.std.proofs.Common.{◌≡◌, ◌+◌, ◌*◌, ◌<◌, ◌≤◌, sym, subst, ◌∙◌, ap, arith, List, [], ◌∷◌, ◌++◌, length, map}
+use Rattle.std.proofs.Common.{drop, None}
 use Rattle.std.specs.List.{sum_by}
 use Rattle.ftl_grammar_faults.specs.Numbering.{numbered}
 use Rattle.ftl_syntax.specs.declared.rules.Grammar.{Grammar}
 use Rattle.ftl_document_syntax.specs.Braces.{most_nodes}
 use Rattle.ftl_document_syntax.specs.Sizes.{node_count}
-use Rattle.ftl_document_syntax.specs.Written.{WrittenNode, list_field, no_fields, no_nodes, node_and, node_field, number_field}
+use Rattle.ftl_document_syntax.specs.Written.{WrittenNode, list_field, no_fields, no_nodes, node_and, node_field}
+use Rattle.ftl_document_syntax.specs.Written.{number_field}
 use Rattle.ftl_document_syntax.specs.declared.row.WrittenRow.{WrittenRow}
 use Rattle.ftl_document_faults.specs.FirstFault.{first_node_fault, first_there, instance_count_of, node_fault}
-use Rattle.ftl_document_walk.specs.Walk.{AreRegions, IsRightLeft, IsWalked, Left, all_nodes, all_rows, fields_left, nodes_left, nodes_left_in, region_of, rows_left, width_of}
+use Rattle.ftl_document_walk.specs.Walk.{AreRegions, IsRightLeft, IsWalked, Left, all_nodes, all_rows, fields_left}
+use Rattle.ftl_document_walk.specs.Walk.{nodes_left, nodes_left_in, region_of, rows_left, width_of}
 use Rattle.ftl_document_walk.specs.declared.stack.Region.{Region}
 use Rattle.ftl_document_walk.specs.declared.walk.Progress.{Progress}
 
 -- the innermost region is this one, with what is left of it
-pub record IsInside (g : Grammar) (node : WrittenNode) (xs : List WrittenRow) (p : Progress) (r : Region) (outer : List Region)
+pub record IsInside (g : Grammar) (node : WrittenNode) (xs : List WrittenRow) (p : Progress) (r : Region)
+    (outer : List Region)
     (x : Left) : Type 0 where
   pub others : List Left
   pub same : region_of x ≡ r
@@ -72,8 +76,8 @@ module _ (g : Grammar) (node : WrittenNode) (xs : List WrittenRow) (p : Progress
 
   pub region_ended : (r : Region) (outer : List Region) (x : Left) (q : Progress) → IsInside g node xs p r outer x
       → r.end ≤ p.at → HasLeft outer q → IsWalked g node xs q
-  region_ended r outer x q b past l = by_left x b.ends b.left b.faults b.nodes b.count (ap (λ (y : Region). y.end) b.same)
-      b.regions
+  region_ended r outer x q b past l =
+      by_left x b.ends b.left b.faults b.nodes b.count (ap (λ (y : Region). y.end) b.same) b.regions
     where
       out : (region_of x).end ≡ p.at → drop p.at xs ≡ all_rows b.others
           → first_node_fault g node ≡ first_there (map (node_fault g) (numbered p.number (all_nodes g b.others)))
@@ -96,17 +100,25 @@ module _ (g : Grammar) (node : WrittenNode) (xs : List WrittenRow) (p : Progress
             small = omega (arith, up, more, small);
           }
 
-      by_left : (y : Left) → (region_of x).end ≡ p.at + length (rows_left y) → drop p.at xs ≡ rows_left y ++ all_rows b.others
-          → first_node_fault g node ≡ first_there (map (node_fault g) (numbered p.number (nodes_left_in g y ++ all_nodes g b.others)))
+      by_left : (y : Left) → (region_of x).end ≡ p.at + length (rows_left y) → drop p.at xs
+          ≡ rows_left y ++ all_rows b.others
+          → first_node_fault g node ≡ first_there (map (node_fault g) (numbered p.number
+          (nodes_left_in g y ++ all_nodes g b.others)))
           → p.number + length (nodes_left_in g y ++ all_nodes g b.others) ≡ node_count node
           → p.count + sum_by (width_of g) (nodes_left_in g y ++ all_nodes g b.others) ≡ instance_count_of g node
           → (region_of x).end ≡ r.end → AreRegions g (region_of x).end b.others → IsWalked g node xs q
-      by_left (fields_left s n e no_fields) ends left faults nodes count same regions = out (omega (arith, ends)) left faults nodes count
-      by_left (fields_left s n e (number_field y m later)) ends left faults nodes count same regions = absurd (let z : ⊥ = omega (arith, ends, same, past) in z)
-      by_left (fields_left s n e (node_field y c fs later)) ends left faults nodes count same regions = absurd (let z : ⊥ = omega (arith, ends, same, past) in z)
-      by_left (fields_left s n e (list_field y ns later)) ends left faults nodes count same regions = absurd (let z : ⊥ = omega (arith, ends, same, past) in z)
-      by_left (nodes_left s no_nodes) ends left faults nodes count same regions = out (omega (arith, ends)) left faults nodes count
-      by_left (nodes_left s (node_and c fs later)) ends left faults nodes count same regions = absurd (let z : ⊥ = omega (arith, ends, same, past) in z)
+      by_left (fields_left s n e no_fields) ends left faults nodes count same regions =
+          out (omega (arith, ends)) left faults nodes count
+      by_left (fields_left s n e (number_field y m later)) ends left faults nodes count same regions =
+          absurd (let z : ⊥ = omega (arith, ends, same, past) in z)
+      by_left (fields_left s n e (node_field y c fs later)) ends left faults nodes count same regions =
+          absurd (let z : ⊥ = omega (arith, ends, same, past) in z)
+      by_left (fields_left s n e (list_field y ns later)) ends left faults nodes count same regions =
+          absurd (let z : ⊥ = omega (arith, ends, same, past) in z)
+      by_left (nodes_left s no_nodes) ends left faults nodes count same regions =
+          out (omega (arith, ends)) left faults nodes count
+      by_left (nodes_left s (node_and c fs later)) ends left faults nodes count same regions =
+          absurd (let z : ⊥ = omega (arith, ends, same, past) in z)
 
 module _ (g : Grammar) (node : WrittenNode) (xs : List WrittenRow) (p : Progress) (h : IsWalked g node xs p) where
   -- the same with equal regions

@@ -1,5 +1,6 @@
 -- The first node of a document.
-use Rattle.std.proofs.Common.{◌≡◌, ℕ, ◌≤◌, refl, sym, ◌∙◌, ap, ap₂, arith, List, [], ◌∷◌, ◌++◌, length, map, append-nil, length-append}
+use Rattle.std.proofs.Common.{◌≡◌, ℕ, ◌≤◌, refl, sym, ◌∙◌, ap, ap₂, arith, List, [], ◌∷◌, ◌++◌, length, map}
+use Rattle.std.proofs.Common.{append-nil, length-append}
 use Rattle.std.specs.List.{sum_by}
 use Rattle.std.proofs.lemmas.List.Sums.{sum_by-append, sum_by-cons}
 use Rattle.ftl_grammar_faults.specs.Numbering.{class_attributes, interface_number, numbered}
@@ -7,7 +8,8 @@ use Rattle.ftl_syntax.specs.declared.rules.Grammar.{Grammar}
 use Rattle.ftl_document_syntax.specs.Braces.{most_nodes}
 use Rattle.ftl_document_syntax.specs.Rows.{DocumentRows, document_rows, rows_of_fields, rows_of_nodes}
 use Rattle.ftl_document_syntax.specs.Sizes.{node_count, nodes_in_fields, nodes_in_list}
-use Rattle.ftl_document_syntax.specs.Written.{NameText, WrittenFields, WrittenNode, WrittenNodes, list_field, no_fields, no_nodes, node_and, node_field, number_field}
+use Rattle.ftl_document_syntax.specs.Written.{NameText, WrittenFields, WrittenNode, WrittenNodes, list_field}
+use Rattle.ftl_document_syntax.specs.Written.{no_fields, no_nodes, node_and, node_field, number_field}
 use Rattle.ftl_document_syntax.specs.declared.row.WrittenRow.{WrittenRow}
 use Rattle.ftl_document_syntax.specs.declared.row.WrittenRow.TheVariants as rows
 use Rattle.ftl_document_faults.specs.FirstFault.{first_there, node_fault}
@@ -57,13 +59,15 @@ mutual
       let one = rows_counted later in
       omega (arith, first, one)
   rows_counted (node_field x c f later) =
-      let first = sum_by-cons begun (rows.Single x c (length (rows_of_fields f))) (rows_of_fields f ++ rows_of_fields later) in
+      let first = sum_by-cons begun (rows.Single x c (length (rows_of_fields f)))
+      (rows_of_fields f ++ rows_of_fields later) in
       let both = sum_by-append begun (rows_of_fields f) (rows_of_fields later) in
       let one = rows_counted f in
       let two = rows_counted later in
       omega (arith, first, both, one, two)
   rows_counted (list_field x nodes later) =
-      let first = sum_by-cons begun (rows.List x (length (rows_of_nodes nodes))) (rows_of_nodes nodes ++ rows_of_fields later) in
+      let first = sum_by-cons begun (rows.List x (length (rows_of_nodes nodes)))
+      (rows_of_nodes nodes ++ rows_of_fields later) in
       let both = sum_by-append begun (rows_of_nodes nodes) (rows_of_fields later) in
       let one = list_counted nodes in
       let two = rows_counted later in
@@ -72,7 +76,8 @@ mutual
   list_counted : (nodes : WrittenNodes) → sum_by begun (rows_of_nodes nodes) ≡ nodes_in_list nodes
   list_counted no_nodes = refl
   list_counted (node_and c f later) =
-      let first = sum_by-cons begun (rows.Kid c (length (rows_of_fields f))) (rows_of_fields f ++ rows_of_nodes later) in
+      let first = sum_by-cons begun (rows.Kid c (length (rows_of_fields f)))
+      (rows_of_fields f ++ rows_of_nodes later) in
       let both = sum_by-append begun (rows_of_fields f) (rows_of_nodes later) in
       let one = rows_counted f in
       let two = list_counted later in
@@ -99,13 +104,16 @@ pub first_next : (g : Grammar) (xs : List WrittenRow) (class : NameText) (region
 first_next g xs class regions empty w node known few is =
     let name : node.class ≡ class = ap (λ (x : DocumentRows). x.class) (sym is) in
     let same : xs ≡ rows_of_fields node.fields = ap (λ (x : DocumentRows). x.rows) is in
-    let others : nodes_in g (class_number g node.class) node.fields ≡ nodes_in g (class_number g class) node.fields ++ [] =
-    ap (λ c. nodes_in g (class_number g c) node.fields) name ∙ sym (append-nil (nodes_in g (class_number g class) node.fields)) in
+    let others : nodes_in g (class_number g node.class) node.fields ≡ nodes_in g
+    (class_number g class) node.fields ++ [] =
+    ap (λ c. nodes_in g (class_number g c) node.fields) name ∙ sym (append-nil (nodes_in g
+    (class_number g class) node.fields)) in
     let counted = nodes_counted g (class_number g node.class) node.fields in
     let length_same = ap length others in
     let sum_same = ap (sum_by (width_of g)) others in
     let width_same = ap (λ c. length (class_attributes g (class_number g c))) name in
-    let first = sum_by-cons (width_of g) (standing (interface_number g g.root) node.class node.fields) (nodes_in g (class_number g node.class) node.fields) in
+    let first = sum_by-cons (width_of g) (standing (interface_number g g.root) node.class node.fields) (nodes_in g
+    (class_number g node.class) node.fields) in
     let equal = same_count (document_rows class xs) node w is known in
     record {
       fields = node.fields;
@@ -115,7 +123,8 @@ first_next g xs class regions empty w node known few is =
       within = omega arith;
       left = same ∙ sym (append-nil (rows_of_fields node.fields));
       ends = let e = ap length same in omega (arith, e);
-      faults = ap₂ (λ c ys. first_there (map (node_fault g) (numbered 0 (standing (interface_number g g.root) c node.fields ∷ ys)))) name others;
+      faults = ap₂ (λ c ys. first_there (map (node_fault g) (numbered 0 (standing
+          (interface_number g g.root) c node.fields ∷ ys)))) name others;
       nodes = omega (arith, counted, length_same);
       few = omega (arith, equal, few);
       count = omega (arith, first, width_same, sum_same);

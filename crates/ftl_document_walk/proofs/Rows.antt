@@ -1,5 +1,6 @@
 -- Rows from a place on.
-use Rattle.std.proofs.Common.{◌≡◌, ℕ, suc, ◌+◌, ◌<◌, ◌≤◌, ◌-◌, sym, ◌∙◌, ap, ap₂, arith, List, ◌∷◌, ◌++◌, length, get_or, take, drop, length-append, length-drop}
+use Rattle.std.proofs.Common.{◌≡◌, ℕ, suc, ◌+◌, ◌<◌, ◌≤◌, ◌-◌, sym, ◌∙◌, ap, ap₂, arith, List, ◌∷◌, ◌++◌, length}
+use Rattle.std.proofs.Common.{get_or, take, drop, length-append, length-drop}
 use Rattle.std.specs.Prelude.{slice_range}
 use Rattle.std.proofs.Math.Seq.{drop-append_seam, drop-cons, take-append_seam}
 use Rattle.std.proofs.lemmas.List.{drop-drop}

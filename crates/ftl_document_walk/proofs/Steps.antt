@@ -1,18 +1,23 @@
 -- What a walk does at the next row, by what the row is.
-use Rattle.std.proofs.Common.{◌≡◌, ℕ, suc, ◌+◌, ◌<◌, ◌≤◌, refl, sym, subst, ◌∙◌, ap, ap₂, arith, List, [], ◌∷◌, ◌++◌, length, map, drop, append_assoc, length-append, length-drop}
+use Rattle.std.proofs.Common.{◌≡◌, ℕ, suc, ◌+◌, ◌<◌, ◌≤◌, refl, sym, subst, ◌∙◌, ap, ap₂, arith, List, [], ◌∷◌, ◌++◌}
+use Rattle.std.proofs.Common.{length, map, drop, append_assoc, length-append, length-drop}
 use Rattle.std.specs.List.{sum_by}
 use Rattle.std.proofs.lemmas.List.Sums.{sum_by-cons}
 use Rattle.ftl_grammar_faults.specs.Numbering.{class_at, numbered}
 use Rattle.ftl_syntax.specs.declared.rules.Grammar.{Grammar}
 use Rattle.ftl_document_syntax.specs.Rows.{rows_of_fields, rows_of_nodes}
-use Rattle.ftl_document_syntax.specs.Written.{NameText, WrittenFields, WrittenNode, list_field, no_fields, no_nodes, node_and, node_field, number_field}
+use Rattle.ftl_document_syntax.specs.Written.{NameText, WrittenFields, WrittenNode, list_field, no_fields, no_nodes}
+use Rattle.ftl_document_syntax.specs.Written.{node_and, node_field, number_field}
 use Rattle.ftl_document_syntax.specs.declared.row.WrittenRow.{WrittenRow}
 use Rattle.ftl_document_syntax.specs.declared.row.WrittenRow.TheVariants as rows
 use Rattle.ftl_document_faults.specs.FirstFault.{first_there, node_fault}
-use Rattle.ftl_document_faults.specs.Nodes.{child_number, class_number, head_of, field_heads, list_form, node_form, nodes_beside, nodes_in, number_form, standing}
+use Rattle.ftl_document_faults.specs.Nodes.{child_number, class_number, head_of, field_heads, list_form, node_form}
+use Rattle.ftl_document_faults.specs.Nodes.{nodes_beside, nodes_in, number_form, standing}
 use Rattle.ftl_document_faults.proofs.NoDocFault.{later_right}
 use Rattle.ftl_document_faults.proofs.RightChildren.{list_child, node_child}
-use Rattle.ftl_document_walk.specs.Walk.{AreRegions, IsNext, IsRightLeft, IsWalked, IsWithin, Left, all_nodes, all_rows, fields_left, nodes_left, nodes_left_in, region_of, rows_left, wanted_of, width_of}
+use Rattle.ftl_document_walk.specs.Walk.{AreRegions, IsNext, IsRightLeft, IsWalked, IsWithin, Left, all_nodes}
+use Rattle.ftl_document_walk.specs.Walk.{all_rows, fields_left, nodes_left, nodes_left_in, region_of, rows_left}
+use Rattle.ftl_document_walk.specs.Walk.{wanted_of, width_of}
 use Rattle.ftl_document_walk.specs.declared.stack.Region.{Region}
 use Rattle.ftl_document_walk.specs.declared.walk.Progress.{Progress}
 use Rattle.ftl_document_walk.proofs.Regions.{IsInside, inside}
@@ -45,7 +50,8 @@ module _ (g : Grammar) (node : WrittenNode) (xs : List WrittenRow) (p : Progress
   Follows r outer (rows.List x n) =
       IsDeclared g r.class (child_number g r.class x)
       × ((q : Progress)
-      → HasPassed p (list_region (suc p.at + n) r.class (child_number g r.class x) ∷ r ∷ outer) q → IsWalked g node xs q)
+      → HasPassed p (list_region (suc p.at + n) r.class (child_number g r.class x) ∷ r ∷ outer) q
+      → IsWalked g node xs q)
   Follows r outer (rows.Kid c n) =
       IsDeclared g r.class r.child × IsNext g node xs p c (wanted_of g r.class r.child) (suc p.at) (suc p.at + n)
 
@@ -96,7 +102,8 @@ module _ (g : Grammar) (node : WrittenNode) (xs : List WrittenRow) (p : Progress
         let sum_same = ap (sum_by (width_of g)) same in
         let nodes = b.nodes in
         let count = b.count in
-        let one_more = sum_by-cons (width_of g) (standing wanted name fields) (nodes_in g (class_number g name) fields ++ all_nodes g lefts) in
+        let one_more = sum_by-cons (width_of g) (standing wanted name fields) (nodes_in g
+        (class_number g name) fields ++ all_nodes g lefts) in
         record {
           fields = fields;
           outer = lefts;
@@ -115,14 +122,23 @@ module _ (g : Grammar) (node : WrittenNode) (xs : List WrittenRow) (p : Progress
     -- the row and what stands behind it, by what is left
     abbrev IsFront : Left → Type 0
     IsFront y =
-        (r ≡ region_of y) × (r.class < length g.classes) × (IsRightLeft g y) × ((region_of y).end ≡ p.at + length (rows_left y))
+        (r ≡ region_of y) × (r.class < length g.classes) × (IsRightLeft g y) × ((region_of y).end ≡ p.at + length
+        (rows_left y))
         × (row ∷ drop (suc p.at) xs ≡ rows_left y ++ all_rows b.others)
         × (nodes_left_in g x ++ all_nodes g b.others ≡ nodes_left_in g y ++ all_nodes g b.others)
         × (AreRegions g (region_of y).end b.others)
 
     front : IsFront x
-    front =
-        (sym b.same, subst (λ (y : Region). y.class < length g.classes) b.same b.known, b.right, b.ends, sym next ∙ b.left, refl, b.regions)
+    front = (
+      sym b.same,
+      subst (λ (y : Region). y.class < length g.classes) b.same b.known,
+      b.right,
+      b.ends,
+      sym next
+          ∙ b.left,
+      refl,
+      b.regions,
+    )
 
     at_end : {A : Type 0} (s : Region) → r ≡ s → s.end ≡ p.at + 0 → A
     at_end s same ends =
@@ -165,7 +181,8 @@ module _ (g : Grammar) (node : WrittenNode) (xs : List WrittenRow) (p : Progress
               (tail ∙ append_assoc (rows_of_fields fields) (rows_of_fields later) (all_rows b.others))
               (f.5
               ∙ ap (λ ys. standing (wanted_of g s.class (child_number g s.class name)) class fields ∷ ys)
-              (append_assoc (nodes_in g (class_number g class) fields) (nodes_in g s.class later) (all_nodes g b.others))),
+              (append_assoc (nodes_in g (class_number g class) fields) (nodes_in g s.class later)
+              (all_nodes g b.others))),
         )
     by_left (fields_left s m e (list_field name nodes later)) f =
         let is : row ≡ rows.List name (length (rows_of_nodes nodes)) = cc f.4 in
@@ -193,7 +210,8 @@ module _ (g : Grammar) (node : WrittenNode) (xs : List WrittenRow) (p : Progress
               )
               (tail ∙ append_assoc (rows_of_nodes nodes) (rows_of_fields later) (all_rows b.others))
               (f.5
-              ∙ append_assoc (nodes_beside g (wanted_of g s.class (child_number g s.class name)) nodes) (nodes_in g s.class later) (all_nodes g b.others)),
+              ∙ append_assoc (nodes_beside g (wanted_of g s.class (child_number g s.class name)) nodes)
+              (nodes_in g s.class later) (all_nodes g b.others)),
         )
     by_left (nodes_left s (node_and class fields later)) f =
         let is : row ≡ rows.Kid class (length (rows_of_fields fields)) = cc f.4 in
@@ -208,7 +226,8 @@ module _ (g : Grammar) (node : WrittenNode) (xs : List WrittenRow) (p : Progress
               (tail ∙ append_assoc (rows_of_fields fields) (rows_of_nodes later) (all_rows b.others))
               (f.5
               ∙ ap (λ ys. standing (wanted_of g s.class s.child) class fields ∷ ys)
-              (append_assoc (nodes_in g (class_number g class) fields) (nodes_beside g (wanted_of g s.class s.child) later) (all_nodes g b.others))),
+              (append_assoc (nodes_in g (class_number g class) fields) (nodes_beside g
+              (wanted_of g s.class s.child) later) (all_nodes g b.others))),
         )
 
     pub follows : Follows r outer row
@@ -242,7 +261,8 @@ module _ (g : Grammar) (node : WrittenNode) (xs : List WrittenRow) (p : Progress
 
 -- the same node, as code tells it
 pub next_as : (g : Grammar) (node : WrittenNode) (xs : List WrittenRow) (p : Progress) (name told : NameText)
-    (wanted w from f end e : ℕ) → told ≡ name → w ≡ wanted → f ≡ from → e ≡ end → IsNext g node xs p name wanted from end
+    (wanted w from f end e : ℕ) → told ≡ name → w ≡ wanted → f ≡ from → e ≡ end
+    → IsNext g node xs p name wanted from end
     → IsNext g node xs p told w f e
 next_as g node xs p name told wanted w from f end e one two three four h =
     subst (λ n. IsNext g node xs p told w f n) (sym four)

@@ -10,8 +10,10 @@ use Rattle.ftl_document_syntax.specs.Rows.{rows_of_fields, rows_of_nodes}
 use Rattle.ftl_document_syntax.specs.Sizes.{node_count}
 use Rattle.ftl_document_syntax.specs.Written.{NameText, WrittenFields, WrittenNode, WrittenNodes}
 use Rattle.ftl_document_syntax.specs.declared.row.WrittenRow.{WrittenRow}
-use Rattle.ftl_document_faults.specs.FirstFault.{field_faults, first_node_fault, first_there, instance_count_of, node_fault}
-use Rattle.ftl_document_faults.specs.Nodes.{FieldHead, StandingNode, class_number, field_heads, nodes_beside, nodes_in, standing}
+use Rattle.ftl_document_faults.specs.FirstFault.{field_faults, first_node_fault, first_there, instance_count_of}
+use Rattle.ftl_document_faults.specs.FirstFault.{node_fault}
+use Rattle.ftl_document_faults.specs.Nodes.{FieldHead, StandingNode, class_number, field_heads, nodes_beside, nodes_in}
+use Rattle.ftl_document_faults.specs.Nodes.{standing}
 use Rattle.ftl_document_faults.specs.declared.fault.DocFault.{DocFault}
 use Rattle.ftl_document_faults.specs.declared.fault.DocFault.TheVariants as fault
 use Rattle.ftl_document_walk.specs.Tables.{AreTables}

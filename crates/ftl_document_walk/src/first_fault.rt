@@ -18,8 +18,8 @@ use std::alloc::Global;
 /// How many attributes all nodes may have.
 const MOST_INSTANCES: u64 = 33_554_432;
 
-/// The first fault of a document by its grammar, if there is one: node by node in preorder, and then
-/// the number of all attributes.
+/// The first fault of a document by its grammar, if there is one: node by node in preorder, and
+/// then the number of all attributes.
 pub fn check_document<'a>(
     alloc: Global,
     checked: &'a Checked,

@@ -6,8 +6,8 @@ ghost use Rattle.std.specs.Option.{option_to_list};
 use std::alloc::{AllocError, Global};
 use std::marker::Model;
 
-/// The rows up to `end`: those of the fields of a node of class `class`, or of the nodes in the list
-/// child `child` of one.
+/// The rows up to `end`: those of the fields of a node of class `class`, or of the nodes in the
+/// list child `child` of one.
 #[derive(Clone, Copy, Debug, PartialEq, Eq)]
 pub(crate) struct Region {
     pub(crate) end: usize,

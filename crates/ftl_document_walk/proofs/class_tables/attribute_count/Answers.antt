@@ -15,23 +15,34 @@ counted g lent k i a b same interface one two =
 
 pub overflow_add-result : goal.overflow_add-result
 overflow_add-result c =
-    let few = few_attributes c.args.checked.now.grammar c.grammar-grammar.ensures.lawful c.args.class c.requires.within in
-    let sum = counted c.args.checked.now.grammar c.grammar-grammar.result.now c.args.class c.interface_of.result c.shared_count-shared.result c.own_count-own.result c.grammar-grammar.ensures.grammar c.interface_of.ensures.interface c.shared_count-shared.ensures.count c.own_count-own.ensures.count in
+    let few = few_attributes c.args.checked.now.grammar c.grammar-grammar.ensures.lawful c.args.class
+    c.requires.within in
+    let sum = counted c.args.checked.now.grammar c.grammar-grammar.result.now c.args.class c.interface_of.result
+    c.shared_count-shared.result c.own_count-own.result c.grammar-grammar.ensures.grammar
+    c.interface_of.ensures.interface c.shared_count-shared.ensures.count c.own_count-own.ensures.count in
     omega (arith, few, sum)
 
 pub overflow_cast-result : goal.overflow_cast-result
 overflow_cast-result c =
-    let few = few_attributes c.args.checked.now.grammar c.grammar-grammar.ensures.lawful c.args.class c.requires.within in
-    let sum = counted c.args.checked.now.grammar c.grammar-grammar.result.now c.args.class c.interface_of.result c.shared_count-shared.result c.own_count-own.result c.grammar-grammar.ensures.grammar c.interface_of.ensures.interface c.shared_count-shared.ensures.count c.own_count-own.ensures.count in
+    let few = few_attributes c.args.checked.now.grammar c.grammar-grammar.ensures.lawful c.args.class
+    c.requires.within in
+    let sum = counted c.args.checked.now.grammar c.grammar-grammar.result.now c.args.class c.interface_of.result
+    c.shared_count-shared.result c.own_count-own.result c.grammar-grammar.ensures.grammar
+    c.interface_of.ensures.interface c.shared_count-shared.ensures.count c.own_count-own.ensures.count in
     omega (arith, few, sum)
 
 pub returns-clause-count : goal.returns-clause-count
 returns-clause-count c =
-    counted c.args.checked.now.grammar c.grammar-grammar.result.now c.args.class c.interface_of.result c.shared_count-shared.result c.own_count-own.result c.grammar-grammar.ensures.grammar c.interface_of.ensures.interface c.shared_count-shared.ensures.count c.own_count-own.ensures.count
+    counted c.args.checked.now.grammar c.grammar-grammar.result.now c.args.class c.interface_of.result
+    c.shared_count-shared.result c.own_count-own.result c.grammar-grammar.ensures.grammar
+    c.interface_of.ensures.interface c.shared_count-shared.ensures.count c.own_count-own.ensures.count
     ∙ sym (width_is c.args.checked.now.grammar c.args.class)
 
 pub returns-clause-few : goal.returns-clause-few
 returns-clause-few c =
-    let few = few_attributes c.args.checked.now.grammar c.grammar-grammar.ensures.lawful c.args.class c.requires.within in
-    let sum = counted c.args.checked.now.grammar c.grammar-grammar.result.now c.args.class c.interface_of.result c.shared_count-shared.result c.own_count-own.result c.grammar-grammar.ensures.grammar c.interface_of.ensures.interface c.shared_count-shared.ensures.count c.own_count-own.ensures.count in
+    let few = few_attributes c.args.checked.now.grammar c.grammar-grammar.ensures.lawful c.args.class
+    c.requires.within in
+    let sum = counted c.args.checked.now.grammar c.grammar-grammar.result.now c.args.class c.interface_of.result
+    c.shared_count-shared.result c.own_count-own.result c.grammar-grammar.ensures.grammar
+    c.interface_of.ensures.interface c.shared_count-shared.ensures.count c.own_count-own.ensures.count in
     omega (arith, few, sum)

@@ -14,6 +14,7 @@ loop-class-preserved c =
     let both = length-append ts (t ∷ []) in
     let count = held.count in
     record {
-      tables = subst (AreTables g) (sym items) (tables_more g ts t c.loop-class.class held.count held.tables c.in_ok-class_table.ensures.table);
+      tables = subst (AreTables g) (sym items) (tables_more g ts t c.loop-class.class held.count held.tables
+          c.in_ok-class_table.ensures.table);
       count = omega (arith, many, both, count);
     }

@@ -6,6 +6,7 @@ pub all-requires-clause-ready : goal.all-requires-clause-ready
 all-requires-clause-ready c =
     record {
       lawful = c.in_ok-tables.ensures.lawful;
-      tables = subst (AreTables c.args.checked.now.grammar) (sym c.as_slice.ensures.value) c.in_ok-tables.ensures.tables;
+      tables = subst (AreTables c.args.checked.now.grammar) (sym c.as_slice.ensures.value)
+          c.in_ok-tables.ensures.tables;
       count = ap length c.as_slice.ensures.value ∙ c.in_ok-tables.ensures.count;
     }

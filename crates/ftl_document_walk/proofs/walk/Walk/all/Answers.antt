@@ -13,7 +13,9 @@ enter-requires-clause-next c =
     let w = c.requires.written in
     record {
       node = w.node;
-      is = next_as g w.node xs (progress_at_first c.new.result) class class (interface_number g g.root) c.root.result 0 0 (length xs) (length xs) refl c.root.ensures.root refl refl (first_next g xs class c.new.result c.new.ensures.empty w.node w.node w.is w.few w.is);
+      is = next_as g w.node xs (progress_at_first c.new.result) class class
+          (interface_number g g.root) c.root.result 0 0 (length xs) (length xs) refl c.root.ensures.root refl refl
+          (first_next g xs class c.new.result c.new.ensures.empty w.node w.node w.is w.few w.is);
     }
 
 pub returns-in_err-enter : goal.returns-in_err-enter
@@ -26,7 +28,9 @@ returns-in_err-enter c =
       exact = λ node is.
           handed_on g node c.in_err-enter.field-0.0 c.from_residual.result c.from_residual.ensures.1
           (c.in_err-enter.ensures.exact node
-          (next_as g node xs (progress_at_first c.new.result) class class (interface_number g g.root) c.root.result 0 0 (length xs) (length xs) refl c.root.ensures.root refl refl (first_next g xs class c.new.result c.new.ensures.empty w.node node w.is w.few is)));
+          (next_as g node xs (progress_at_first c.new.result) class class
+          (interface_number g g.root) c.root.result 0 0 (length xs) (length xs) refl c.root.ensures.root refl refl
+          (first_next g xs class c.new.result c.new.ensures.empty w.node node w.is w.few is)));
     }
 
 pub finish-requires-clause-walked : goal.finish-requires-clause-walked
@@ -38,7 +42,9 @@ finish-requires-clause-walked c =
     record {
       node = w.node;
       walked = c.in_ok-enter.ensures.exact w.node
-          (next_as g w.node xs (progress_at_first c.new.result) class class (interface_number g g.root) c.root.result 0 0 (length xs) (length xs) refl c.root.ensures.root refl refl (first_next g xs class c.new.result c.new.ensures.empty w.node w.node w.is w.few w.is));
+          (next_as g w.node xs (progress_at_first c.new.result) class class
+          (interface_number g g.root) c.root.result 0 0 (length xs) (length xs) refl c.root.ensures.root refl refl
+          (first_next g xs class c.new.result c.new.ensures.empty w.node w.node w.is w.few w.is));
     }
 
 pub returns : goal.returns
@@ -51,5 +57,7 @@ returns c =
       exact = λ node is.
           c.finish.ensures.exact node
           (c.in_ok-enter.ensures.exact node
-          (next_as g node xs (progress_at_first c.new.result) class class (interface_number g g.root) c.root.result 0 0 (length xs) (length xs) refl c.root.ensures.root refl refl (first_next g xs class c.new.result c.new.ensures.empty w.node node w.is w.few is)));
+          (next_as g node xs (progress_at_first c.new.result) class class
+          (interface_number g g.root) c.root.result 0 0 (length xs) (length xs) refl c.root.ensures.root refl refl
+          (first_next g xs class c.new.result c.new.ensures.empty w.node node w.is w.few is)));
     }

@@ -9,7 +9,8 @@ pub returns-in_err-class-clause-exact : goal.returns-in_err-class-clause-exact
 returns-in_err-class-clause-exact c written is =
     let g = c.args.self.now.checked.now.grammar in
     let next = c.args.next in
-    handed (node_fault g (c.args.number, standing next.wanted next.class.now written)) c.in_err-class.field-0.0 c.from_residual.result c.from_residual.ensures.1
+    handed (node_fault g (c.args.number, standing next.wanted next.class.now written)) c.in_err-class.field-0.0
+    c.from_residual.result c.from_residual.ensures.1
     (λ memory.
     seen g c.args.number next.wanted next.class.now (own_of written) written refl
     ∙ c.in_err-class.ensures.class memory (own_of written))
@@ -20,7 +21,8 @@ returns-in_err-found-clause-exact c written is =
     let next = c.args.next in
     let class = c.in_ok-class.ensures.class in
     let own = c.deref.ensures.value ∙ c.in_ok-own_fields.ensures.fields written is in
-    handed (node_fault g (c.args.number, standing next.wanted next.class.now written)) c.in_err-found.field-0.0 c.from_residual-in_err-found.result c.from_residual-in_err-found.ensures.1
+    handed (node_fault g (c.args.number, standing next.wanted next.class.now written)) c.in_err-found.field-0.0
+    c.from_residual-in_err-found.result c.from_residual-in_err-found.ensures.1
     (λ memory.
     seen g c.args.number next.wanted next.class.now c.deref.result.now written own
     ∙ c.in_err-found.ensures.exact next.class.now next.wanted class.named class.interface memory)

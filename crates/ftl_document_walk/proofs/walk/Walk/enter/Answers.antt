@@ -8,7 +8,8 @@ use Rattle.ftl_document_walk.proofs.walk.Walk.enter.Goals as goal
 pub check_node-requires-clause-end : goal.check_node-requires-clause-end
 check_node-requires-clause-end c =
     let n = c.requires.next.is in
-    long_enough c.args.self.now.rows.now (rows_of_fields n.fields) (all_rows n.outer) c.args.next.from c.args.next.end n.within n.left n.ends
+    long_enough c.args.self.now.rows.now (rows_of_fields n.fields)
+    (all_rows n.outer) c.args.next.from c.args.next.end n.within n.left n.ends
 
 pub returns-clause-exact : goal.returns-clause-exact
 returns-clause-exact c node n =
@@ -31,4 +32,5 @@ returns-clause-exact c node n =
       count = ap (λ m. p.count + m) width;
     })
     (omega (arith, few, width))
-    (c.in_ok-class.ensures.exact n.fields (between xs (rows_of_fields n.fields) (all_rows n.outer) next.from next.end n.left n.ends))
+    (c.in_ok-class.ensures.exact n.fields (between xs (rows_of_fields n.fields)
+    (all_rows n.outer) next.from next.end n.left n.ends))

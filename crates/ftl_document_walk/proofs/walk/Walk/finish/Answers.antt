@@ -26,9 +26,11 @@ returns-in_err-step c =
     let p = c.loop-region.progress in
     record {
       exact = λ node h.
-          handed_on g node c.in_err-step.field-0.0 c.from_residual-in_err-step.result c.from_residual-in_err-step.ensures.1
+          handed_on g node c.in_err-step.field-0.0 c.from_residual-in_err-step.result
+          c.from_residual-in_err-step.ensures.1
           (c.in_err-step.ensures.exact node
-          (restacked g node xs p (c.loop-region.invariant.same node h) c.push.new.self (c.in-Some.ensures.popped ∙ sym c.in_ok-push.ensures.pushed)));
+          (restacked g node xs p (c.loop-region.invariant.same node h) c.push.new.self (c.in-Some.ensures.popped
+          ∙ sym c.in_ok-push.ensures.pushed)));
     }
 
 pub loop-region-preserved : goal.loop-region-preserved
@@ -43,16 +45,19 @@ loop-region-preserved c =
     record {
       walked = record {
         node = w.node;
-        walked = region_ended g w.node xs p r outer first.0 _ first.1 c.if-progress-region.false (record { stack = refl; at = refl; number = refl; count = refl });
+        walked = region_ended g w.node xs p r outer first.0 _ first.1 c.if-progress-region.false
+            (record { stack = refl; at = refl; number = refl; count = refl });
       };
       same = λ node h.
           let i = inside g node xs p r outer (c.loop-region.invariant.same node h) c.in-Some.ensures.popped in
-          region_ended g node xs p r outer i.0 _ i.1 c.if-progress-region.false (record { stack = refl; at = refl; number = refl; count = refl });
+          region_ended g node xs p r outer i.0 _ i.1 c.if-progress-region.false
+          (record { stack = refl; at = refl; number = refl; count = refl });
     }
 
 pub returns : goal.returns
 returns c =
     record {
       exact = λ node h.
-          walk_ended c.args.self.now.checked.now.grammar node c.args.self.now.rows.now c.loop-region.progress (c.loop-region.invariant.same node h) (c.in_default.ensures.ended refl);
+          walk_ended c.args.self.now.checked.now.grammar node c.args.self.now.rows.now c.loop-region.progress
+          (c.loop-region.invariant.same node h) (c.in_default.ensures.ended refl);
     }
