@@ -1,0 +1,97 @@
+-- The next node of a walk: its fault is the document's, and without one the walk goes on before its fields.
+use Rattle.std.proofs.Common.{◌≡◌, ℕ, suc, ◌+◌, ◌≤◌, Bool, true, false, cond, sym, subst, ◌∙◌, ap, ap₂, arith, List}
+use Rattle.std.proofs.Common.{[], ◌∷◌, ◌++◌, length, map, drop, Some, None}
+use Rattle.std.specs.List.{sum_by}
+use Rattle.std.proofs.lemmas.Option.{none-some, same_Some}
+use Rattle.ftl_grammar_faults.specs.Checked.{class_named}
+use Rattle.ftl_grammar_faults.specs.Numbering.{class_attributes, numbered}
+use Rattle.ftl_syntax.specs.declared.rules.Grammar.{Grammar}
+use Rattle.ftl_document_syntax.specs.Written.{NameText, WrittenNode}
+use Rattle.ftl_document_syntax.specs.declared.row.WrittenRow.{WrittenRow}
+use Rattle.ftl_document_faults.specs.FirstFault.{field_faults, first_node_fault, first_there, node_fault}
+use Rattle.ftl_document_faults.specs.Nodes.{StandingNode, class_number, field_heads, nodes_in, standing}
+use Rattle.ftl_document_faults.specs.declared.fault.DocFault.{DocFault}
+use Rattle.ftl_document_faults.proofs.NoDocFault.{IsRight, each_right}
+use Rattle.ftl_document_names.specs.Placed.{IsClassOf}
+use Rattle.ftl_document_walk.specs.Walk.{AreRegions, IsNext, IsWalked, Left, all_nodes, fields_left, width_of}
+use Rattle.ftl_document_walk.specs.declared.stack.Region.{Region}
+use Rattle.ftl_document_walk.specs.declared.walk.Progress.{Progress}
+
+-- the number that is found
+found_number : (b : Bool) (n k : ℕ) → cond b (Some n) None ≡ Some k → n ≡ k
+found_number true n k h = same_Some n k h
+found_number false n k h = absurd (none-some k h)
+
+number_is : (g : Grammar) (name : NameText) (k : ℕ) → class_named g name ≡ Some k → class_number g name ≡ k
+number_is g name k named = found_number _ (class_number g name) k named
+
+-- the region of the node
+abbrev pub region_for : (end class : ℕ) → Region
+region_for end k = record { end = end; class = k; child = 0 }
+
+-- how a walk stands after a node of this class
+pub record HasEntered (g : Grammar) (p : Progress) (from end k : ℕ) (q : Progress) : Type 0 where
+  pub stack : q.stack ≡ region_for end k ∷ p.stack
+  pub at : q.at ≡ from
+  pub number : q.number ≡ suc p.number
+  pub count : q.count ≡ p.count + length (class_attributes g k)
+
+module _ (g : Grammar) (node : WrittenNode) (rows : List WrittenRow) (p : Progress) (name : NameText)
+    (wanted from end : ℕ) (h : IsNext g node rows p name wanted from end) where
+  others : List StandingNode
+  others = nodes_in g (class_number g name) h.fields ++ all_nodes g h.outer
+
+  pub node_wrong : (e : DocFault) → node_fault g (p.number, standing wanted name h.fields) ≡ Some e
+      → first_node_fault g node ≡ Some e
+  node_wrong e is =
+      h.faults
+      ∙ ap (λ o. first_there (o ∷ map (node_fault g) (numbered (suc p.number) (nodes_in g
+      (class_number g name) h.fields ++ all_nodes g h.outer)))) is
+
+  module _ (q : Progress) (k : ℕ) (class : IsClassOf g wanted name k) (e : HasEntered g p from end k q)
+      (few : length (class_attributes g k) ≤ 128)
+      (fine : node_fault g (p.number, standing wanted name h.fields) ≡ None) where
+    number : class_number g name ≡ k
+    number = number_is g name k class.named
+
+    right : IsRight g wanted (class_number g name) (field_heads h.fields)
+    right =
+        (each_right g p.number (standing wanted name h.fields ∷ []) (ap (λ o. first_there (o ∷ [])) fine)).0
+
+    abbrev lefts : List Left
+    lefts = fields_left (region_for end k) right.node [] h.fields ∷ h.outer
+
+    regions : AreRegions g from lefts
+    regions = (
+      class.known,
+      subst (λ m. first_there (field_faults g right.node m [] (field_heads h.fields)) ≡ None) number right.fields,
+      h.ends,
+      h.regions,
+    )
+
+    pub node_entered : IsWalked g node rows q
+    node_entered =
+        let same_length = ap (λ m. length (nodes_in g m h.fields ++ all_nodes g h.outer)) number in
+        let same_sum = ap (λ m. sum_by (width_of g) (nodes_in g m h.fields ++ all_nodes g h.outer)) number in
+        let same_width = ap (λ m. length (class_attributes g m)) number in
+        let up = e.number in
+        let more = e.count in
+        let all = h.nodes in
+        let sum = h.count in
+        let small = h.small in
+        record {
+          lefts = lefts;
+          stack = e.stack ∙ ap (λ (rs : List Region). region_for end k ∷ rs) h.stack;
+          regions = subst (λ n. AreRegions g n lefts) (sym e.at) regions;
+          left = ap (λ n. drop n rows) e.at ∙ h.left;
+          faults =
+              h.faults
+              ∙ ap (λ o. first_there (o ∷ map (node_fault g) (numbered (suc p.number) (nodes_in g
+              (class_number g name) h.fields ++ all_nodes g h.outer)))) fine
+              ∙ ap₂ (λ n m. first_there (map (node_fault g) (numbered n
+              (nodes_in g m h.fields ++ all_nodes g h.outer)))) (sym up) number;
+          nodes = omega (arith, same_length, up, all);
+          few = h.few;
+          count = omega (arith, same_sum, same_width, more, sum);
+          small = omega (arith, up, more, small, few);
+        }

@@ -1,0 +1,137 @@
+-- One row more of a walk, or the end of a region.
+use Rattle.std.proofs.Common.{◌≡◌, ◌+◌, ◌*◌, ◌<◌, ◌≤◌, sym, subst, ◌∙◌, ap, arith, List, [], ◌∷◌, ◌++◌, length, map}
+use Rattle.std.proofs.Common.{drop, None}
+use Rattle.std.specs.List.{sum_by}
+use Rattle.ftl_grammar_faults.specs.Numbering.{numbered}
+use Rattle.ftl_syntax.specs.declared.rules.Grammar.{Grammar}
+use Rattle.ftl_document_syntax.specs.Braces.{most_nodes}
+use Rattle.ftl_document_syntax.specs.Sizes.{node_count}
+use Rattle.ftl_document_syntax.specs.Written.{WrittenNode, list_field, no_fields, no_nodes, node_and, node_field}
+use Rattle.ftl_document_syntax.specs.Written.{number_field}
+use Rattle.ftl_document_syntax.specs.declared.row.WrittenRow.{WrittenRow}
+use Rattle.ftl_document_faults.specs.FirstFault.{first_node_fault, first_there, instance_count_of, node_fault}
+use Rattle.ftl_document_walk.specs.Walk.{AreRegions, IsRightLeft, IsWalked, Left, all_nodes, all_rows, fields_left}
+use Rattle.ftl_document_walk.specs.Walk.{nodes_left, nodes_left_in, region_of, rows_left, width_of}
+use Rattle.ftl_document_walk.specs.declared.stack.Region.{Region}
+use Rattle.ftl_document_walk.specs.declared.walk.Progress.{Progress}
+
+-- the innermost region is this one, with what is left of it
+pub record IsInside (g : Grammar) (node : WrittenNode) (xs : List WrittenRow) (p : Progress) (r : Region)
+    (outer : List Region)
+    (x : Left) : Type 0 where
+  pub others : List Left
+  pub same : region_of x ≡ r
+  pub around : outer ≡ map region_of others
+  pub known : (region_of x).class < length g.classes
+  pub right : IsRightLeft g x
+  pub ends : (region_of x).end ≡ p.at + length (rows_left x)
+  pub regions : AreRegions g (region_of x).end others
+  pub left : drop p.at xs ≡ rows_left x ++ all_rows others
+  pub faults : first_node_fault g node
+      ≡ first_there (map (node_fault g) (numbered p.number (nodes_left_in g x ++ all_nodes g others)))
+  pub nodes : p.number + length (nodes_left_in g x ++ all_nodes g others) ≡ node_count node
+  pub few : node_count node ≤ most_nodes
+  pub count : p.count + sum_by (width_of g) (nodes_left_in g x ++ all_nodes g others) ≡ instance_count_of g node
+  pub small : p.count ≤ 128 * p.number
+
+module _ (g : Grammar) (node : WrittenNode) (xs : List WrittenRow) (p : Progress) where
+  pub inside : (r : Region) (outer : List Region) → IsWalked g node xs p → p.stack ≡ r ∷ outer
+      → (x : Left) × IsInside g node xs p r outer x
+  inside r outer h stack = by_lefts h.lefts (sym stack ∙ h.stack) h.regions h.left h.faults h.nodes h.count
+    where
+      by_lefts : (lefts : List Left) → r ∷ outer ≡ map region_of lefts → AreRegions g p.at lefts
+          → drop p.at xs ≡ all_rows lefts
+          → first_node_fault g node ≡ first_there (map (node_fault g) (numbered p.number (all_nodes g lefts)))
+          → p.number + length (all_nodes g lefts) ≡ node_count node
+          → p.count + sum_by (width_of g) (all_nodes g lefts) ≡ instance_count_of g node
+          → (x : Left) × IsInside g node xs p r outer x
+      by_lefts [] is regions left faults nodes count = absurd (let z : ⊥ = cc is in z)
+      by_lefts (x ∷ others) is regions left faults nodes count = (
+        x,
+        record {
+          others = others;
+          same = let z : region_of x ≡ r = cc is in z;
+          around = let z : outer ≡ map region_of others = cc is in z;
+          known = regions.0;
+          right = regions.1;
+          ends = regions.2;
+          regions = regions.3;
+          left = left;
+          faults = faults;
+          nodes = nodes;
+          few = h.few;
+          count = count;
+          small = h.small;
+        },
+      )
+
+  -- ---- the end of a region
+
+  -- a walk that left a region
+  pub record HasLeft (outer : List Region) (q : Progress) : Type 0 where
+    pub stack : q.stack ≡ outer
+    pub at : q.at ≡ p.at
+    pub number : q.number ≡ p.number
+    pub count : q.count ≡ p.count
+
+  pub region_ended : (r : Region) (outer : List Region) (x : Left) (q : Progress) → IsInside g node xs p r outer x
+      → r.end ≤ p.at → HasLeft outer q → IsWalked g node xs q
+  region_ended r outer x q b past l =
+      by_left x b.ends b.left b.faults b.nodes b.count (ap (λ (y : Region). y.end) b.same) b.regions
+    where
+      out : (region_of x).end ≡ p.at → drop p.at xs ≡ all_rows b.others
+          → first_node_fault g node ≡ first_there (map (node_fault g) (numbered p.number (all_nodes g b.others)))
+          → p.number + length (all_nodes g b.others) ≡ node_count node
+          → p.count + sum_by (width_of g) (all_nodes g b.others) ≡ instance_count_of g node
+          → IsWalked g node xs q
+      out end left faults nodes count =
+          let up = l.number in
+          let more = l.count in
+          let small = b.small in
+          record {
+            lefts = b.others;
+            stack = l.stack ∙ b.around;
+            regions = subst (λ n. AreRegions g n b.others) (end ∙ sym l.at) b.regions;
+            left = ap (λ n. drop n xs) l.at ∙ left;
+            faults = faults ∙ ap (λ n. first_there (map (node_fault g) (numbered n (all_nodes g b.others)))) (sym up);
+            nodes = omega (arith, up, nodes);
+            few = b.few;
+            count = omega (arith, more, count);
+            small = omega (arith, up, more, small);
+          }
+
+      by_left : (y : Left) → (region_of x).end ≡ p.at + length (rows_left y) → drop p.at xs
+          ≡ rows_left y ++ all_rows b.others
+          → first_node_fault g node ≡ first_there (map (node_fault g) (numbered p.number
+          (nodes_left_in g y ++ all_nodes g b.others)))
+          → p.number + length (nodes_left_in g y ++ all_nodes g b.others) ≡ node_count node
+          → p.count + sum_by (width_of g) (nodes_left_in g y ++ all_nodes g b.others) ≡ instance_count_of g node
+          → (region_of x).end ≡ r.end → AreRegions g (region_of x).end b.others → IsWalked g node xs q
+      by_left (fields_left s n e no_fields) ends left faults nodes count same regions =
+          out (omega (arith, ends)) left faults nodes count
+      by_left (fields_left s n e (number_field y m later)) ends left faults nodes count same regions =
+          absurd (let z : ⊥ = omega (arith, ends, same, past) in z)
+      by_left (fields_left s n e (node_field y c fs later)) ends left faults nodes count same regions =
+          absurd (let z : ⊥ = omega (arith, ends, same, past) in z)
+      by_left (fields_left s n e (list_field y ns later)) ends left faults nodes count same regions =
+          absurd (let z : ⊥ = omega (arith, ends, same, past) in z)
+      by_left (nodes_left s no_nodes) ends left faults nodes count same regions =
+          out (omega (arith, ends)) left faults nodes count
+      by_left (nodes_left s (node_and c fs later)) ends left faults nodes count same regions =
+          absurd (let z : ⊥ = omega (arith, ends, same, past) in z)
+
+module _ (g : Grammar) (node : WrittenNode) (xs : List WrittenRow) (p : Progress) (h : IsWalked g node xs p) where
+  -- the same with equal regions
+  pub restacked : (regions : List Region) → p.stack ≡ regions → IsWalked g node xs (record p { stack = regions })
+  restacked regions same = subst (λ rs. IsWalked g node xs (record p { stack = rs })) same h
+
+  -- at the end nothing is left
+  pub walk_ended : p.stack ≡ [] → (first_node_fault g node ≡ None) × (p.count ≡ instance_count_of g node)
+  walk_ended empty = by_lefts h.lefts (sym empty ∙ h.stack) h.faults h.count
+    where
+      by_lefts : (lefts : List Left) → [] ≡ map region_of lefts
+          → first_node_fault g node ≡ first_there (map (node_fault g) (numbered p.number (all_nodes g lefts)))
+          → p.count + sum_by (width_of g) (all_nodes g lefts) ≡ instance_count_of g node
+          → (first_node_fault g node ≡ None) × (p.count ≡ instance_count_of g node)
+      by_lefts [] same faults count = (faults, omega (arith, count))
+      by_lefts (x ∷ others) same faults count = absurd (let z : ⊥ = cc same in z)

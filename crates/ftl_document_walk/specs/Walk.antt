@@ -1,0 +1,140 @@
+-- What is left of a document while its nodes are looked at, one after another.
+use Rattle.std.specs.Prelude.{◌≡◌, ◌≢◌, ℕ, suc, ◌+◌, ◌*◌, ◌<◌, ◌≤◌, List, [], ◌∷◌, ◌++◌, length, map, drop}
+use Rattle.std.specs.Prelude.{Some, None, Result, Ok, Err}
+use Rattle.std.specs.List.{sum_by}
+use Rattle.ftl_grammar_faults.specs.FirstFault as grammars
+use Rattle.ftl_grammar_faults.specs.Numbering.{child_at, class_at, class_attributes, interface_number, numbered}
+use Rattle.ftl_syntax.specs.declared.rules.Grammar.{Grammar}
+use Rattle.ftl_document_syntax.specs.Braces.{most_nodes}
+use Rattle.ftl_document_syntax.specs.Rows.{rows_of_fields, rows_of_nodes}
+use Rattle.ftl_document_syntax.specs.Sizes.{node_count}
+use Rattle.ftl_document_syntax.specs.Written.{NameText, WrittenFields, WrittenNode, WrittenNodes}
+use Rattle.ftl_document_syntax.specs.declared.row.WrittenRow.{WrittenRow}
+use Rattle.ftl_document_faults.specs.FirstFault.{field_faults, first_node_fault, first_there, instance_count_of}
+use Rattle.ftl_document_faults.specs.FirstFault.{node_fault}
+use Rattle.ftl_document_faults.specs.Nodes.{FieldHead, StandingNode, class_number, field_heads, nodes_beside, nodes_in}
+use Rattle.ftl_document_faults.specs.Nodes.{standing}
+use Rattle.ftl_document_faults.specs.declared.fault.DocFault.{DocFault}
+use Rattle.ftl_document_faults.specs.declared.fault.DocFault.TheVariants as fault
+use Rattle.ftl_document_walk.specs.Tables.{AreTables}
+use Rattle.ftl_document_walk.specs.declared.stack.Region.{Region}
+use Rattle.ftl_document_walk.specs.declared.walk.NextNode.{NextNode}
+use Rattle.ftl_document_walk.specs.declared.walk.Progress.{Progress}
+use Rattle.ftl_document_walk.specs.declared.walk.Walk.{Walk}
+
+-- what is left of a region: fields of the node of this number, behind others, or nodes of a list
+pub data Left : Type 0 where
+  fields_left : (region : Region) (node : ℕ) (earlier : List FieldHead) (rest : WrittenFields) → Left
+  nodes_left : (region : Region) (rest : WrittenNodes) → Left
+
+-- its region
+abbrev pub region_of : Left → Region
+region_of (fields_left r n earlier rest) = r
+region_of (nodes_left r rest) = r
+
+-- its rows
+abbrev pub rows_left : Left → List WrittenRow
+rows_left (fields_left r n earlier rest) = rows_of_fields rest
+rows_left (nodes_left r rest) = rows_of_nodes rest
+
+-- the interface that is wanted of the nodes in this child
+abbrev pub wanted_of : Grammar → (class child : ℕ) → ℕ
+wanted_of g k c = interface_number g (child_at g k c).interface
+
+-- its nodes
+abbrev pub nodes_left_in : Grammar → Left → List StandingNode
+nodes_left_in g (fields_left r n earlier rest) = nodes_in g r.class rest
+nodes_left_in g (nodes_left r rest) = nodes_beside g (wanted_of g r.class r.child) rest
+
+-- all rows, and all nodes
+abbrev pub all_rows : List Left → List WrittenRow
+all_rows [] = []
+all_rows (x ∷ xs) = rows_left x ++ all_rows xs
+
+abbrev pub all_nodes : Grammar → List Left → List StandingNode
+all_nodes g [] = []
+all_nodes g (x ∷ xs) = nodes_left_in g x ++ all_nodes g xs
+
+-- the fields of a node have no fault, or the list is of a child of the class
+abbrev pub IsRightLeft : Grammar → Left → Type 0
+IsRightLeft g (fields_left r n earlier rest) = first_there (field_faults g n r.class earlier (field_heads rest)) ≡ None
+IsRightLeft g (nodes_left r rest) = r.child < length (class_at g r.class).children
+
+-- each region ends behind its rows, where the first begins here
+abbrev pub AreRegions : Grammar → (at : ℕ) → List Left → Type 0
+AreRegions g at [] = Unit {0}
+AreRegions g at (x ∷ xs) =
+    ((region_of x).class < length g.classes) × IsRightLeft g x × ((region_of x).end ≡ at + length (rows_left x))
+    × AreRegions g (region_of x).end xs
+
+-- how many attributes a node has
+abbrev pub width_of : Grammar → StandingNode → ℕ
+width_of g x = length (class_attributes g (class_number g x.class))
+
+-- this is left of the document, and what came before had no fault
+pub record IsWalked (g : Grammar) (node : WrittenNode) (rows : List WrittenRow) (p : Progress) : Type 0 where
+  pub lefts : List Left
+  pub stack : p.stack ≡ map region_of lefts
+  pub regions : AreRegions g p.at lefts
+  pub left : drop p.at rows ≡ all_rows lefts
+  pub faults : first_node_fault g node ≡ first_there (map (node_fault g) (numbered p.number (all_nodes g lefts)))
+  pub nodes : p.number + length (all_nodes g lefts) ≡ node_count node
+  pub few : node_count node ≤ most_nodes
+  pub count : p.count + sum_by (width_of g) (all_nodes g lefts) ≡ instance_count_of g node
+  pub small : p.count ≤ 128 * p.number
+
+-- what is kept of the grammar is right
+pub record IsReady (w : Walk) : Type 0 where
+  pub lawful : grammars.first_fault w.checked.now.grammar ≡ None
+  pub tables : AreTables w.checked.now.grammar w.tables.now
+  pub count : length w.tables.now ≡ length w.checked.now.grammar.classes
+
+-- some document is walked so far
+pub record CanWalk (w : Walk) (p : Progress) : Type 0 where
+  pub node : WrittenNode
+  pub walked : IsWalked w.checked.now.grammar node w.rows.now p
+
+-- a node of a class of this name is next, of which this interface is wanted, and whose fields are the rows between; the
+-- regions around it stand behind it
+pub record IsNext (g : Grammar) (node : WrittenNode) (rows : List WrittenRow) (p : Progress) (name : NameText)
+    (wanted from end : ℕ) : Type 0 where
+  pub fields : WrittenFields
+  pub outer : List Left
+  pub stack : p.stack ≡ map region_of outer
+  pub regions : AreRegions g end outer
+  pub within : from ≤ length rows
+  pub left : drop from rows ≡ rows_of_fields fields ++ all_rows outer
+  pub ends : end ≡ from + length (rows_of_fields fields)
+  pub faults : first_node_fault g node
+      ≡ first_there (map (node_fault g) (numbered p.number (standing wanted name fields
+      ∷ (nodes_in g (class_number g name) fields ++ all_nodes g outer))))
+  pub nodes : p.number + suc (length (nodes_in g (class_number g name) fields ++ all_nodes g outer)) ≡ node_count node
+  pub few : node_count node ≤ most_nodes
+  pub count : p.count + (length (class_attributes g (class_number g name))
+      + sum_by (width_of g) (nodes_in g (class_number g name) fields ++ all_nodes g outer)) ≡ instance_count_of g node
+  pub small : p.count ≤ 128 * p.number
+
+-- some document has this node next
+pub record CanEnter (w : Walk) (p : Progress) (next : NextNode) : Type 0 where
+  pub node : WrittenNode
+  pub is : IsNext w.checked.now.grammar node w.rows.now p next.class.now next.wanted next.from next.end
+
+-- this row is next
+abbrev pub IsRow : Walk → Progress → WrittenRow → Type 0
+IsRow w p row = drop p.at w.rows.now ≡ row ∷ drop (suc p.at) w.rows.now
+
+-- this region is the innermost, and not at its end
+pub record IsWithin (p : Progress) (r : Region) : Type 0 where
+  pub outer : List Region
+  pub stack : p.stack ≡ r ∷ outer
+  pub more : p.at < r.end
+
+-- the walk goes on, or this is the fault of the nodes, unless memory ran out
+abbrev pub GoesOn : Grammar → WrittenNode → List WrittenRow → Result (Unit {0}) DocFault → Progress → Type 0
+GoesOn g node rows (Ok done) p = IsWalked g node rows p
+GoesOn g node rows (Err e) p = e ≢ fault.OutOfMemory → first_node_fault g node ≡ Some e
+
+-- the nodes have no fault and so many attributes, or this is their fault, unless memory ran out
+abbrev pub Counts : Grammar → WrittenNode → Result ℕ DocFault → Type 0
+Counts g node (Ok count) = (first_node_fault g node ≡ None) × (count ≡ instance_count_of g node)
+Counts g node (Err e) = e ≢ fault.OutOfMemory → first_node_fault g node ≡ Some e

@@ -1,0 +1,310 @@
+//! A walk over the rows of a document.
+
+ghost use Rattle.std.specs.Prelude.{◌≡◌, suc, ◌+◌, ◌∷◌, ◌<◌, ◌≤◌, drop, length, slice_range, IfOk};
+ghost use Rattle.std.specs.Prelude.{OnOk};
+ghost use Rattle.ftl_grammar_faults.specs.Numbering.{class_at};
+ghost use Rattle.ftl_document_syntax.specs.Rows.{document_rows, rows_of_fields};
+ghost use Rattle.ftl_document_syntax.specs.Written.{WrittenFields, WrittenNode};
+ghost use Rattle.ftl_document_faults.specs.FirstFault.{node_fault};
+ghost use Rattle.ftl_document_faults.specs.Nodes.{child_number, standing};
+ghost use Rattle.ftl_document_names.specs.Placed.{IsClassOf};
+ghost use Rattle.ftl_document_walk.specs.Found.{AreRowsOf, FindsFault, IsWritten};
+ghost use Rattle.ftl_document_walk.specs.Walk.{CanEnter, CanWalk, Counts, GoesOn, IsNext};
+ghost use Rattle.ftl_document_walk.specs.Walk.{IsReady, IsRow, IsWalked, IsWithin};
+ghost use Rattle.ftl_document_walk.specs.Walk.{wanted_of};
+
+use crate::class_tables::ClassTable;
+use crate::stack::{Region, Stack};
+use ftl_checked::Checked;
+use ftl_document_faults::DocFault;
+use ftl_document_names::{KnownNode, OwnField, Slots, known_class, own_fields};
+use ftl_document_syntax::{NameRef, WrittenRow};
+use ftl_grammar_faults::Field;
+use std::alloc::{AllocError, Global};
+
+/// What a walk goes over.
+#[derive(Clone, Copy)]
+pub(crate) struct Walk<'a> {
+    pub(crate) checked: &'a Checked,
+    pub(crate) tables: &'a [ClassTable],
+    pub(crate) rows: &'a [WrittenRow<'a>],
+}
+
+/// How far a walk has come: the regions that it stands in, the next row, the number of the next
+/// node, and how many attributes the nodes before it have.
+#[derive(Drop)]
+pub(crate) struct Progress {
+    pub(crate) stack: Stack,
+    pub(crate) at: usize,
+    pub(crate) number: u32,
+    pub(crate) count: u64,
+}
+
+/// Room for what is known of one node.
+#[derive(Drop)]
+pub(crate) struct Scratch<'a> {
+    pub(crate) fields: Vec<OwnField<'a>>,
+    pub(crate) slots: Slots,
+}
+
+/// A node that is next: the name of its class, the interface that is wanted of it, and the places
+/// between which the rows of its fields stand.
+#[derive(Clone, Copy)]
+pub(crate) struct NextNode<'r, 'a> {
+    pub(crate) class: &'r NameRef<'a>,
+    pub(crate) wanted: u32,
+    pub(crate) from: usize,
+    pub(crate) end: usize,
+}
+
+impl<'a> Walk<'a> {
+    /// Looks at all nodes, and counts their attributes.
+    pub(crate) fn all(&self, alloc: Global, class: &NameRef<'a>) -> Result<u64, DocFault>
+        requires ready { IsReady self.now }
+        requires written { IsWritten (document_rows class.now self.now.rows.now) }
+        ensures exact { (node : WrittenNode)
+            → AreRowsOf node (document_rows class.now self.now.rows.now)
+            → Counts self.now.checked.now.grammar node result }
+    {
+        let mut progress = Progress {
+            stack: Stack::new(alloc),
+            at: 0,
+            number: 0,
+            count: 0,
+        };
+        let mut scratch = Scratch {
+            fields: Vec::new(alloc),
+            slots: Slots {
+                values: Vec::new(alloc),
+                latest: 0,
+            },
+        };
+        let root = NextNode {
+            class,
+            wanted: self.checked.root(),
+            from: 0,
+            end: self.rows.len(),
+        };
+        self.enter(alloc, root, &mut scratch, &mut progress)?;
+        self.finish(alloc, &mut scratch, &mut progress)
+    }
+
+    /// Looks at each node that is left.
+    fn finish(
+        &self,
+        alloc: Global,
+        scratch: &mut Scratch<'a>,
+        progress: &mut Progress,
+    ) -> Result<u64, DocFault>
+        requires ready { IsReady self.now }
+        requires walked { CanWalk self.now progress.old }
+        ensures exact { (node : WrittenNode)
+            → IsWalked self.now.checked.now.grammar node self.now.rows.now progress.old
+            → Counts self.now.checked.now.grammar node result }
+    {
+        while let Some(region) = progress.stack.pop() {
+            if progress.at < region.end {
+                progress.stack.push(region)?;
+                self.step(alloc, region, scratch, progress)?;
+            }
+        }
+        Ok(progress.count)
+    }
+
+    /// Goes on by one row.
+    fn step(
+        &self,
+        alloc: Global,
+        region: Region,
+        scratch: &mut Scratch<'a>,
+        progress: &mut Progress,
+    ) -> Result<(), DocFault>
+        requires ready { IsReady self.now }
+        requires walked { CanWalk self.now progress.old }
+        requires within { IsWithin progress.old region }
+        ensures exact { (node : WrittenNode)
+            → IsWalked self.now.checked.now.grammar node self.now.rows.now progress.old
+            → GoesOn self.now.checked.now.grammar node self.now.rows.now result progress.new }
+        ensures at { OnOk result (progress.new.at ≡ suc progress.old.at) }
+        ensures few { OnOk result (length progress.new.stack ≤ suc (length progress.old.stack)) }
+    {
+        let row = row_at(self.rows, progress.at);
+        self.pass(alloc, row, region, scratch, progress)
+    }
+
+    /// Goes on by this row.
+    fn pass(
+        &self,
+        alloc: Global,
+        row: &WrittenRow<'a>,
+        region: Region,
+        scratch: &mut Scratch<'a>,
+        progress: &mut Progress,
+    ) -> Result<(), DocFault>
+        requires ready { IsReady self.now }
+        requires walked { CanWalk self.now progress.old }
+        requires within { IsWithin progress.old region }
+        requires row { IsRow self.now progress.old row.now }
+        ensures exact { (node : WrittenNode)
+            → IsWalked self.now.checked.now.grammar node self.now.rows.now progress.old
+            → GoesOn self.now.checked.now.grammar node self.now.rows.now result progress.new }
+        ensures at { OnOk result (progress.new.at ≡ suc progress.old.at) }
+        ensures few { OnOk result (length progress.new.stack ≤ suc (length progress.old.stack)) }
+    {
+        match row {
+            WrittenRow::Number { .. } => {
+                progress.at += 1;
+                Ok(())
+            }
+            WrittenRow::Single { name, class, below } => {
+                let child = child_number(self.checked, region.class, name);
+                let next = self.next_node(region.class, child, class, *below, progress.at);
+                self.enter(alloc, next, scratch, progress)
+            }
+            WrittenRow::List { name, below } => {
+                let child = child_number(self.checked, region.class, name);
+                open_list(region.class, child, *below, progress)?;
+                Ok(())
+            }
+            WrittenRow::Kid { class, below } => {
+                let next = self.next_node(region.class, region.child, class, *below, progress.at);
+                self.enter(alloc, next, scratch, progress)
+            }
+        }
+    }
+
+    /// Looks at a node, and stands before its fields.
+    fn enter(
+        &self,
+        alloc: Global,
+        next: NextNode<'_, 'a>,
+        scratch: &mut Scratch<'a>,
+        progress: &mut Progress,
+    ) -> Result<(), DocFault>
+        requires ready { IsReady self.now }
+        requires next { CanEnter self.now progress.old next }
+        ensures exact { (node : WrittenNode)
+            → IsNext self.now.checked.now.grammar node self.now.rows.now progress.old
+            next.entry.class.now next.entry.wanted next.entry.from next.entry.end
+            → GoesOn self.now.checked.now.grammar node self.now.rows.now result progress.new }
+        ensures at { OnOk result (progress.new.at ≡ next.entry.from) }
+        ensures few { OnOk result (length progress.new.stack ≡ suc (length progress.old.stack)) }
+    {
+        let class = self.check_node(alloc, next, progress.number, scratch)?;
+        progress.stack.push(Region {
+            end: next.end,
+            class,
+            child: 0,
+        })?;
+        progress.at = next.from;
+        progress.number += 1;
+        progress.count += self.tables[class as usize].width as u64;
+        Ok(())
+    }
+
+    /// The class of a node without a fault.
+    fn check_node(
+        &self,
+        alloc: Global,
+        next: NextNode<'_, 'a>,
+        number: u32,
+        scratch: &mut Scratch<'a>,
+    ) -> Result<u32, DocFault>
+        requires ready { IsReady self.now }
+        requires from { next.from ≤ next.end }
+        requires end { next.end ≤ length self.now.rows.now }
+        ensures class { IfOk result (λ k. IsClassOf self.now.checked.now.grammar next.entry.wanted
+            next.entry.class.now k) }
+        ensures exact { (fields : WrittenFields)
+            → slice_range self.now.rows.now next.entry.from next.entry.end ≡ rows_of_fields fields
+            → FindsFault (node_fault self.now.checked.now.grammar (
+              number,
+              standing next.entry.wanted next.entry.class.now fields,
+            )) result }
+    {
+        let class = known_class(alloc, self.checked, number, next.wanted, next.class)?;
+        own_fields(&self.rows[next.from..next.end], &mut scratch.fields)?;
+        let node = KnownNode {
+            checked: self.checked,
+            table: &self.tables[class as usize].fields,
+            class,
+            number,
+        };
+        let found = node.check_fields(alloc, &scratch.fields, &mut scratch.slots);
+        let KnownNode {
+            checked: _checked,
+            table: _table,
+            class,
+            number: _number,
+        } = node;
+        found?;
+        Ok(class)
+    }
+
+    /// The node of the row at `at`, which stands in this child.
+    fn next_node<'r>(
+        &self,
+        class: u32,
+        child: u32,
+        name: &'r NameRef<'a>,
+        below: u32,
+        at: usize,
+    ) -> NextNode<'r, 'a>
+        requires class { class < length self.now.checked.now.grammar.classes }
+        requires child { child < length (class_at self.now.checked.now.grammar class).children }
+        requires at { at < length self.now.rows.now }
+        ensures name { result.class.now ≡ name.now }
+        ensures wanted { result.wanted ≡ wanted_of self.now.checked.now.grammar class child }
+        ensures from { result.from ≡ suc at }
+        ensures end { result.end ≡ suc at + below }
+    {
+        let from = at + 1;
+        NextNode {
+            class: name,
+            wanted: self.checked.child(class, child).interface,
+            from,
+            end: from + below as usize,
+        }
+    }
+}
+
+#[tactic(auto, using(crate::proofs::Rows::next_row))]
+fn row_at<'r, 'a>(rows: &'r [WrittenRow<'a>], at: usize) -> &'r WrittenRow<'a>
+    requires within { at < length rows.now }
+    ensures row { drop at rows.now ≡ result.now ∷ drop (suc at) rows.now }
+{
+    &rows[at]
+}
+
+/// Stands before the nodes of a list.
+fn open_list(class: u32, child: u32, below: u32, progress: &mut Progress) -> Result<(), AllocError>
+    requires at { progress.old.at < 4611686018427387904 }
+    ensures stack { OnOk result (progress.new.stack ≡ record {
+      end = suc progress.old.at + below;
+      class = class;
+      child = child;
+    } ∷ progress.old.stack) }
+    ensures at { OnOk result (progress.new.at ≡ suc progress.old.at) }
+    ensures number { OnOk result (progress.new.number ≡ progress.old.number) }
+    ensures count { OnOk result (progress.new.count ≡ progress.old.count) }
+{
+    let from = progress.at + 1;
+    progress.stack.push(Region {
+        end: from + below as usize,
+        class,
+        child,
+    })?;
+    progress.at = from;
+    Ok(())
+}
+
+/// The number of the child that a field of this name is of; 0 where it is none's.
+fn child_number(checked: &Checked, class: u32, name: &NameRef<'_>) -> u32
+    requires within { class < length checked.now.grammar.classes }
+    ensures child { result ≡ child_number checked.now.grammar class name.now }
+{
+    match checked.find_field(class, name.text()) {
+        Some(Field::Child(child)) => child,
+        Some(Field::Input(_)) | None => 0,
+    }
+}
