@@ -30,7 +30,8 @@ use Rattle.ftl_box_text.proofs.ShownAmong.{shown_at}
 -- whether a node shows Overflow
 abbrev pub overflows_at : CheckedTree → (words : List ℕ) → Path → Bool
 overflows_at t words p =
-    list_any (λ a. is_overflow (table_of_words t words (instance_of p a))) ((names_of t.checked.grammar).shown (class_at t.tree p))
+    list_any (λ a. is_overflow (table_of_words t words (instance_of p a)))
+    ((names_of t.checked.grammar).shown (class_at t.tree p))
 
 -- the node of a number
 module _ (t : CheckedTree) (n : ℕ) (is : IsTreeOf (meant t.checked) t.tree) (within : n < size t.tree) where
@@ -42,7 +43,8 @@ module _ (t : CheckedTree) (n : ℕ) (is : IsTreeOf (meant t.checked) t.tree) (w
 
   -- its class is one, and so is its interface
   pub class_within : node_class t n < length t.checked.grammar.classes
-  class_within = class_known (meant t.checked) t.tree is (node_at t.tree n) (has_at (meant t.checked) t.tree n is within)
+  class_within = class_known (meant t.checked) t.tree is (node_at t.tree n)
+      (has_at (meant t.checked) t.tree n is within)
 
   pub interface_within : first_fault t.checked.grammar ≡ None
       → interface_of t.checked.grammar (node_class t n) < length t.checked.grammar.interfaces
@@ -51,34 +53,42 @@ module _ (t : CheckedTree) (n : ℕ) (is : IsTreeOf (meant t.checked) t.tree) (w
   -- what it shows is one of its attributes
   pub of_class : (a : ℕ) → Contains (node_shows t n) a → Contains (attributes_of (meant t.checked) (node_class t n)) a
   of_class a there =
-      Contains-append_left ((meant t.checked).shared ((meant t.checked).interface (node_class t n))) ((meant t.checked).private (node_class t n)) a
+      Contains-append_left ((meant t.checked).shared ((meant t.checked).interface (node_class t n)))
+      ((meant t.checked).private (node_class t n)) a
       (shown_at t.checked.grammar (interface_of t.checked.grammar (node_class t n)) a there).shared
 
   -- and has a word
-  pub word_within : (words : List ℕ) (a : ℕ) → length words ≡ instance_count (meant t.checked) t.tree → Contains (node_shows t n) a
+  pub word_within : (words : List ℕ) (a : ℕ) → length words ≡ instance_count (meant t.checked) t.tree
+      → Contains (node_shows t n) a
       → instance_number (meant t.checked) t.tree (instance_of (node_at t.tree n) a) < length words
   word_within words a count there =
       let inside =
-      number_within (meant t.checked) t.tree (node_at t.tree n) a (has_at (meant t.checked) t.tree n is within) (of_class a there) in
+      number_within (meant t.checked) t.tree (node_at t.tree n) a (has_at (meant t.checked) t.tree n is within)
+      (of_class a there) in
       omega (arith, inside, count)
 
-  pub word_is : (words : List ℕ) (a d : ℕ) → length words ≡ instance_count (meant t.checked) t.tree → Contains (node_shows t n) a
+  pub word_is : (words : List ℕ) (a d : ℕ) → length words ≡ instance_count (meant t.checked) t.tree
+      → Contains (node_shows t n) a
       → value_of_word (get_or words (instance_number (meant t.checked) t.tree (instance_of (node_at t.tree n) a)) d)
       ≡ table_of_words t words (instance_of (node_at t.tree n) a)
   word_is words a d count there =
-      sym (get_or-map value_of_word words (instance_number (meant t.checked) t.tree (instance_of (node_at t.tree n) a)) d overflow
+      sym (get_or-map value_of_word words
+      (instance_number (meant t.checked) t.tree (instance_of (node_at t.tree n) a)) d overflow
       (word_within words a count there))
 
   -- one more line
   pub lines_more : (words out : List ℕ)
-      → out ≡ flat_map (node_line (names_of t.checked.grammar) t.tree (table_of_words t words)) (take n (preorder t.tree))
+      → out ≡ flat_map (node_line (names_of t.checked.grammar) t.tree (table_of_words t words))
+      (take n (preorder t.tree))
       → out ++ line_text t words n
-      ≡ flat_map (node_line (names_of t.checked.grammar) t.tree (table_of_words t words)) (take (n + 1) (preorder t.tree))
+      ≡ flat_map (node_line (names_of t.checked.grammar) t.tree (table_of_words t words))
+      (take (n + 1) (preorder t.tree))
   lines_more words out before =
       let f = node_line (names_of t.checked.grammar) t.tree (table_of_words t words) in
       let p = node_at t.tree n in
       ap (λ o. o ++ line_text t words n) before
-      ∙ ap (λ m. flat_map f (take n (preorder t.tree)) ++ (decimal m ++ codes " " ++ (names_of t.checked.grammar).class_name (node_class t n)
+      ∙ ap (λ m. flat_map f (take n (preorder t.tree))
+      ++ (decimal m ++ codes " " ++ (names_of t.checked.grammar).class_name (node_class t n)
       ++ fields_text t words n (node_shows t n) ++ codes "\n")) (sym here)
       ∙ flat_map_more f [] (take n (preorder t.tree)) p
       ∙ ap (flat_map f) (sym (take_more (preorder t.tree) n top in_order))

@@ -29,7 +29,8 @@ shown_among g i attrs = map (λ a. a.0) (filter (λ a. is_among (interface_at g 
 -- the entry at a place of one of several lists
 entry : {X Y Z : Type 0} (f : X → List Y) (h : ℕ → Y → Z) (e : X) (d : Y) (o : Z) (s i place : ℕ) (xs : List X)
     → i < length xs → place < length (f (get_or xs i e))
-    → get_or (entries f h s xs) (length (flat_map f (take i xs)) + place) o ≡ h (s + i) (get_or (f (get_or xs i e)) place d)
+    → get_or (entries f h s xs) (length (flat_map f (take i xs)) + place) o
+    ≡ h (s + i) (get_or (f (get_or xs i e)) place d)
 entry f h e d o s i place [] known within = absurd (let z : ⊥ = omega (arith, known) in z)
 entry f h e d o s zero place (x ∷ xs) known within =
     let first : 0 + place ≡ place = omega arith in
@@ -41,17 +42,20 @@ entry f h e d o s zero place (x ∷ xs) known within =
 entry f h e d o s (suc i) place (x ∷ xs) known within =
     let split = length-append (f x) (flat_map f (take i xs)) in
     let past : length (f x) ≤ length (flat_map f (take (suc i) (x ∷ xs))) + place = omega (arith, split) in
-    let left : length (flat_map f (take (suc i) (x ∷ xs))) + place - length (f x) ≡ length (flat_map f (take i xs)) + place =
+    let left : length (flat_map f (take (suc i) (x ∷ xs))) + place - length (f x)
+    ≡ length (flat_map f (take i xs)) + place =
     omega (arith, split) in
     let next : suc s + i ≡ s + suc i = omega arith in
-    get_or-append_right (map (h s) (f x)) (entries f h (suc s) xs) (length (f x)) (length (flat_map f (take (suc i) (x ∷ xs))) + place) o
+    get_or-append_right (map (h s) (f x)) (entries f h (suc s) xs) (length (f x))
+    (length (flat_map f (take (suc i) (x ∷ xs))) + place) o
     (length-map (f x) (h s)) past
     ∙ ap (λ n. get_or (entries f h (suc s) xs) n o) left
     ∙ entry f h e d o (suc s) i place xs (omega (arith, known)) within
     ∙ ap (λ m. h m (get_or (f (get_or xs i e)) place d)) next
 
 -- entries with their numbers
-pub at_number : {X : Type 0} (n i : ℕ) (m : ℕ) (d : X) (xs : List X) → i < length xs → get_or (numbered n xs) i (m, d) ≡ (n + i, get_or xs i d)
+pub at_number : {X : Type 0} (n i : ℕ) (m : ℕ) (d : X) (xs : List X) → i < length xs
+    → get_or (numbered n xs) i (m, d) ≡ (n + i, get_or xs i d)
 at_number n i m d [] within = absurd (let z : ⊥ = omega (arith, within) in z)
 at_number n zero m d (x ∷ xs) within = ap (λ k. (k, x)) (sym (add-zero n))
 at_number n (suc i) m d (x ∷ xs) within =
@@ -68,7 +72,8 @@ no_interface = trees.interface [] [] []
 abbrev no_attribute : AttrDecl
 no_attribute = trees.attr_decl kinds.Inh []
 
-module _ (g : Grammar) (i place : ℕ) (known : i < length g.interfaces) (within : place < length (interface_at g i).attrs) where
+module _ (g : Grammar) (i place : ℕ) (known : i < length g.interfaces)
+    (within : place < length (interface_at g i).attrs) where
   abbrev number : ℕ
   number = shared_count (take i g.interfaces) + place
 
@@ -88,8 +93,10 @@ module _ (g : Grammar) (i place : ℕ) (known : i < length g.interfaces) (within
   is_declared =
       get_or_append_left (entries (λ (x : Interface). x.attrs) (declared false) 0 g.interfaces)
       (entries (λ (k : Class). k.attrs) (declared true) 0 g.classes) (declared false 0 no_attribute) number
-      (let long = counted (λ (x : Interface). x.attrs) (declared false) 0 g.interfaces in omega (arith, among_shared, long))
-      ∙ entry (λ (x : Interface). x.attrs) (declared false) no_interface no_attribute (declared false 0 no_attribute) 0 i place g.interfaces
+      (let long = counted (λ (x : Interface). x.attrs) (declared false) 0 g.interfaces in
+      omega (arith, among_shared, long))
+      ∙ entry (λ (x : Interface). x.attrs) (declared false) no_interface no_attribute (declared false 0 no_attribute)
+      0 i place g.interfaces
       known within
       ∙ ap (λ n. declared false n decl) (let z : 0 + i ≡ i = omega arith in z)
 
@@ -98,7 +105,8 @@ module _ (g : Grammar) (i place : ℕ) (known : i < length g.interfaces) (within
   shown_is = ap (is_shown g) is_declared
 
   one_more : (b : Bool) → is_shown g (attribute_at g number) ≡ b
-      → shown_among g i (take (place + 1) (shared_attributes g i)) ≡ shown_among g i (take place (shared_attributes g i)) ++ cond b (number ∷ []) []
+      → shown_among g i (take (place + 1) (shared_attributes g i))
+      ≡ shown_among g i (take place (shared_attributes g i)) ++ cond b (number ∷ []) []
   one_more b is =
       let attrs = shared_attributes g i in
       let shows : ℕ × AttrDecl → Bool = λ a. is_among (interface_at g i).shown a.1.name in
@@ -112,23 +120,29 @@ module _ (g : Grammar) (i place : ℕ) (known : i < length g.interfaces) (within
       ∙ map-append (λ (a : ℕ × AttrDecl). a.0) (filter shows (take place attrs)) (filter shows (this ∷ []))
       ∙ ap (λ xs. shown_among g i (take place attrs) ++ xs) (this_one (shows this) (sym shown_is ∙ is))
     where
-      this_one : (c : Bool) → c ≡ b → map (λ (a : ℕ × AttrDecl). a.0) (cond c ((number, decl) ∷ []) []) ≡ cond b (number ∷ []) []
-      this_one true e = subst (λ c. map (λ (a : ℕ × AttrDecl). a.0) (cond true ((number, decl) ∷ []) []) ≡ cond c (number ∷ []) []) e refl
-      this_one false e = subst (λ c. map (λ (a : ℕ × AttrDecl). a.0) (cond false ((number, decl) ∷ []) []) ≡ cond c (number ∷ []) []) e refl
+      this_one : (c : Bool) → c ≡ b
+          → map (λ (a : ℕ × AttrDecl). a.0) (cond c ((number, decl) ∷ []) []) ≡ cond b (number ∷ []) []
+      this_one true e =
+          subst (λ c. map (λ (a : ℕ × AttrDecl). a.0) ((number, decl) ∷ []) ≡ cond c (number ∷ []) []) e refl
+      this_one false e = subst (λ c. [] ≡ cond c (number ∷ []) []) e refl
 
 -- one attribute more
-pub shown_step : (g : Grammar) (i first end a : ℕ) (row : List ℕ) → i < length g.interfaces → first ≡ shared_count (take i g.interfaces)
+pub shown_step : (g : Grammar) (i first end a : ℕ) (row : List ℕ) → i < length g.interfaces
+    → first ≡ shared_count (take i g.interfaces)
     → end ≡ shared_count (take (i + 1) g.interfaces) → first ≤ a → a < end
     → row ≡ shown_among g i (take (a - first) (shared_attributes g i))
-    → row ++ cond (is_shown g (attribute_at g a)) (a ∷ []) [] ≡ shown_among g i (take (a + 1 - first) (shared_attributes g i))
+    → row ++ cond (is_shown g (attribute_at g a)) (a ∷ []) []
+    ≡ shown_among g i (take (a + 1 - first) (shared_attributes g i))
 shown_step g i first end a row known from to low high is =
     let more = count_more (λ (x : Interface). x.attrs) g.interfaces i no_interface known in
     let within : a - first < length (interface_at g i).attrs = omega (arith, from, to, low, high, more) in
     let same : shared_count (take i g.interfaces) + (a - first) ≡ a = omega (arith, from, low) in
     let next : a - first + 1 ≡ a + 1 - first = omega (arith, low) in
     ap (λ r. r ++ cond (is_shown g (attribute_at g a)) (a ∷ []) []) is
-    ∙ ap (λ m. shown_among g i (take (a - first) (shared_attributes g i)) ++ cond (is_shown g (attribute_at g m)) (m ∷ []) []) (sym same)
-    ∙ sym (one_more g i (a - first) known within (is_shown g (attribute_at g (shared_count (take i g.interfaces) + (a - first)))) refl)
+    ∙ ap (λ m. shown_among g i (take (a - first) (shared_attributes g i))
+    ++ cond (is_shown g (attribute_at g m)) (m ∷ []) []) (sym same)
+    ∙ sym (one_more g i (a - first) known within
+    (is_shown g (attribute_at g (shared_count (take i g.interfaces) + (a - first)))) refl)
     ∙ ap (λ m. shown_among g i (take m (shared_attributes g i))) next
 
 -- all of them
@@ -170,7 +184,8 @@ shown_at g i a there =
     let s = in_numbered (shared_count (take i g.interfaces)) (interface_at g i).attrs m.from shared in
     let number : a ≡ shared_count (take i g.interfaces) + s.place = sym m.is ∙ s.number in
     record {
-      shared = subst (Contains (map (λ x. x.0) (shared_attributes g i))) m.is (map_has (λ x. x.0) (shared_attributes g i) m.from shared);
+      shared = subst (Contains (map (λ x. x.0) (shared_attributes g i))) m.is
+          (map_has (λ x. x.0) (shared_attributes g i) m.from shared);
       known = subst (λ n. n < length (all_attributes g)) (sym number) (number_known g i s.place at.0 s.known);
       name =
           ap (λ n. (attribute_at g n).decl.name) number
@@ -181,7 +196,8 @@ shown_at g i a there =
     }
 
 -- the row of an interface
-pub row_is : (g : Grammar) (i : ℕ) (d : List ℕ) → i < length g.interfaces → get_or (shown_rows g) i d ≡ shown_attributes g i
+pub row_is : (g : Grammar) (i : ℕ) (d : List ℕ) → i < length g.interfaces
+    → get_or (shown_rows g) i d ≡ shown_attributes g i
 row_is g i d known =
     get_or-map (λ x. shown_attributes g x.0) (numbered 0 g.interfaces) i (0, no_interface) d
     (omega (arith, known, length-numbered 0 g.interfaces))

@@ -6,8 +6,8 @@ use Rattle.ftl_model.specs.Values.{Value, IsValue, number, overflow, word_of_val
 use Rattle.ftl_dep_table.specs.Meant.{meant}
 use Rattle.ftl_tree.specs.CheckedTree.{CheckedTree}
 
--- the value whose word it is: 1 to 281474976710656 are the words of the numbers of the wide range, from the least to the
--- greatest; 281474976710657 is the word of Overflow, and what is the word of none stands for Overflow too
+-- the value whose word it is: 1 to 281474976710656 are the words of the numbers of the wide range, from the least to
+-- the greatest; 281474976710657 is the word of Overflow, and what is the word of none stands for Overflow too
 abbrev pub value_of_word : ℕ → Value
 value_of_word w =
     if nat_lt 0 w && nat_lt w 281474976710657 then number (pos w -ℤ pos 140737488355329) else overflow

@@ -14,5 +14,6 @@ attr_name-requires c =
 pub returns : goal.returns
 returns c =
     let g = c.args.tree.now.checked.grammar in
-    let name = (shown_at g (interface_of g (node_class c.args.tree.now c.args.node)) c.args.attr c.requires.attr).name in
+    let name = (shown_at g (interface_of g (node_class c.args.tree.now c.args.node)) c.args.attr
+    c.requires.attr).name in
     grind (arith, common_steps)

@@ -10,4 +10,5 @@ use Rattle.ftl_box_text.proofs.print.node_overflows.Given as goal
 abbrev pub invariant-loop-attr : goal.invariant-loop-attr
 invariant-loop-attr l =
     list_any (λ a. is_overflow (table_of_words l.tree l.words (instance_of (node_at l.tree.tree l.node) a))) l.shown
-    ≡ list_any (λ a. is_overflow (table_of_words l.tree l.words (instance_of (node_at l.tree.tree l.node) a))) (drop l.attr-index l.shown)
+    ≡ list_any (λ a. is_overflow (table_of_words l.tree l.words (instance_of (node_at l.tree.tree l.node) a)))
+    (drop l.attr-index l.shown)

@@ -10,4 +10,5 @@ use Rattle.ftl_box_text.proofs.print.print_boxes.Given as goal
 abbrev pub invariant-loop-node : goal.invariant-loop-node
 invariant-loop-node l =
     l.out.items
-    ≡ flat_map (node_line (names_of l.tree.checked.grammar) l.tree.tree (table_of_words l.tree l.words)) (take l.node (preorder l.tree.tree))
+    ≡ flat_map (node_line (names_of l.tree.checked.grammar) l.tree.tree (table_of_words l.tree l.words))
+    (take l.node (preorder l.tree.tree))

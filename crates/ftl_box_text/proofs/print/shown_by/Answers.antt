@@ -13,13 +13,16 @@ interface_of-interface-requires c =
 
 pub bounds-as_slice-interface : goal.bounds-as_slice-interface
 bounds-as_slice-interface c =
-    let known = interface_within c.args.tree.now c.args.node c.row.ensures.is_tree c.requires.node (grind (arith, common_steps)) in
+    let known = interface_within c.args.tree.now c.args.node c.row.ensures.is_tree c.requires.node
+    (grind (arith, common_steps)) in
     let long = length-rows c.args.tree.now.checked.grammar in
     grind (arith, common_steps)
 
 pub returns : goal.returns
 returns c =
     let g = c.args.tree.now.checked.grammar in
-    let known = interface_within c.args.tree.now c.args.node c.row.ensures.is_tree c.requires.node (grind (arith, common_steps)) in
-    let is = row_is g (interface_of g (node_class c.args.tree.now c.args.node)) c.index-as_slice-interface.result known in
+    let known = interface_within c.args.tree.now c.args.node c.row.ensures.is_tree c.requires.node
+    (grind (arith, common_steps)) in
+    let is = row_is g (interface_of g (node_class c.args.tree.now c.args.node)) c.index-as_slice-interface.result
+    known in
     grind (arith, common_steps)

@@ -14,12 +14,14 @@ returns-then-node_overflows c =
     let later = list_any (overflows_at t words) (drop (c.loop-node.node + 1) (preorder t.tree)) in
     let any =
     c.node_overflows.ensures.any
-    ∙ ap (list_any (λ a. is_overflow (table_of_words t words (instance_of (node_at t.tree c.loop-node.node) a)))) c.shown_by.ensures.shown in
+    ∙ ap (list_any (λ a. is_overflow (table_of_words t words (instance_of (node_at t.tree c.loop-node.node) a))))
+    c.shown_by.ensures.shown in
     record {
       shown =
           sym
           (c.loop-node.invariant
-          ∙ overflows_more t c.loop-node.node c.node_count-node-end.ensures.is_tree (omega (arith, c.node_count-node-end.ensures.count)) words
+          ∙ overflows_more t c.loop-node.node c.node_count-node-end.ensures.is_tree
+          (omega (arith, c.node_count-node-end.ensures.count)) words
           ∙ ap (λ b. b || later) (sym any ∙ c.if-node_overflows.true));
     }
 
@@ -30,9 +32,11 @@ loop-node-preserved c =
     let later = list_any (overflows_at t words) (drop (c.loop-node.node + 1) (preorder t.tree)) in
     let any =
     c.node_overflows.ensures.any
-    ∙ ap (list_any (λ a. is_overflow (table_of_words t words (instance_of (node_at t.tree c.loop-node.node) a)))) c.shown_by.ensures.shown in
+    ∙ ap (list_any (λ a. is_overflow (table_of_words t words (instance_of (node_at t.tree c.loop-node.node) a))))
+    c.shown_by.ensures.shown in
     c.loop-node.invariant
-    ∙ overflows_more t c.loop-node.node c.node_count-node-end.ensures.is_tree (omega (arith, c.node_count-node-end.ensures.count)) words
+    ∙ overflows_more t c.loop-node.node c.node_count-node-end.ensures.is_tree
+    (omega (arith, c.node_count-node-end.ensures.count)) words
     ∙ ap (λ b. b || later) (sym any ∙ c.if-node_overflows.false)
 
 pub returns : goal.returns
@@ -40,5 +44,6 @@ returns c = record {
   shown =
       sym
       (c.loop-node.invariant
-      ∙ overflows_all c.args.tree.now c.args.words.now c.loop-node.node c.node_count-node-end.ensures.is_tree (omega (arith, c.node_count-node-end.ensures.count)));
+      ∙ overflows_all c.args.tree.now c.args.words.now c.loop-node.node c.node_count-node-end.ensures.is_tree
+      (omega (arith, c.node_count-node-end.ensures.count)));
 }

@@ -9,10 +9,12 @@ instance-requires-clause-attr c =
 
 pub bounds-words-instance : goal.bounds-words-instance
 bounds-words-instance c =
-    let within = word_within c.args.tree.now c.args.node c.requires.words.is_tree c.requires.node c.args.words.now c.args.attr c.requires.words.count c.requires.attr in
+    let within = word_within c.args.tree.now c.args.node c.requires.words.is_tree c.requires.node c.args.words.now
+    c.args.attr c.requires.words.count c.requires.attr in
     grind (arith, common_steps)
 
 pub returns : goal.returns
 returns c =
-    let is = word_is c.args.tree.now c.args.node c.requires.words.is_tree c.requires.node c.args.words.now c.args.attr 0 c.requires.words.count c.requires.attr in
+    let is = word_is c.args.tree.now c.args.node c.requires.words.is_tree c.requires.node c.args.words.now
+    c.args.attr 0 c.requires.words.count c.requires.attr in
     grind (arith, common_steps)

@@ -6,4 +6,5 @@ use Rattle.ftl_box_text.proofs.shown.shown_row.Given as goal
 -- those among the first attributes
 abbrev pub invariant-loop-attr : goal.invariant-loop-attr
 invariant-loop-attr l =
-    l.row ≡ shown_among l.checked.grammar l.interface (take (l.attr - l.first) (shared_attributes l.checked.grammar l.interface))
+    l.row ≡ shown_among l.checked.grammar l.interface
+    (take (l.attr - l.first) (shared_attributes l.checked.grammar l.interface))

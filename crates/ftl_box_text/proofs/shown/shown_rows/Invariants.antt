@@ -6,7 +6,8 @@ use Rattle.ftl_box_text.proofs.shown.shown_rows.Given as goal
 
 abbrev pub invariant-loop-interface : goal.invariant-loop-interface
 invariant-loop-interface l = record {
-  built : l.rows ++ map (λ x. shown_attributes l.checked.grammar x.0) (numbered l.interface (drop l.interface l.checked.grammar.interfaces))
+  built : l.rows ++ map (λ x. shown_attributes l.checked.grammar x.0)
+      (numbered l.interface (drop l.interface l.checked.grammar.interfaces))
       ≡ shown_rows l.checked.grammar;
   at : l.first ≡ shared_count (take l.interface l.checked.grammar.interfaces);
 }
