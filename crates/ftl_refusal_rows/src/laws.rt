@@ -8,7 +8,9 @@ ghost use Rattle.ftl_grammar_faults.specs.declared.fault.What.TheVariants as wha
 ghost use Rattle.ftl_refusals.specs.DocumentLines.{document_line};
 ghost use Rattle.ftl_refusals.specs.GrammarLines.{what_text};
 ghost use Rattle.ftl_refusals.specs.Names.{read_text};
+ghost use Rattle.ftl_plan_limits.specs.declared.fault.PlanFault.TheVariants as plan;
 ghost use Rattle.ftl_refusals.specs.PageLines.{too_long_line, words_line};
+ghost use Rattle.ftl_refusals.specs.PlanLines.{plan_line};
 ghost use Rattle.ftl_refusals.specs.ScheduleLines.{stuck_line, verify_line};
 ghost use Rattle.ftl_schedule_faults.specs.declared.fault.VerifyFault.TheVariants as verify;
 
@@ -36,6 +38,10 @@ pub fn lines_of_documents()
         ≡ codes "refused document: too many nodes: 1048577" }
     ensures instances { document_line stack (fault.TooManyInstances 33554433)
         ≡ codes "refused document: too many instances: 33554433" }
+    ensures stage_reads { plan_line (plan.TooManyReads 2 67108865)
+        ≡ codes "refused document: too many reads in stage 2: 67108865" }
+    ensures step_reads { plan_line (plan.StepTooWide 1 1048577)
+        ≡ codes "refused document: too many reads of one rule in stage 1: 1048577" }
 {}
 
 /// A law: lines of schedules of the stack grammar.

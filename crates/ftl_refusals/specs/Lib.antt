@@ -4,4 +4,5 @@ pub mod TextLines
 pub mod GrammarLines
 pub mod ScheduleLines
 pub mod DocumentLines
+pub mod PlanLines
 pub mod WorkedRules

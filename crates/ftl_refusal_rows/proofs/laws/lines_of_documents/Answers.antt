@@ -46,3 +46,11 @@ returns-clause-nodes c = refl
 pub returns-clause-instances : goal.returns-clause-instances
 unfolding digits
 returns-clause-instances c = refl
+
+pub returns-clause-stage_reads : goal.returns-clause-stage_reads
+unfolding digits
+returns-clause-stage_reads c = refl
+
+pub returns-clause-step_reads : goal.returns-clause-step_reads
+unfolding digits
+returns-clause-step_reads c = refl
