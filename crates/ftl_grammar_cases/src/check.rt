@@ -15,7 +15,7 @@ use ftl_tokens::{Scanned, tokens};
 use std::alloc::{AllocError, Global};
 
 /// The refusal line of the grammar that the text spells, or that it is accepted.
-pub fn answer(alloc: Global, text: &str) -> Result<String, AllocError> {
+pub(crate) fn checked_line(alloc: Global, text: &str) -> Result<String, AllocError> {
     let mut line = Vec::new(alloc);
     text_line(alloc, &mut line, text)?;
     line.push(b'\n')?;

@@ -9,7 +9,7 @@ use std::fmt::Write;
 
 /// The number of the root's interface of a shipped grammar, and what stands for each of the names,
 /// a line each.
-pub fn found(alloc: Global, grammar: &str, names: &str) -> Result<String, AllocError> {
+pub(crate) fn found(alloc: Global, grammar: &str, names: &str) -> Result<String, AllocError> {
     let text = shipped(grammar).unwrap_or("");
     match grammar_of_text(alloc, text, Width::Narrow)? {
         Some(checked) => all_found(alloc, &checked, names),
