@@ -1,0 +1,3 @@
+pub mod RisingLists
+pub mod KidNumbers
+pub mod Places
