@@ -1,3 +1,5 @@
 pub mod RisingLists
 pub mod KidNumbers
 pub mod Places
+pub mod NextNumbers
+pub mod Ranges

@@ -1,6 +1,14 @@
-ghost use Rattle.ftl_item_numbers.specs.NumberLaws.{ItemsAreRanges};
+ghost use Rattle.ftl_item_numbers.specs.NumberLaws.{ItemsAreRanges, OfPasses};
+ghost use Rattle.ftl_item_numbers.specs.NumberLaws.{PassesStandInOrder, ItemsStandAtTheirPlaces};
+ghost use Rattle.ftl_item_numbers.specs.NumberLaws.{NextsAreNumbered, PredecessorsAreNumbered};
 
-/// Trial.
+/// A law: the nodes of an item are a range of preorder numbers. The items of a pass stand one after
+/// another, each at the count of those that begin before it, or behind it in a bottomup pass. An
+/// item hands on to those of its node's kids, first to last, or to that of its parent.
 pub fn item_numbers()
-    ensures ranges { ItemsAreRanges → ItemsAreRanges }
+    ensures ranges { ItemsAreRanges }
+    ensures passes { OfPasses PassesStandInOrder }
+    ensures places { OfPasses ItemsStandAtTheirPlaces }
+    ensures nexts { OfPasses NextsAreNumbered }
+    ensures predecessors { OfPasses PredecessorsAreNumbered }
 {}
