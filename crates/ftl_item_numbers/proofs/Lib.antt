@@ -3,3 +3,5 @@ pub mod KidNumbers
 pub mod Places
 pub mod NextNumbers
 pub mod Ranges
+pub mod Begins
+pub mod NextCounts

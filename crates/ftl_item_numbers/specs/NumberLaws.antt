@@ -1,18 +1,24 @@
 -- Which number each item of a stage has, and that it hands on to the items of its node's kids or parent.
-use Rattle.std.specs.Prelude.{◌≡◌, ℕ, ◌+◌, ◌<◌, List, length, map, slice_index_or, Contains}
+use Rattle.std.specs.Prelude.{◌≡◌, ℕ, ◌+◌, ◌<◌, nat_lt, List, length, map, slice_index_or, Contains}
 use Rattle.std.specs.List.{range_with_len}
 use Rattle.ftl_model.specs.AttributeGrammar.{AttributeGrammar}
-use Rattle.ftl_model.specs.Path.{Has, Path, number_of, top}
+use Rattle.ftl_model.specs.Path.{Has, Path, down, number_of, size_at, top}
 use Rattle.ftl_model.specs.Tree.{Forest}
 use Rattle.ftl_model.specs.TreeOf.{IsTreeOf}
 use Rattle.ftl_order.specs.Schedule.{Pass}
-use Rattle.ftl_items.specs.Cut.{nodes_of, tops}
+use Rattle.ftl_items.specs.Cut.{begins, nodes_of, tops}
 use Rattle.ftl_items.specs.Items.{Item, item, items, nexts, no_item, pass_in, predecessors}
 use Rattle.ftl_item_numbers.specs.ItemNumbers.{next_numbers, place_in_pass, predecessor_numbers, start_of_pass}
 
 -- of the passes of a stage, on each tree of a grammar and at each grain
 abbrev pub OfPasses : (AttributeGrammar → List Pass → Forest → (grain : ℕ) → Type 0) → Type 0
 OfPasses P = (g : AttributeGrammar) (passes : List Pass) (t : Forest) → IsTreeOf g t → (grain : ℕ) → P g passes t grain
+
+-- an item begins at a node other than the root exactly where its parent's tree has more nodes than an item
+abbrev pub ItemsBeginBelowLargeTrees : Type 0
+ItemsBeginBelowLargeTrees =
+    (t : Forest) (grain child kid : ℕ) (p : Path) → Has t (down child kid p)
+    → begins t grain (down child kid p) ≡ nat_lt grain (size_at t p)
 
 -- the nodes of an item stand one after another in preorder
 abbrev pub ItemsAreRanges : Type 0

@@ -1,13 +1,14 @@
-// A library with one function.
+//! The items of a stage in flat rows. Goes in: a tree, how many nodes an item has at most, and the
+//! passes of a stage. Comes out: `ItemRows`, once for all passes, where items begin and how many
+//! before each node; `StageItems`, what each item of a stage hands on to, which is what the items
+//! of `ftl_items` do. `specs/RowsFit.antt` says what the rows hold.
 #![tactic(auto)]
 
-ghost use Rattle.std.specs.Prelude.{◌≡◌};
-ghost use Rattle.ftl_item_rows.specs.Echo.{echo_of};
+mod begins;
+mod kids;
+mod next;
+mod rows;
+mod stage;
 
-// The `ensures` clause is the contract: what `echo` returns is `echo_of` of its argument, a definition
-// in `specs/Echo.antt`, which a caller's clause can cite too.
-pub fn echo(x: usize) -> usize
-    ensures { result ≡ echo_of x }
-{
-    x
-}
+pub use rows::ItemRows;
+pub use stage::{ItemPlace, StageItems, pass_starts};

@@ -1,12 +1,15 @@
 use Rattle.ftl_order.proofs.Kids.{root_there}
 use Rattle.ftl_items.specs.Items.{pass_in}
+use Rattle.ftl_item_numbers.proofs.Begins.{begins-size}
 use Rattle.ftl_item_numbers.proofs.NextNumbers.{nexts_numbered, predecessors_numbered}
 use Rattle.ftl_item_numbers.proofs.Places.{pass_stands, pass_within, placed_in}
 use Rattle.ftl_item_numbers.proofs.Ranges.{numbers-nodes}
+use Rattle.ftl_item_numbers.proofs.NextCounts
 use Rattle.ftl_item_numbers.proofs.number_laws.item_numbers.Goals as goal
 
 pub returns : goal.returns
 returns c = record {
+  begins = λ t grain child kid p h. begins-size t grain child kid p h;
   ranges = λ t grain p h. numbers-nodes t p grain;
   passes = λ g passes t fits grain m j known below. (
     pass_within t grain (root_there g t fits) passes m j known below,
