@@ -34,7 +34,7 @@ joined true q a b = b
 joined false q a b = absurd (let z : ⊥ = grind arith in z)
 
 -- an item begins at a node that lies in no small tree
-open_begins : (t : Forest) (grain : ℕ) (p : Path) → is_open (is_small t grain) p ≡ true → begins t grain p ≡ true
+pub open_begins : (t : Forest) (grain : ℕ) (p : Path) → is_open (is_small t grain) p ≡ true → begins t grain p ≡ true
 open_begins t grain top e = refl
 open_begins t grain (down c k p) e =
     elim (is_small t grain (down c k p)) as

@@ -23,6 +23,31 @@ pub record PlacedIn (kind : PassKind) (t : Forest) (grain : ℕ) (p : Path) : Ty
   pub within : place_in_pass kind t grain p < length (tops kind t grain)
   pub is : get_or (tops kind t grain) (place_in_pass kind t grain p) top ≡ p
 
+module _ (t : Forest) (grain : ℕ) (passes : List Pass) where
+  -- the start of the next pass
+  pub start_next : (m : ℕ)
+      → start_of_pass passes t grain (m + 1)
+      ≡ start_of_pass passes t grain m + length (tops (pass_in passes m).kind t grain)
+  start_next m =
+      let f = items_of_pass passes t grain in
+      ap (λ ns. length (flat_map f ns)) (range-append 0 m 1)
+      ∙ ap length (flat_map-append f (range_with_len 0 m) ((0 + m) ∷ []))
+      ∙ length-append (flat_map f (range_with_len 0 m)) (flat_map f ((0 + m) ∷ []))
+      ∙ ap (λ n. start_of_pass passes t grain m + n)
+      (length-append (f (0 + m)) []
+      ∙ (let e : length (f (0 + m)) + 0 ≡ length (f (0 + m)) = omega arith in e)
+      ∙ (let e : 0 + m ≡ m = omega arith in ap (λ n. length (f n)) e)
+      ∙ length-map (tops (pass_in passes m).kind t grain) (item m))
+
+  start_rises : (m n : ℕ) → start_of_pass passes t grain m ≤ start_of_pass passes t grain (m + n)
+  start_rises m zero = (let e : m ≡ m + 0 = omega arith in let f = ap (start_of_pass passes t grain) e in omega (arith, f))
+  start_rises m (suc n) =
+      let e : m + suc n ≡ (m + n) + 1 = omega arith in
+      let f = ap (start_of_pass passes t grain) e in
+      let i = start_rises m n in
+      let next = start_next (m + n) in
+      omega (arith, f, i, next)
+
 module _ (t : Forest) (grain : ℕ) (rooted : IsTree t) where
   known_number : (p : Path) → Has t p → number_of t p < length (preorder t)
   known_number p h = let a = number_of-lt t p h in let e = length-preorder t in omega (arith, a, e)
@@ -72,21 +97,6 @@ module _ (t : Forest) (grain : ℕ) (rooted : IsTree t) where
       }
 
   module _ (passes : List Pass) where
-    -- the start of the next pass
-    pub start_next : (m : ℕ)
-        → start_of_pass passes t grain (m + 1)
-        ≡ start_of_pass passes t grain m + length (tops (pass_in passes m).kind t grain)
-    start_next m =
-        let f = items_of_pass passes t grain in
-        ap (λ ns. length (flat_map f ns)) (range-append 0 m 1)
-        ∙ ap length (flat_map-append f (range_with_len 0 m) ((0 + m) ∷ []))
-        ∙ length-append (flat_map f (range_with_len 0 m)) (flat_map f ((0 + m) ∷ []))
-        ∙ ap (λ n. start_of_pass passes t grain m + n)
-        (length-append (f (0 + m)) []
-        ∙ (let e : length (f (0 + m)) + 0 ≡ length (f (0 + m)) = omega arith in e)
-        ∙ (let e : 0 + m ≡ m = omega arith in ap (λ n. length (f n)) e)
-        ∙ length-map (tops (pass_in passes m).kind t grain) (item m))
-
     take-range : (m n : ℕ) → m ≤ n → take m (range_with_len 0 n) ≡ range_with_len 0 m
     take-range m n low =
         let e : m + (n - m) ≡ n = omega (arith, low) in
@@ -113,23 +123,14 @@ module _ (t : Forest) (grain : ℕ) (rooted : IsTree t) where
         ∙ ap (λ n. get_or (f n) j no_item) here
         ∙ get_or-map (item m) starts j top no_item below
 
-    start_rises : (m n : ℕ) → start_of_pass passes t grain m ≤ start_of_pass passes t grain (m + n)
-    start_rises m zero = (let e : m ≡ m + 0 = omega arith in let f = ap (start_of_pass passes t grain) e in omega (arith, f))
-    start_rises m (suc n) =
-        let e : m + suc n ≡ (m + n) + 1 = omega arith in
-        let f = ap (start_of_pass passes t grain) e in
-        let i = start_rises m n in
-        let next = start_next (m + n) in
-        omega (arith, f, i, next)
-
     -- before the end
     pub pass_within : (m j : ℕ) → m < length passes → j < length (tops (pass_in passes m).kind t grain)
         → start_of_pass passes t grain m + j < length (items passes t grain)
     pass_within m j known below =
-        let next = start_next m in
+        let next = start_next t grain passes m in
         let e : (m + 1) + (length passes - (m + 1)) ≡ length passes = omega (arith, known) in
         let f = ap (start_of_pass passes t grain) e in
-        let up = start_rises (m + 1) (length passes - (m + 1)) in
+        let up = start_rises t grain passes (m + 1) (length passes - (m + 1)) in
         omega (arith, next, f, up, below)
 
     -- the number of the item that begins at a node

@@ -1,7 +1,8 @@
 -- The columns from which the numbers of items are told.
-use Rattle.std.specs.Prelude.{◌≡◌, ℕ, suc, ◌≤◌, List, length, map}
+use Rattle.std.specs.Prelude.{◌≡◌, ℕ, suc, ◌≤◌, true, List, length, map}
 use Rattle.std.specs.List.{range_with_len}
-use Rattle.ftl_model.specs.Path.{number_of}
+use Rattle.ftl_items.specs.Cut.{begins}
+use Rattle.ftl_model.specs.Path.{Path, down, number_of, top}
 use Rattle.ftl_model.specs.Tree.{Forest, size}
 use Rattle.ftl_order.specs.Schedule.{Pass}
 use Rattle.ftl_item_numbers.specs.ItemNumbers.{first_nodes, items_before, start_of_pass}
@@ -15,3 +16,8 @@ pub record AreItemRows (t : Forest) (grain : ℕ) (firsts before : List ℕ) : T
 pub record AreStarts (passes : List Pass) (t : Forest) (grain : ℕ) (starts : List ℕ) : Type 0 where
   pub starts_are : starts ≡ map (start_of_pass passes t grain) (range_with_len 0 (suc (length passes)))
   pub few : length passes ≤ 2048
+
+-- a node has a parent, at which an item begins
+abbrev pub IsBegunBelow : Forest → (grain : ℕ) → Path → Type 0
+IsBegunBelow t grain top = ⊥
+IsBegunBelow t grain (down child kid above) = begins t grain above ≡ true

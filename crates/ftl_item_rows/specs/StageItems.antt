@@ -1,8 +1,9 @@
 -- What rows of items and the items of a stage speak of.
-use Rattle.std.specs.Prelude.{◌≡◌, ℕ, ◌+◌, List, length, map, slice_index_or}
+use Rattle.std.specs.Prelude.{◌≡◌, ℕ, ◌+◌, ◌<◌, ◌≤◌, List, length, map, slice_index_or}
 use Rattle.ftl_model.specs.AttributeGrammar.{AttributeGrammar}
 use Rattle.ftl_model.specs.Path.{Path, node_at, number_of}
-use Rattle.ftl_model.specs.Tree.{Forest}
+use Rattle.ftl_model.specs.Tree.{Forest, size}
+use Rattle.ftl_model.specs.TreeOf.{IsTreeOf}
 use Rattle.ftl_order.specs.Schedule as order
 use Rattle.ftl_dep_table.specs.Meant.{meant}
 use Rattle.ftl_items.specs.Cut.{tops}
@@ -13,8 +14,9 @@ use Rattle.ftl_schedule_syntax.specs.declared.kind.PassKind.{PassKind}
 use Rattle.ftl_stages.specs.Stages.{kind_of, pass_of}
 use Rattle.ftl_stages.specs.declared.types.Pass.{Pass}
 use Rattle.ftl_tree.specs.CheckedTree.{CheckedTree}
-use Rattle.ftl_item_rows.specs.declared.rows.ItemRows.{ItemRows}
-use Rattle.ftl_item_rows.specs.declared.stage.StageItems.{StageItems}
+use Rattle.ftl_item_rows.specs.declared.columns.ItemRows.{ItemRows}
+use Rattle.ftl_item_rows.specs.declared.view.FoundItem.{FoundItem}
+use Rattle.ftl_item_rows.specs.declared.view.StageItems.{StageItems}
 
 -- the numbers of all kids of the node of a number
 abbrev pub kids_of : CheckedTree → (node : ℕ) → List ℕ
@@ -57,3 +59,12 @@ pub record IsMadeOf (t : CheckedTree) (grain : ℕ) (rows : ItemRows) : Type 0 w
 pub record IsStageOf (rows : ItemRows) (passes : List Pass) (s : StageItems) : Type 0 where
   pub rows_are : s.rows.now ≡ rows
   pub passes_are : s.passes.now ≡ passes
+
+-- an item of the stage: it is of a pass of this kind, which begins at this number, and begins at this node
+pub record IsFound (s : StageItems) (item : ℕ) (found : FoundItem) : Type 0 where
+  pub is_tree : IsTreeOf (meant s.rows.now.tree.now.checked) (tree_of s.rows.now)
+  pub few : length (items_of s) ≤ 2147483648
+  pub kind_is : kind_of found.kind ≡ (pass_at s (item_of s item).pass).kind
+  pub start_is : found.start ≡ start_at s (item_of s item).pass
+  pub known : found.node < size (tree_of s.rows.now)
+  pub node_is : node_at (tree_of s.rows.now) found.node ≡ (item_of s item).first

@@ -5,10 +5,13 @@
 #![tactic(auto)]
 
 mod begins;
+mod columns;
 mod kids;
 mod next;
 mod rows;
 mod stage;
+mod view;
 
-pub use rows::ItemRows;
-pub use stage::{ItemPlace, StageItems, pass_starts};
+pub use columns::ItemRows;
+pub use stage::pass_starts;
+pub use view::{ItemPlace, StageItems};

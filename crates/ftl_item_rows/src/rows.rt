@@ -1,28 +1,17 @@
-//! Where the items of passes begin.
+//! Where the items of passes begin, and how many nodes they have.
 ghost use Rattle.std.specs.Prelude.{◌≡◌, ◌<◌, ◌≤◌, true, length, slice_index_or, IfOk};
 ghost use Rattle.ftl_items.specs.Cut.{begins, nodes_of};
-ghost use Rattle.ftl_item_numbers.specs.ItemNumbers.{items_before, place_in_pass};
+ghost use Rattle.ftl_item_numbers.specs.ItemNumbers.{first_nodes, place_in_pass};
 ghost use Rattle.ftl_model.specs.Path.{node_at, number_of, top};
 ghost use Rattle.ftl_model.specs.Tree.{size};
 ghost use Rattle.ftl_stages.specs.Stages.{kind_of};
-ghost use Rattle.ftl_item_rows.specs.RowsFit.{AreItemRows};
 ghost use Rattle.ftl_item_rows.specs.StageItems.{IsMadeOf, tops_of, tree_of};
 
 use crate::begins::is_first;
+use crate::columns::ItemRows;
 use ftl_schedule_syntax::PassKind;
 use ftl_tree::Tree;
 use std::alloc::{AllocError, Global};
-
-/// The nodes of a tree at which items begin, and how many begin before each node: once for all
-/// topdown and bottomup passes.
-#[derive(Drop)]
-pub struct ItemRows<'a> {
-    pub tree: &'a Tree<'a>,
-    pub grain: u32,
-    pub firsts: Vec<u32>,
-    pub before: Vec<u32>,
-    pub ghost fit: { AreItemRows tree.now.tree grain firsts.items before.items },
-}
 
 impl<'a> ItemRows<'a> {
     /// The rows of a tree, with items of at most so many nodes.
@@ -50,9 +39,9 @@ impl<'a> ItemRows<'a> {
         ensures count { result ≡ length (tops_of self.now kind) }
         ensures bound { result ≤ 1048576 }
     {
-        let _nodes = self.tree.node_count();
         match kind {
-            PassKind::TopDown | PassKind::BottomUp => self.firsts.len() as u32,
+            PassKind::TopDown => self.begin_count(),
+            PassKind::BottomUp => self.begin_count(),
             PassKind::InOrder => 1,
         }
     }
@@ -92,8 +81,17 @@ impl<'a> ItemRows<'a> {
         let before = self.before[first as usize];
         match kind {
             PassKind::TopDown => before,
-            PassKind::BottomUp => self.firsts.len() as u32 - 1 - before,
+            PassKind::BottomUp => self.begin_count() - 1 - before,
             PassKind::InOrder => 0,
         }
+    }
+
+    // At how many nodes items begin.
+    fn begin_count(&self) -> u32
+        ensures count { result ≡ length (first_nodes (tree_of self.now) self.now.grain) }
+        ensures bound { result ≤ 1048576 }
+    {
+        let _nodes = self.tree.node_count();
+        self.firsts.len() as u32
     }
 }

@@ -1,13 +1,12 @@
-//! The items of a stage.
-ghost use Rattle.std.specs.Prelude.{◌≡◌, ◌+◌, ◌<◌, ◌≤◌, length, map, slice_index_or, IfOk};
-ghost use Rattle.ftl_model.specs.Path.{number_of, top};
-ghost use Rattle.ftl_stages.specs.Stages.{kind_of, pass_of};
+//! The items of a stage, by number.
+ghost use Rattle.std.specs.Prelude.{◌≡◌, ◌+◌, ◌<◌, ◌≤◌, length, map, IfOk};
+ghost use Rattle.ftl_stages.specs.Stages.{pass_of};
 ghost use Rattle.ftl_item_rows.specs.RowsFit.{AreStarts};
-ghost use Rattle.ftl_item_rows.specs.StageItems.{IsStageOf, item_of, items_of, start_at, pass_at};
-ghost use Rattle.ftl_item_rows.specs.StageItems.{tops_of, tree_of};
+ghost use Rattle.ftl_item_rows.specs.StageItems.{IsFound, IsStageOf, items_of, start_at};
+ghost use Rattle.ftl_item_rows.specs.StageItems.{tree_of};
 
-use crate::rows::ItemRows;
-use ftl_schedule_syntax::PassKind;
+use crate::columns::ItemRows;
+use crate::view::{FoundItem, ItemPlace, StageItems};
 use ftl_stages::Pass;
 use std::alloc::{AllocError, Global};
 
@@ -31,31 +30,6 @@ pub fn pass_starts(
     Ok(starts)
 }
 
-/// The items of a stage: a view of what others keep.
-#[derive(Clone, Copy)]
-pub struct StageItems<'a> {
-    pub rows: &'a ItemRows<'a>,
-    pub passes: &'a [Pass],
-    pub starts: &'a [u32],
-    pub ghost fit: { AreStarts (map pass_of passes.now) rows.now.tree.now.tree
-        rows.now.grain starts.now },
-}
-
-/// An item by its pass, and by its number among the items of that.
-#[derive(Clone, Copy, Debug, PartialEq, Eq)]
-pub struct ItemPlace {
-    pub pass: u32,
-    pub item: u32,
-}
-
-/// An item by the kind of its pass, where that begins, and the node at which the item begins.
-#[derive(Clone, Copy)]
-pub(crate) struct FoundItem {
-    pub kind: PassKind,
-    pub start: u32,
-    pub node: u32,
-}
-
 impl<'a> StageItems<'a> {
     /// The items of these passes.
     pub fn new(rows: &'a ItemRows<'a>, passes: &'a [Pass], starts: &'a [u32]) -> StageItems<'a>
@@ -73,7 +47,9 @@ impl<'a> StageItems<'a> {
     /// How many items there are.
     pub fn item_count(&self) -> u32
         ensures count { result ≡ length (items_of self.now) }
+        ensures bound { result ≤ 2147483648 }
     {
+        let _nodes = self.rows.tree.node_count();
         self.starts[self.passes.len()]
     }
 
@@ -104,12 +80,9 @@ impl<'a> StageItems<'a> {
     // The item of a number.
     pub(crate) fn find(&self, item: u32) -> FoundItem
         requires item { item < length (items_of self.now) }
-        ensures kind { kind_of result.kind
-            ≡ (pass_at self.now (item_of self.now item).pass).kind }
-        ensures start { result.start ≡ start_at self.now (item_of self.now item).pass }
-        ensures node { result.node
-            ≡ number_of (tree_of self.now.rows.now) (item_of self.now item).first }
+        ensures found { IsFound self.now item result }
     {
+        let _nodes = self.rows.tree.node_count();
         let place = self.place(item);
         let kind = self.passes[place.pass as usize].kind;
         FoundItem {
