@@ -26,5 +26,7 @@ module _ (g : AttributeGrammar) (kind : PassKind) (attributes : List ℕ) where
         visits =
             added
             ∙ ap₂ (λ (a : List (List VisitOp)) (b : List VisitOp). a ++ b ∷ []) made.visits is
-            ∙ sym (map-range_with_len_more (visit_of g kind attributes) 0 class class (let z : 0 + class ≡ class = omega arith in z));
+            ∙ sym
+            (map-range_with_len_more (visit_of g kind attributes) 0 class class
+            (let z : 0 + class ≡ class = omega arith in z));
       }

@@ -54,7 +54,8 @@ module _ {X : Type 0} (starts : List ℕ) (xs more : List X) (cut : IsCut starts
 
   run_stays : (n : ℕ) → n + 1 < length starts → run longer (xs ++ more) n ≡ run starts xs n
   run_stays n known =
-      ap₂ (slice_range (xs ++ more)) (old_start n (let z : n < length starts = omega arith in z)) (old_start (n + 1) known)
+      ap₂ (slice_range (xs ++ more)) (old_start n (let z : n < length starts = omega arith in z))
+      (old_start (n + 1) known)
       ∙ part_stays xs more (get_or starts n 0) (get_or starts (n + 1) 0) (cut.rising n known) (cut.within (n + 1) known)
 
   run_added : (n : ℕ) → n + 1 ≡ length starts → run longer (xs ++ more) n ≡ more

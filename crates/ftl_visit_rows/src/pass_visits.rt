@@ -2,7 +2,6 @@
 ghost use Rattle.std.specs.Prelude.{◌≡◌, ◌++◌, ◌<◌, ◌≤◌, [], ◌∷◌, length, IfOk, OnOk};
 ghost use Rattle.std.specs.Prelude.{slice_index_or, slice_range};
 ghost use Rattle.ftl_dep_table.specs.Meant.{meant};
-ghost use Rattle.ftl_visit_list.specs.declared.visit_op.VisitOp.{VisitOp};
 ghost use Rattle.ftl_visit_rows.specs.Runs.{IsCut, runs};
 ghost use Rattle.ftl_visit_rows.specs.VisitRows.{visits_of};
 

@@ -16,7 +16,8 @@ loop-rule-preserved c =
     let rules = (meant checked).rules in
     let name = told_name (rule_told checked.grammar n) in
     let within : n < length (all_rules checked.grammar) = grind (arith, common_steps) in
-    let items : c.push.new.self.items ≡ c.loop-rule.targets.items ++ c.target_of.result ∷ [] = grind (arith, common_steps) in
+    let items : c.push.new.self.items ≡ c.loop-rule.targets.items ++ c.target_of.result ∷ [] =
+    grind (arith, common_steps) in
     items
     ∙ ap₂ (λ (a : List RuleTarget) (b : RuleTarget). a ++ b ∷ []) c.loop-rule.invariant
     (c.target_of.ensures.target ∙ ap (λ i. target_of (told_name i)) c.rule.ensures.info)

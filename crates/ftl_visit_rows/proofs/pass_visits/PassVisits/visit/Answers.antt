@@ -36,6 +36,7 @@ returns c =
     record {
       visit =
           c.part_of.ensures.part
-          ∙ ap₂ (λ (s : List ℕ) (xs : List VisitOp). run s xs c.args.class) c.as_slice-starts.ensures.value c.as_slice.ensures.value
+          ∙ ap₂ (λ (s : List ℕ) (xs : List VisitOp). run s xs c.args.class) c.as_slice-starts.ensures.value
+          c.as_slice.ensures.value
           ∙ run_is i.starts.items i.ops.items c.args.self.now c.args.class c.self.view_is c.requires.class;
     }
