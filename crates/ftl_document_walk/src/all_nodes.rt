@@ -31,10 +31,10 @@ pub struct DocumentNodes {
 
 /// The nodes of a document by its grammar, or the first fault: node by node in preorder, and then
 /// the number of all attributes.
-pub fn document_nodes<'a>(
+pub fn document_nodes(
     alloc: Global,
-    checked: &'a Checked,
-    document: &'a WrittenDocument<'a>,
+    checked: &Checked,
+    document: &WrittenDocument<'_>,
 ) -> Result<DocumentNodes, DocFault>
     requires written { IsWritten document.now }
     ensures exact { (node : WrittenNode) → AreRowsOf node document.now
