@@ -1,11 +1,11 @@
 -- After as many rounds as there are instances all values have settled.
-use Rattle.std.proofs.Common.{◌≡◌, ℕ, zero, suc, ◌+◌, ◌<◌, ◌≤◌, refl, sym, ◌∙◌, ap, subst, ⊎_elim, arith, List, [], ◌∷◌, get_or, length, map, Contains}
+use Rattle.std.proofs.Common.{◌≡◌, ℕ, zero, suc, ◌+◌, ◌<◌, ◌≤◌, refl, ap, subst, ⊎_elim, arith, List, [], ◌∷◌, get_or, length, Contains}
 use Rattle.ftl_lists.specs.Lists.{AreDistinct}
 use Rattle.ftl_lists.proofs.Elements.{in_cases, nothing_in}
 use Rattle.ftl_model.specs.AttributeGrammar.{AttributeGrammar}
 use Rattle.ftl_model.specs.Path.{top}
 use Rattle.ftl_model.specs.Solves.{Instance, IsInstance, Solves, instance_of}
-use Rattle.ftl_model.specs.Table.{SolvesList, instance_count, instance_number, instances}
+use Rattle.ftl_model.specs.Table.{instance_count, instance_number, instances}
 use Rattle.ftl_model.specs.Tree.{Forest}
 use Rattle.ftl_model.specs.TreeOf.{IsTreeOf}
 use Rattle.ftl_order.specs.Lawful.{IsLawful}

@@ -5,5 +5,7 @@
 #![tactic(auto)]
 
 mod laws;
+mod worked_solution;
 
 pub use laws::solution_solves;
+pub use worked_solution::solution_of_two_words;
