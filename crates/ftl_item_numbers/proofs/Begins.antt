@@ -1,5 +1,5 @@
 -- An item begins at a node whose parent's tree is not small.
-use Rattle.std.proofs.Common.{◌≡◌, ℕ, ◌<◌, ◌≤◌, Bool, true, false, ltb, refl, sym, ◌∙◌, ap, subst, inl, inr, ⊎_elim, arith, ltb-true, ltb-false}
+use Rattle.std.proofs.Common.{◌≡◌, ℕ, ◌≤◌, Bool, true, false, ltb, refl, ap, inl, inr, arith, ltb-true, ltb-false}
 use Rattle.ftl_model.specs.Path.{AtOrAbove, Has, Path, down, size_at}
 use Rattle.ftl_model.specs.Tree.{Forest}
 use Rattle.ftl_model.proofs.Standing.{has_parent}

@@ -1,11 +1,11 @@
 -- The numbers of a node's kids rise, child after child, and are those of its kids alone.
-use Rattle.std.proofs.Common.{◌≡◌, ℕ, zero, suc, ◌+◌, ◌<◌, ◌≤◌, ◌==◌, Bool, true, false, if◌then◌else◌, refl, sym, ◌∙◌, ap, subst, arith, eqb-true, ne_eqb, List, [], ◌∷◌, map, Contains}
+use Rattle.std.proofs.Common.{◌≡◌, ℕ, zero, suc, ◌+◌, ◌<◌, ◌≤◌, ◌==◌, Bool, true, false, if◌then◌else◌, refl, sym, ◌∙◌, ap, subst, arith, eqb-true, ne_eqb, Contains}
 use Rattle.std.specs.List.{range_with_len}
 use Rattle.ftl_lists.proofs.Elements.{flat_map_has, in_flat_map, in_range_from, range_has}
 use Rattle.ftl_lists.proofs.Rising.{in_map, map_has, rising-map, rising_more}
 use Rattle.ftl_model.specs.AttributeGrammar.{AttributeGrammar}
 use Rattle.ftl_model.specs.Path.{Has, Path, at, class_at, down, kids_at, number_of}
-use Rattle.ftl_model.specs.Tree.{Forest, IsTree, below_of, count_in, from_kid, nodes_before, none, size, tree}
+use Rattle.ftl_model.specs.Tree.{Forest, IsTree, below_of, from_kid, nodes_before, none, size, tree}
 use Rattle.ftl_model.specs.TreeOf.{FitBelow, IsTreeOf, StartsFrom}
 use Rattle.ftl_model.proofs.Kids.{from_kid-next, from_kid-other, nodes_before-here, nodes_before-next, nodes_before-other}
 use Rattle.ftl_model.proofs.Fits.{fits_at, kid_stands}

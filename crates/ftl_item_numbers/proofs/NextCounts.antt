@@ -1,19 +1,18 @@
 -- How many items an item hands on to, and how many hand on to it.
-use Rattle.std.proofs.Common.{◌≡◌, ℕ, zero, suc, ◌+◌, ◌-◌, ◌<◌, ◌≤◌, ◌==◌, true, false, if◌then◌else◌, refl, sym, ◌∙◌, ap, subst, arith, ne_eqb, List, [], ◌∷◌, filter, get_or, length, map, reverse, Contains}
+use Rattle.std.proofs.Common.{◌≡◌, ℕ, suc, ◌+◌, ◌-◌, ◌<◌, ◌≤◌, ◌==◌, true, false, if◌then◌else◌, refl, sym, ◌∙◌, ap, arith, ne_eqb, List, [], ◌∷◌, get_or, length, map, reverse, Contains}
 use Rattle.std.specs.List.{range_with_len}
 use Rattle.std.proofs.lemmas.List.{get_or-map, length-map, length-reverse}
 use Rattle.std.proofs.lemmas.List.Elements.{Contains-get_or}
 use Rattle.ftl_lists.specs.Lists.{AreDistinct}
 use Rattle.ftl_lists.proofs.Elements.{in_filter, in_range_from}
-use Rattle.ftl_lists.proofs.Rising.{Rising}
 use Rattle.ftl_model.specs.AttributeGrammar.{AttributeGrammar}
-use Rattle.ftl_model.specs.Path.{Has, Path, down, number_of, preorder, top}
+use Rattle.ftl_model.specs.Path.{Has, Path, down, number_of, top}
 use Rattle.ftl_model.specs.Tree.{Forest, below_of, size}
 use Rattle.ftl_model.specs.TreeOf.{IsTreeOf}
 use Rattle.ftl_model.proofs.Standing.{number_of-lt}
-use Rattle.ftl_order.specs.Schedule.{Pass, PassKind, bottomup, inorder, topdown}
+use Rattle.ftl_order.specs.Schedule.{Pass, PassKind, bottomup, topdown}
 use Rattle.ftl_items.specs.Cut.{is_small}
-use Rattle.ftl_items.specs.Items.{Item, is_next, items, nexts, no_item}
+use Rattle.ftl_items.specs.Items.{Item, is_next, nexts, no_item}
 use Rattle.ftl_items.proofs.Fewer.{fewer}
 use Rattle.ftl_item_numbers.specs.ItemNumbers.{all_kids, first_nodes, item_above, items_before, items_below}
 use Rattle.ftl_item_numbers.proofs.KidNumbers.{in_kids, kids_rise}

@@ -1,5 +1,5 @@
 -- Which items hand on to which, by their numbers.
-use Rattle.std.proofs.Common.{◌≡◌, ◌≢◌, ◌⊎◌, ℕ, zero, suc, ◌+◌, ◌-◌, ◌<◌, ◌≤◌, ◌==◌, ◌&&◌, Bool, true, false, not, if◌then◌else◌, refl, sym, ◌∙◌, ap, subst, inl, inr, ⊎_elim, arith, eqb-true, eq-eqb, List, [], ◌∷◌, filter, get_or, length, map, reverse, Contains}
+use Rattle.std.proofs.Common.{◌≡◌, ◌≢◌, ℕ, ◌+◌, ◌-◌, ◌<◌, ◌==◌, ◌&&◌, Bool, true, false, not, if◌then◌else◌, refl, sym, ◌∙◌, ap, subst, inl, ⊎_elim, arith, eqb-true, eq-eqb, List, [], ◌∷◌, filter, get_or, length, map, Contains}
 use Rattle.std.specs.List.{range_with_len}
 use Rattle.std.proofs.lemmas.List.Elements.{Contains-get_or}
 use Rattle.ftl_lists.proofs.Elements.{filter_has, here_in, in_cases, in_filter, in_range_from, nothing_in, range_has}
@@ -12,7 +12,7 @@ use Rattle.ftl_model.proofs.Standing.{has_parent}
 use Rattle.ftl_order.specs.Schedule.{Pass, PassKind, bottomup, inorder, topdown}
 use Rattle.ftl_order.proofs.Kids.{root_there}
 use Rattle.ftl_items.specs.Cut.{begins, is_open, is_small, tops}
-use Rattle.ftl_items.specs.Items.{Item, hands_on, is_next, is_parent, is_same_node, item, items, nexts, no_item, pass_in, predecessors}
+use Rattle.ftl_items.specs.Items.{Item, hands_on, is_next, is_parent, item, items, nexts, no_item, pass_in, predecessors}
 use Rattle.ftl_items.proofs.Ahead.{rising-range}
 use Rattle.ftl_items.proofs.CutLaws.{in_tops, tops_have}
 use Rattle.ftl_items.proofs.HandingLaws.{kid_of, node_itself, same_node}
@@ -20,7 +20,6 @@ use Rattle.ftl_items.proofs.Homes.{open_all}
 use Rattle.ftl_items.proofs.Reverses.{in_reverse, reverse_has}
 use Rattle.ftl_items.proofs.StepLaws.{item_here}
 use Rattle.ftl_item_numbers.specs.ItemNumbers.{all_kids, first_nodes, item_above, items_before, items_below, kid_items, next_numbers, place_in_pass, predecessor_numbers, start_of_pass}
-use Rattle.ftl_item_numbers.specs.NumberLaws.{item_numbered}
 use Rattle.ftl_item_numbers.proofs.KidNumbers.{in_kids, kids_have, kids_rise}
 use Rattle.ftl_item_numbers.proofs.Places.{before_less, before_within, numbered_item, only_number}
 use Rattle.ftl_item_numbers.proofs.RisingLists.{Rises, rising-filter, rising-reverse, same_rising}

@@ -1,18 +1,18 @@
 -- Where the items of a pass stand, and those of a stage.
-use Rattle.std.proofs.Common.{◌≡◌, ◌≢◌, ℕ, zero, suc, ◌+◌, ◌-◌, ◌<◌, ◌≤◌, true, false, if◌then◌else◌, refl, sym, ◌∙◌, ap, subst, inl, inr, ⊎_elim, arith, List, [], ◌∷◌, ◌++◌, filter, flat_map, get_or, length, length-append, map, reverse, take, Contains}
+use Rattle.std.proofs.Common.{◌≡◌, ℕ, zero, suc, ◌+◌, ◌-◌, ◌<◌, ◌≤◌, true, sym, ◌∙◌, ap, ⊎_elim, arith, List, [], ◌∷◌, flat_map, get_or, length, length-append, take, Contains}
 use Rattle.std.specs.List.{range_with_len}
-use Rattle.std.proofs.lemmas.List.{get_or-map, get_or-reverse, length-map, length-reverse, take_at, take_all}
+use Rattle.std.proofs.lemmas.List.{get_or-map, get_or-reverse, length-map, length-reverse, take_at}
 use Rattle.std.proofs.lemmas.List.Concat.{get_or-flat_map}
 use Rattle.std.proofs.lemmas.List.FromFn.{get_or-range_with_len, length-range_with_len}
 use Rattle.std.proofs.lemmas.Grind.{flat_map-append}
 use Rattle.ftl_lists.proofs.Elements.{in_cases, nothing_in}
-use Rattle.ftl_model.specs.Path.{Has, Path, at, node_at, number_of, preorder, top}
-use Rattle.ftl_model.specs.Tree.{Forest, IsTree, below_of, size}
+use Rattle.ftl_model.specs.Path.{Has, Path, number_of, preorder, top}
+use Rattle.ftl_model.specs.Tree.{Forest, IsTree}
 use Rattle.ftl_model.proofs.Numbering.{length-preorder}
 use Rattle.ftl_model.proofs.Standing.{node_at-number_of, number_of-lt}
 use Rattle.ftl_order.specs.Schedule.{Pass, PassKind, bottomup, inorder, topdown}
-use Rattle.ftl_items.specs.Cut.{begins, is_small, nodes_of, subtree, tops}
-use Rattle.ftl_items.specs.Items.{Item, item, items, items_of_pass, no_item, pass_in}
+use Rattle.ftl_items.specs.Cut.{begins, tops}
+use Rattle.ftl_items.specs.Items.{item, items, items_of_pass, no_item, pass_in}
 use Rattle.ftl_items.proofs.CutLaws.{in_tops}
 use Rattle.ftl_items.proofs.Fewer.{one_place}
 use Rattle.ftl_items.proofs.StepLaws.{distinct-items}

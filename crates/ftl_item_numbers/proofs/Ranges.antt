@@ -1,5 +1,5 @@
 -- The nodes of an item are a range of preorder numbers.
-use Rattle.std.proofs.Common.{◌≡◌, ℕ, suc, ◌+◌, true, false, if◌then◌else◌, refl, sym, ◌∙◌, ap, arith, List, [], ◌∷◌, length, map}
+use Rattle.std.proofs.Common.{◌≡◌, ℕ, suc, ◌+◌, true, false, if◌then◌else◌, refl, sym, ◌∙◌, ap, arith, [], ◌∷◌, length, map}
 use Rattle.std.specs.List.{range_with_len}
 use Rattle.ftl_model.specs.Path.{Path, at, nodes_below, number_of}
 use Rattle.ftl_model.specs.Tree.{Forest, below_of, size}

@@ -1,7 +1,6 @@
 -- Lists of numbers that rise, and where the entries stand that pass a test.
-use Rattle.std.proofs.Common.{◌≡◌, ℕ, zero, suc, ◌+◌, ◌<◌, ◌≤◌, Bool, true, false, cond, refl, sym, ◌∙◌, ap, subst, ⊎_elim, arith, List, [], ◌∷◌, ◌++◌, filter, flat_map, get_or, length, map, reverse, take, Contains}
+use Rattle.std.proofs.Common.{◌≡◌, ℕ, zero, suc, ◌+◌, ◌<◌, Bool, true, false, cond, refl, sym, ◌∙◌, ap, subst, ⊎_elim, arith, List, [], ◌∷◌, ◌++◌, filter, flat_map, get_or, length, reverse, take, Contains}
 use Rattle.std.specs.List.{range_with_len}
-use Rattle.std.proofs.lemmas.Bool.{cases_lt}
 use Rattle.ftl_lists.proofs.Elements.{here_in, in_cases, in_filter, in_flat_map, later_in, nothing_in}
 use Rattle.ftl_lists.proofs.Rising.{Across, Rising, rising-append}
 use Rattle.ftl_items.proofs.Reverses.{in_reverse, reverse-cons}

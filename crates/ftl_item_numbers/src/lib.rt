@@ -6,5 +6,7 @@
 #![tactic(auto)]
 
 mod number_laws;
+mod worked_numbers;
 
 pub use number_laws::item_numbers;
+pub use worked_numbers::numbers_of_two_words;

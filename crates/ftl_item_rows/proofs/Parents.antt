@@ -1,13 +1,12 @@
 -- The parent of a node, by numbers.
-use Rattle.std.proofs.Common.{◌≡◌, ℕ, suc, ◌<◌, true, refl, sym, ◌∙◌, ap, subst, arith, get_or, Option, Some, None}
+use Rattle.std.proofs.Common.{◌≡◌, ℕ, ◌<◌, refl, ◌∙◌, ap, arith, Some, None}
 use Rattle.std.specs.Option.{option_map}
 use Rattle.ftl_model.specs.AttributeGrammar.{AttributeGrammar}
-use Rattle.ftl_model.specs.Path.{Has, Path, down, node_at, number_of, parent_of, size_at, top}
-use Rattle.ftl_model.specs.Tree.{Forest, below_of, size}
+use Rattle.ftl_model.specs.Path.{Has, Path, down, node_at, number_of, parent_of, top}
+use Rattle.ftl_model.specs.Tree.{Forest, size}
 use Rattle.ftl_model.specs.TreeOf.{IsTreeOf}
 use Rattle.ftl_model.proofs.Standing.{has_parent, node_at-number_of, number_of-lt}
-use Rattle.ftl_items.specs.Cut.{begins}
-use Rattle.ftl_tree_rows.proofs.Access.{has_at, size-one}
+use Rattle.ftl_tree_rows.proofs.Access.{size-one}
 
 -- the root has none
 pub no_parent : (t : Forest) (p : Path) → None ≡ option_map (number_of t) (parent_of p) → p ≡ top

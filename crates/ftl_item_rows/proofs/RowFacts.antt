@@ -1,14 +1,13 @@
 -- What the rows of a tree tell.
-use Rattle.std.proofs.Common.{◌≡◌, ℕ, suc, ◌+◌, ◌-◌, ◌<◌, ◌≤◌, Bool, true, false, if◌then◌else◌, leb-true, leb-false, refl, sym, ◌∙◌, ap, arith, List, [], ◌∷◌, get_or, length, map, reverse}
-use Rattle.std.specs.List.{range_with_len}
+use Rattle.std.proofs.Common.{◌≡◌, ℕ, suc, ◌-◌, ◌<◌, ◌≤◌, true, false, if◌then◌else◌, leb-true, leb-false, refl, sym, ◌∙◌, ap, arith, List, [], ◌∷◌, get_or, length}
 use Rattle.std.proofs.lemmas.List.{get_or-map, get_or-reverse, length-map, length-reverse}
 use Rattle.std.proofs.lemmas.List.FromFn.{get_or-map-range_with_len, length-map-range_with_len}
 use Rattle.ftl_model.specs.AttributeGrammar.{AttributeGrammar}
-use Rattle.ftl_model.specs.Path.{Has, Path, at, node_at, nodes_below, number_of, preorder, size_at, top}
+use Rattle.ftl_model.specs.Path.{Path, at, node_at, number_of, size_at, top}
 use Rattle.ftl_model.specs.Tree.{Forest, below_of, size}
 use Rattle.ftl_model.specs.TreeOf.{IsTreeOf}
 use Rattle.ftl_model.proofs.Numbering.{length-nodes_below, length-preorder}
-use Rattle.ftl_order.specs.Schedule.{PassKind, bottomup, inorder, topdown}
+use Rattle.ftl_order.specs.Schedule.{bottomup, topdown}
 use Rattle.ftl_order.proofs.Kids.{root_there}
 use Rattle.ftl_items.specs.Cut.{begins, is_small, nodes_of, subtree, tops}
 use Rattle.ftl_item_numbers.specs.ItemNumbers.{first_nodes, items_before}

@@ -1,10 +1,10 @@
 -- The rows of the first so many nodes.
-use Rattle.std.proofs.Common.{◌≡◌, ℕ, suc, ◌+◌, ◌<◌, ◌≤◌, Bool, true, false, cond, refl, sym, ◌∙◌, ap, arith, List, [], ◌∷◌, ◌++◌, filter, get_or, length, length-take, map, take}
+use Rattle.std.proofs.Common.{◌≡◌, ℕ, suc, ◌+◌, ◌<◌, ◌≤◌, Bool, true, false, cond, ◌∙◌, ap, arith, List, [], ◌∷◌, ◌++◌, filter, length, length-take, map, take}
 use Rattle.std.specs.List.{range_with_len}
 use Rattle.std.proofs.lemmas.List.{append-nil, length-map, map-append, take_all}
 use Rattle.std.proofs.lemmas.List.Elements.{filter_more}
 use Rattle.std.proofs.lemmas.List.FromFn.{map-range_with_len_more}
-use Rattle.ftl_model.specs.Path.{Path, node_at, number_of, preorder, top}
+use Rattle.ftl_model.specs.Path.{node_at, number_of, preorder, top}
 use Rattle.ftl_model.specs.Tree.{Forest}
 use Rattle.ftl_items.specs.Cut.{begins}
 use Rattle.ftl_item_numbers.specs.ItemNumbers.{first_nodes, items_before}

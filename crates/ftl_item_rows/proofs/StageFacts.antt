@@ -1,14 +1,14 @@
 -- What an item of a stage hands on to, where its pass and its node are known.
-use Rattle.std.proofs.Common.{◌≡◌, ℕ, zero, suc, ◌+◌, ◌<◌, ◌≤◌, ◌==◌, true, false, if◌then◌else◌, refl, sym, ◌∙◌, ap, subst, arith, List, [], ◌∷◌, get_or, length, Contains}
+use Rattle.std.proofs.Common.{◌≡◌, ℕ, zero, suc, ◌+◌, ◌<◌, ◌==◌, true, if◌then◌else◌, refl, sym, ◌∙◌, ap, subst, arith, List, [], ◌∷◌, get_or, length, Contains}
 use Rattle.std.proofs.lemmas.List.Elements.{Contains-get_or}
 use Rattle.ftl_model.specs.AttributeGrammar.{AttributeGrammar}
-use Rattle.ftl_model.specs.Path.{Path, down, node_at, number_of, top}
+use Rattle.ftl_model.specs.Path.{Path, down, node_at, top}
 use Rattle.ftl_model.specs.Tree.{Forest, size}
 use Rattle.ftl_model.specs.TreeOf.{IsTreeOf}
 use Rattle.ftl_order.specs.Schedule.{Pass, PassKind, bottomup, inorder, topdown}
 use Rattle.ftl_order.proofs.Kids.{root_there}
 use Rattle.ftl_items.specs.Cut.{begins, is_small, tops}
-use Rattle.ftl_items.specs.Items.{Item, items, nexts, no_item, pass_in, predecessors}
+use Rattle.ftl_items.specs.Items.{items, nexts, no_item, pass_in, predecessors}
 use Rattle.ftl_items.proofs.CutLaws.{in_tops}
 use Rattle.ftl_items.proofs.StepLaws.{item_here}
 use Rattle.ftl_item_numbers.specs.ItemNumbers.{all_kids, item_above, items_before, next_numbers, predecessor_numbers, start_of_pass}
@@ -35,7 +35,7 @@ only_entry n zero below = refl
 only_entry n (suc place) below = absurd (let z : ⊥ = omega (arith, below) in z)
 
 module _ (g : AttributeGrammar) (t : Forest) (fits : IsTreeOf g t) (grain : ℕ) (passes : List Pass) (i : ℕ)
-  (below : i < length (items passes t grain)) (start n : ℕ) where
+    (below : i < length (items passes t grain)) (start n : ℕ) where
   abbrev nexts_in : List ℕ
   nexts_in = nexts passes (items passes t grain) i
 

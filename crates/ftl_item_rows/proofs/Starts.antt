@@ -1,5 +1,5 @@
 -- Where the items of each pass begin in a stage.
-use Rattle.std.proofs.Common.{◌≡◌, ℕ, zero, suc, ◌+◌, ◌*◌, ◌-◌, ◌<◌, ◌≤◌, refl, sym, ◌∙◌, ap, subst, ⊎_elim, arith, List, [], ◌∷◌, ◌++◌, get_or, length, map, Contains}
+use Rattle.std.proofs.Common.{◌≡◌, ℕ, zero, suc, ◌+◌, ◌*◌, ◌<◌, ◌≤◌, sym, ◌∙◌, ap, subst, ⊎_elim, arith, List, [], ◌∷◌, ◌++◌, get_or, length, map, Contains}
 use Rattle.std.specs.List.{range_with_len}
 use Rattle.std.proofs.lemmas.List.{get_or-map, length-reverse}
 use Rattle.std.proofs.lemmas.List.Elements.{Contains-get_or}
@@ -7,7 +7,7 @@ use Rattle.std.proofs.lemmas.List.FromFn.{get_or-map-range_with_len, length-map-
 use Rattle.ftl_lists.proofs.Elements.{in_cases, nothing_in}
 use Rattle.ftl_model.specs.AttributeGrammar.{AttributeGrammar}
 use Rattle.ftl_model.specs.Path.{Has, Path, node_at, number_of, top}
-use Rattle.ftl_model.specs.Tree.{Forest, below_of, size}
+use Rattle.ftl_model.specs.Tree.{Forest, size}
 use Rattle.ftl_model.specs.TreeOf.{IsTreeOf}
 use Rattle.ftl_model.proofs.Numbering.{length-preorder}
 use Rattle.ftl_model.proofs.Standing.{node_at-number_of, number_of-lt}
@@ -16,7 +16,6 @@ use Rattle.ftl_order.proofs.Kids.{root_there}
 use Rattle.ftl_items.specs.Cut.{tops}
 use Rattle.ftl_items.specs.Items.{Item, item, items, no_item, pass_in}
 use Rattle.ftl_items.proofs.CutLaws.{in_tops}
-use Rattle.ftl_items.proofs.StepLaws.{item_here}
 use Rattle.ftl_item_numbers.specs.ItemNumbers.{first_nodes, start_of_pass}
 use Rattle.ftl_item_numbers.specs.NumberLaws.{item_numbered}
 use Rattle.ftl_item_numbers.proofs.Places.{pass_stands, start_next}
@@ -92,7 +91,7 @@ few_tops g t fits grain bottomup =
 few_tops g t fits grain inorder = let one = size-one g t fits in omega (arith, one)
 
 module _ (g : AttributeGrammar) (t : Forest) (fits : IsTreeOf g t) (small : size t ≤ 1048576) (grain : ℕ)
-  (passes : List Pass) where
+    (passes : List Pass) where
   few_before : (m : ℕ) → start_of_pass passes t grain m ≤ m * 1048576
   few_before zero = omega arith
   few_before (suc m) =

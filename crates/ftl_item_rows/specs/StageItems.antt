@@ -1,13 +1,12 @@
 -- What rows of items and the items of a stage speak of.
 use Rattle.std.specs.Prelude.{◌≡◌, ℕ, ◌+◌, ◌<◌, ◌≤◌, List, length, map, slice_index_or}
-use Rattle.ftl_model.specs.AttributeGrammar.{AttributeGrammar}
-use Rattle.ftl_model.specs.Path.{Path, node_at, number_of}
+use Rattle.ftl_model.specs.Path.{Path, node_at, top}
 use Rattle.ftl_model.specs.Tree.{Forest, size}
 use Rattle.ftl_model.specs.TreeOf.{IsTreeOf}
 use Rattle.ftl_order.specs.Schedule as order
 use Rattle.ftl_dep_table.specs.Meant.{meant}
 use Rattle.ftl_items.specs.Cut.{tops}
-use Rattle.ftl_items.specs.Items.{Item, items, pass_in}
+use Rattle.ftl_items.specs.Items.{Item, item, items, pass_in}
 use Rattle.ftl_item_numbers.specs.ItemNumbers.{all_kids, start_of_pass}
 use Rattle.ftl_item_numbers.specs.NumberLaws.{item_numbered}
 use Rattle.ftl_schedule_syntax.specs.declared.kind.PassKind.{PassKind}
@@ -16,6 +15,7 @@ use Rattle.ftl_stages.specs.declared.types.Pass.{Pass}
 use Rattle.ftl_tree.specs.CheckedTree.{CheckedTree}
 use Rattle.ftl_item_rows.specs.declared.columns.ItemRows.{ItemRows}
 use Rattle.ftl_item_rows.specs.declared.view.FoundItem.{FoundItem}
+use Rattle.ftl_item_rows.specs.declared.view.ItemPlace.{ItemPlace}
 use Rattle.ftl_item_rows.specs.declared.view.StageItems.{StageItems}
 
 -- the numbers of all kids of the node of a number
@@ -60,11 +60,23 @@ pub record IsStageOf (rows : ItemRows) (passes : List Pass) (s : StageItems) : T
   pub rows_are : s.rows.now ≡ rows
   pub passes_are : s.passes.now ≡ passes
 
+-- the nodes at which the items of a pass begin
+abbrev pub tops_in : StageItems → (pass : ℕ) → List Path
+tops_in s m = tops (pass_at s m).kind (tree_of s.rows.now) s.rows.now.grain
+
+-- an item is that of this number in this pass
+pub record IsPlaceOf (s : StageItems) (number : ℕ) (place : ItemPlace) : Type 0 where
+  pub known : place.pass < length s.passes.now
+  pub start : start_at s place.pass + place.item ≡ number
+  pub within : place.item < length (tops_in s place.pass)
+  pub entry : item_of s number ≡ item place.pass (slice_index_or (tops_in s place.pass) place.item top)
+
 -- an item of the stage: it is of a pass of this kind, which begins at this number, and begins at this node
-pub record IsFound (s : StageItems) (item : ℕ) (found : FoundItem) : Type 0 where
+pub record IsFound (s : StageItems) (number : ℕ) (found : FoundItem) : Type 0 where
   pub is_tree : IsTreeOf (meant s.rows.now.tree.now.checked) (tree_of s.rows.now)
   pub few : length (items_of s) ≤ 2147483648
-  pub kind_is : kind_of found.kind ≡ (pass_at s (item_of s item).pass).kind
-  pub start_is : found.start ≡ start_at s (item_of s item).pass
+  pub pass_is : found.pass ≡ (item_of s number).pass
+  pub kind_is : kind_of found.kind ≡ (pass_at s (item_of s number).pass).kind
+  pub start_is : found.start ≡ start_at s (item_of s number).pass
   pub known : found.node < size (tree_of s.rows.now)
-  pub node_is : node_at (tree_of s.rows.now) found.node ≡ (item_of s item).first
+  pub node_is : node_at (tree_of s.rows.now) found.node ≡ (item_of s number).first

@@ -14,4 +14,4 @@ mod view;
 
 pub use columns::ItemRows;
 pub use stage::pass_starts;
-pub use view::{ItemPlace, StageItems};
+pub use view::{FoundItem, ItemPlace, StageItems};

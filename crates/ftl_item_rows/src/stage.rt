@@ -1,8 +1,8 @@
 //! The items of a stage, by number.
-ghost use Rattle.std.specs.Prelude.{◌≡◌, ◌+◌, ◌<◌, ◌≤◌, length, map, IfOk};
+ghost use Rattle.std.specs.Prelude.{◌≡◌, ◌<◌, ◌≤◌, length, map, IfOk};
 ghost use Rattle.ftl_stages.specs.Stages.{pass_of};
 ghost use Rattle.ftl_item_rows.specs.RowsFit.{AreStarts};
-ghost use Rattle.ftl_item_rows.specs.StageItems.{IsFound, IsStageOf, items_of, start_at};
+ghost use Rattle.ftl_item_rows.specs.StageItems.{IsFound, IsPlaceOf, IsStageOf, items_of};
 ghost use Rattle.ftl_item_rows.specs.StageItems.{tree_of};
 
 use crate::columns::ItemRows;
@@ -53,14 +53,12 @@ impl<'a> StageItems<'a> {
         self.starts[self.passes.len()]
     }
 
-    /// The pass of an item, and its number there.
+    /// The pass of an item, and its number there, by halving.
     pub fn place(&self, item: u32) -> ItemPlace
         requires item { item < length (items_of self.now) }
-        ensures pass { result.pass < length self.now.passes.now }
-        ensures start { start_at self.now result.pass + result.item ≡ item }
-        ensures within { start_at self.now result.pass + result.item
-            < start_at self.now (result.pass + 1) }
+        ensures place { IsPlaceOf self.now item result }
     {
+        let _nodes = self.rows.tree.node_count();
         let mut low = 0;
         let mut high = self.passes.len();
         while high - low > 1 {
@@ -77,8 +75,8 @@ impl<'a> StageItems<'a> {
         }
     }
 
-    // The item of a number.
-    pub(crate) fn find(&self, item: u32) -> FoundItem
+    /// The item of a number.
+    pub fn find(&self, item: u32) -> FoundItem
         requires item { item < length (items_of self.now) }
         ensures found { IsFound self.now item result }
     {
@@ -86,6 +84,7 @@ impl<'a> StageItems<'a> {
         let place = self.place(item);
         let kind = self.passes[place.pass as usize].kind;
         FoundItem {
+            pass: place.pass,
             kind,
             start: self.starts[place.pass as usize],
             node: self.rows.first(kind, place.item),

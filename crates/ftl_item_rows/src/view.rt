@@ -24,9 +24,11 @@ pub struct ItemPlace {
     pub item: u32,
 }
 
-/// An item by the kind of its pass, where that begins, and the node at which the item begins.
-#[derive(Clone, Copy)]
-pub(crate) struct FoundItem {
+/// An item by its pass, the kind of that, how many items come before the pass, and the node at
+/// which the item begins.
+#[derive(Clone, Copy, Debug, PartialEq, Eq)]
+pub struct FoundItem {
+    pub pass: u32,
     pub kind: PassKind,
     pub start: u32,
     pub node: u32,

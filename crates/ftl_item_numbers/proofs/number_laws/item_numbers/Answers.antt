@@ -4,7 +4,6 @@ use Rattle.ftl_item_numbers.proofs.Begins.{begins-size}
 use Rattle.ftl_item_numbers.proofs.NextNumbers.{nexts_numbered, predecessors_numbered}
 use Rattle.ftl_item_numbers.proofs.Places.{pass_stands, pass_within, placed_in}
 use Rattle.ftl_item_numbers.proofs.Ranges.{numbers-nodes}
-use Rattle.ftl_item_numbers.proofs.NextCounts
 use Rattle.ftl_item_numbers.proofs.number_laws.item_numbers.Goals as goal
 
 pub returns : goal.returns

@@ -1,5 +1,5 @@
-use Rattle.std.proofs.Common.{◌≡◌, true, sym, ◌∙◌, ap, subst, ltb}
-use Rattle.ftl_model.specs.Path.{Has, Path, node_at, size_at}
+use Rattle.std.proofs.Common.{sym, ◌∙◌, ap, subst, ltb}
+use Rattle.ftl_model.specs.Path.{Has, node_at, size_at}
 use Rattle.ftl_items.specs.Cut.{begins}
 use Rattle.ftl_dep_table.specs.Meant.{meant}
 use Rattle.ftl_item_numbers.proofs.Begins.{begins-size}

@@ -1,5 +1,4 @@
-use Rattle.std.proofs.Common.{◌≡◌, ◌+◌, ◌≤◌, ◌<◌, ap, sym, subst, ◌∙◌, arith, get_or, ℕ}
-use Rattle.std.specs.List.{range_with_len, flat_map}
+use Rattle.std.proofs.Common.{sym, ◌∙◌, arith}
 use Rattle.ftl_model.specs.Path.{class_at, node_at}
 use Rattle.ftl_dep_table.specs.Meant.{meant}
 use Rattle.ftl_item_rows.proofs.AllKids.{kid_entry, kids_next}

@@ -1,4 +1,4 @@
-use Rattle.std.proofs.Common.{◌≡◌, ◌+◌, ◌≤◌, ◌<◌, ap, sym, ◌∙◌, arith, suc}
+use Rattle.std.proofs.Common.{◌+◌, ap, arith}
 use Rattle.ftl_model.specs.Path.{node_at}
 use Rattle.ftl_dep_table.specs.Meant.{meant}
 use Rattle.ftl_item_numbers.proofs.NextCounts.{few_kids}

@@ -1,7 +1,6 @@
-use Rattle.std.proofs.Common.{◌≡◌, ◌<◌, ap, sym, ◌∙◌, arith, get_or}
+use Rattle.std.proofs.Common.{ap, ◌∙◌, arith, get_or}
 use Rattle.std.proofs.lemmas.List.Elements.{Contains-get_or}
 use Rattle.ftl_model.specs.Path.{node_at}
-use Rattle.ftl_model.specs.Tree.{size}
 use Rattle.ftl_dep_table.specs.Meant.{meant}
 use Rattle.ftl_item_numbers.specs.ItemNumbers.{items_before}
 use Rattle.ftl_item_numbers.proofs.NextCounts.{kid_known}

@@ -1,4 +1,4 @@
-use Rattle.std.proofs.Common.{◌≡◌, ◌+◌, ◌∷◌, [], List, ℕ, Some, ap, sym, subst, ◌∙◌, arith, true}
+use Rattle.std.proofs.Common.{◌≡◌, ◌+◌, ◌∷◌, [], ap, sym, subst, ◌∙◌, true}
 use Rattle.ftl_items.specs.Cut.{begins}
 use Rattle.ftl_model.specs.Path.{Path, node_at}
 use Rattle.ftl_order.specs.Schedule.{bottomup}

@@ -1,4 +1,4 @@
-use Rattle.std.proofs.Common.{◌≡◌, length, ap, sym, ◌∙◌}
+use Rattle.std.proofs.Common.{length, ap, sym, ◌∙◌}
 use Rattle.std.proofs.lemmas.List.{length-reverse}
 use Rattle.ftl_item_numbers.specs.ItemNumbers.{first_nodes}
 use Rattle.ftl_schedule_syntax.specs.declared.kind.PassKind.{PassKind}

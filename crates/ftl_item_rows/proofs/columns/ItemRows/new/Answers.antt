@@ -1,4 +1,4 @@
-use Rattle.std.proofs.Common.{◌≡◌, ◌≤◌, ◌<◌, ◌++◌, ◌∷◌, [], List, ℕ, length, ap, ap₂, sym, ◌∙◌, arith}
+use Rattle.std.proofs.Common.{◌≡◌, ◌<◌, ◌++◌, ◌∷◌, [], List, ℕ, length, ap, ap₂, sym, ◌∙◌, arith}
 use Rattle.ftl_model.specs.Path.{preorder}
 use Rattle.ftl_model.proofs.Numbering.{length-preorder}
 use Rattle.ftl_dep_table.specs.Meant.{meant}

@@ -1,4 +1,4 @@
-use Rattle.std.proofs.Common.{◌≡◌, ◌≤◌, ◌<◌, ◌∙◌, arith}
+use Rattle.std.proofs.Common.{◌≤◌, ◌<◌, ◌∙◌, arith}
 use Rattle.ftl_model.specs.Path.{node_at, size_at}
 use Rattle.ftl_item_rows.proofs.RowFacts.{nodes_large, nodes_small}
 use Rattle.ftl_item_rows.proofs.columns.ItemRows.node_count.Goals as goal

@@ -1,4 +1,4 @@
-use Rattle.std.proofs.Common.{◌≡◌, ◌<◌, ◌-◌, ◌≤◌, length, ap, sym, ◌∙◌, arith}
+use Rattle.std.proofs.Common.{◌-◌, length, ap, sym, ◌∙◌, arith}
 use Rattle.ftl_model.specs.Path.{node_at}
 use Rattle.ftl_dep_table.specs.Meant.{meant}
 use Rattle.ftl_item_numbers.specs.ItemNumbers.{first_nodes, items_before, place_in_pass}

@@ -1,8 +1,8 @@
-use Rattle.std.proofs.Common.{◌≡◌, ◌≤◌, length, map, ap, sym, ◌∙◌, arith}
+use Rattle.std.proofs.Common.{length, map, ap, sym, ◌∙◌, arith}
 use Rattle.std.proofs.lemmas.List.{length-map}
 use Rattle.ftl_dep_table.specs.Meant.{meant}
 use Rattle.ftl_stages.specs.Stages.{pass_of}
-use Rattle.ftl_item_rows.specs.StageItems.{items_of, start_at}
+use Rattle.ftl_item_rows.specs.StageItems.{start_at}
 use Rattle.ftl_item_rows.proofs.Starts.{few_items, length-pass_starts, start_is}
 use Rattle.ftl_item_rows.proofs.view.StageItems.item_count.Goals as goal
 

@@ -1,10 +1,7 @@
-use Rattle.std.proofs.Common.{◌≡◌, ◌+◌, ◌<◌, length, map, ap, sym, ◌∙◌, arith}
+use Rattle.std.proofs.Common.{◌+◌, map, ap, sym, ◌∙◌, arith}
 use Rattle.ftl_dep_table.specs.Meant.{meant}
 use Rattle.ftl_order.specs.Schedule.{bottomup, inorder, topdown}
 use Rattle.ftl_stages.specs.Stages.{kind_of, pass_of}
-use Rattle.ftl_item_rows.specs.StageItems.{passes_of}
-use Rattle.ftl_item_rows.specs.declared.view.FoundItem.{FoundItem}
-use Rattle.ftl_item_rows.specs.declared.view.StageItems.{StageItems}
 use Rattle.ftl_item_rows.proofs.StageFacts.{Known, next_above, next_down, next_known, next_up, no_next}
 use Rattle.ftl_item_rows.proofs.view.StageItems.next.Goals as goal
 

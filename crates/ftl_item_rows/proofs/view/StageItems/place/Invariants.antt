@@ -1,4 +1,4 @@
-use Rattle.std.proofs.Common.{◌≡◌, ◌<◌, ◌≤◌, ◌-◌, length}
+use Rattle.std.proofs.Common.{◌<◌, ◌≤◌, ◌-◌, length}
 use Rattle.ftl_item_rows.specs.StageItems.{start_at}
 use Rattle.ftl_item_rows.proofs.view.StageItems.place.Given as goal
 

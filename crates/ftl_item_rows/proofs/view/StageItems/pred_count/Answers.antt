@@ -1,4 +1,4 @@
-use Rattle.std.proofs.Common.{◌≡◌, map, ap, sym, ◌∙◌}
+use Rattle.std.proofs.Common.{map, ap, sym, ◌∙◌}
 use Rattle.ftl_dep_table.specs.Meant.{meant}
 use Rattle.ftl_stages.specs.Stages.{kind_of, pass_of}
 use Rattle.ftl_item_rows.proofs.StageFacts.{predecessor_count_down, predecessor_count_none, predecessor_count_up}
