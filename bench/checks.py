@@ -4,7 +4,7 @@
 bytes of the text, the milliseconds of reading and checking the grammar, of its table of reads, of reading the schedule
 and of verifying it, and the nanoseconds of verifying for each read.
 
-usage: bench/checks.py [PROGRAM]     PROGRAM is crates/ftl_schedule_bench/out/ftl_schedule_bench if left out
+usage: bench/checks.py [PROGRAM]     PROGRAM is crates/ftl_page_bench/out/ftl_page_bench if left out
 """
 import os
 import subprocess
@@ -64,7 +64,7 @@ def deep(children, rules_read):
 def run(program, page):
     """The nanoseconds of the four steps of the run whose last is the quickest."""
     def once():
-        told = subprocess.run([program, "time"], input=page, stdout=subprocess.PIPE, check=True).stdout.split()
+        told = subprocess.run([program, "schedule"], input=page, stdout=subprocess.PIPE, check=True).stdout.split()
         if told[4:] != [b"accepted"]:
             sys.exit(f"the program told {told}")
         return [int(word) for word in told[:4]]
@@ -72,9 +72,9 @@ def run(program, page):
 
 
 def main():
-    program = sys.argv[1] if len(sys.argv) > 1 else os.path.join(TOP, "crates/ftl_schedule_bench/out/ftl_schedule_bench")
+    program = sys.argv[1] if len(sys.argv) > 1 else os.path.join(TOP, "crates/ftl_page_bench/out/ftl_page_bench")
     if not os.path.exists(program):
-        sys.exit(f"{program} is not built: run 'rt run' in crates/ftl_schedule_bench once")
+        sys.exit(f"{program} is not built: run 'rt run' in crates/ftl_page_bench once")
     print(f"{'grammar':24} {'rules':>7} {'reads':>9} {'bytes':>9} {'check':>8} {'table':>8} {'read':>8} {'verify':>8} {'ns/read':>8}")
     grammars = [("wide, 32 reads a rule", wide(32), 32), ("wide, 256 reads a rule", wide(256), 256),
                 ("16 children, 1 read", deep(16, 1), 1), ("16 children, 50 reads", deep(16, 50), 50)]

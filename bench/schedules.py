@@ -2,7 +2,7 @@
 """Finds the automatic schedule of grammars of 256 to 2048 computed attributes: of one pass, of one pass with many reads,
 and of as many passes as attributes. Prints the milliseconds of finding it, and the growth from size to size.
 
-usage: bench/schedules.py [PROGRAM]     PROGRAM is crates/ftl_schedule_bench/out/ftl_schedule_bench if left out
+usage: bench/schedules.py [PROGRAM]     PROGRAM is crates/ftl_page_bench/out/ftl_page_bench if left out
 """
 import os
 import subprocess
@@ -55,7 +55,7 @@ def run(program, text):
     page = f"%page 1\n%grammar\n{text}%schedule auto\n".encode()
 
     def once():
-        told = subprocess.run([program, "time"], input=page, stdout=subprocess.PIPE, check=True).stdout.split()
+        told = subprocess.run([program, "schedule"], input=page, stdout=subprocess.PIPE, check=True).stdout.split()
         if told[4:] != [b"found"]:
             sys.exit(f"the program told {told}")
         return int(told[3])
@@ -63,9 +63,9 @@ def run(program, text):
 
 
 def main():
-    program = sys.argv[1] if len(sys.argv) > 1 else os.path.join(TOP, "crates/ftl_schedule_bench/out/ftl_schedule_bench")
+    program = sys.argv[1] if len(sys.argv) > 1 else os.path.join(TOP, "crates/ftl_page_bench/out/ftl_page_bench")
     if not os.path.exists(program):
-        sys.exit(f"{program} is not built: run 'rt run' in crates/ftl_schedule_bench once")
+        sys.exit(f"{program} is not built: run 'rt run' in crates/ftl_page_bench once")
     print(f"{'grammar':32} {'attributes':>10} {'ms':>9} {'growth':>7}")
     grammars = [("one pass, 1 read beside", lambda n: one_pass(n, 1)), ("one pass, 63 reads beside", lambda n: one_pass(n, 63)),
                 ("as many passes as attributes", one_each)]

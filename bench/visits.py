@@ -3,7 +3,7 @@
 of the rules of `flow` and `table`; and nanoseconds of compiling for each instruction, of grammars of more and more rules
 that each have 256 reads and 64 brackets in one another, and of one rule that is a sum of more and more numbers.
 
-usage: bench/visits.py [PROGRAM]     PROGRAM is crates/ftl_visit_bench/out/ftl_visit_bench if left out
+usage: bench/visits.py [PROGRAM]     PROGRAM is crates/ftl_page_bench/out/ftl_page_bench if left out
 """
 import os
 import subprocess
@@ -31,7 +31,7 @@ def sums(numbers):
 def run(program, page, times):
     """The nanoseconds of compiling and of all runs, and the number of instructions, of the quickest of some runs."""
     def once():
-        told = subprocess.run([program, str(times)], input=page.encode(), stdout=subprocess.PIPE, check=True).stdout.split()
+        told = subprocess.run([program, "code", str(times)], input=page.encode(), stdout=subprocess.PIPE, check=True).stdout.split()
         if told[3:4] != [b"parts,"]:
             sys.exit(f"the program told {told}")
         return int(told[0]), int(told[1]), int(told[4])
@@ -40,9 +40,9 @@ def run(program, page, times):
 
 
 def main():
-    program = sys.argv[1] if len(sys.argv) > 1 else os.path.join(TOP, "crates/ftl_visit_bench/out/ftl_visit_bench")
+    program = sys.argv[1] if len(sys.argv) > 1 else os.path.join(TOP, "crates/ftl_page_bench/out/ftl_page_bench")
     if not os.path.exists(program):
-        sys.exit(f"{program} is not built: run 'rt run' in crates/ftl_visit_bench once")
+        sys.exit(f"{program} is not built: run 'rt run' in crates/ftl_page_bench once")
     print(f"{'rules':24} {'instructions':>12} {'ns/instruction':>14}")
     times = 100_000
     for name in ("flow", "table"):

@@ -12,7 +12,8 @@ use Rattle.ftl_document_names.specs.OwnFields.{head_in, own_of}
 use Rattle.ftl_document_names.specs.Placed.{node_in}
 use Rattle.ftl_document_names.specs.declared.own_field.OwnField.{OwnField}
 use Rattle.ftl_document_walk.specs.Found.{FindsFault}
-use Rattle.ftl_document_walk.specs.Walk.{Counts}
+use Rattle.ftl_document_walk.specs.Walk.{Ends, Walks}
+use Rattle.ftl_document_walk.specs.declared.progress.Progress.{Progress}
 
 -- a fault that is handed on
 pub handed : {A : Type 0} (expected : Option DocFault) (x : DocFault) (r : Result A DocFault) → IsErrAnd r (λ e. e ≡ x)
@@ -28,8 +29,14 @@ seen g n wanted name own written same =
     ap (λ (hs : List FieldHead). node_fault g (n, record { wanted = wanted; class = name; fields = hs }))
     (sym (ap (map head_in) same ∙ heads_kept written))
 
--- the same of the fault of all nodes
-pub handed_on : (g : Grammar) (node : WrittenNode) (x : DocFault) (r : Result ℕ DocFault) → IsErrAnd r (λ e. e ≡ x)
-    → (x ≢ fault.OutOfMemory → first_node_fault g node ≡ Some x) → Counts g node r
-handed_on g node x (Ok n) told h = absurd told
-handed_on g node x (Err e) told h = λ memory. h (λ same. memory (told ∙ same)) ∙ ap Some (sym told)
+-- the same of the fault of all nodes, before a walk's end
+pub ended_on : (g : Grammar) (node : WrittenNode) (x : DocFault) (r : Result (Unit {0}) DocFault) (p : Progress)
+    → IsErrAnd r (λ e. e ≡ x) → (x ≢ fault.OutOfMemory → first_node_fault g node ≡ Some x) → Ends g node r p
+ended_on g node x (Ok done) p told h = absurd told
+ended_on g node x (Err e) p told h = λ memory. h (λ same. memory (told ∙ same)) ∙ ap Some (sym told)
+
+-- and of a whole walk
+pub walked_on : (g : Grammar) (node : WrittenNode) (x : DocFault) (r : Result Progress DocFault)
+    → IsErrAnd r (λ e. e ≡ x) → (x ≢ fault.OutOfMemory → first_node_fault g node ≡ Some x) → Walks g node r
+walked_on g node x (Ok p) told h = absurd told
+walked_on g node x (Err e) told h = λ memory. h (λ same. memory (told ∙ same)) ∙ ap Some (sym told)

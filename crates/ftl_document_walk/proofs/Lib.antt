@@ -1,7 +1,11 @@
 pub mod Rows
 pub mod ClassWidths
+pub mod PreorderRows
+pub mod WrittenRows
 pub mod Nodes
+pub mod Filled
 pub mod Regions
 pub mod Steps
 pub mod Handed
 pub mod Roots
+pub mod Whole

@@ -1,6 +1,6 @@
 -- One row more of a walk, or the end of a region.
 use Rattle.std.proofs.Common.{◌≡◌, ◌+◌, ◌*◌, ◌<◌, ◌≤◌, sym, subst, ◌∙◌, ap, arith, List, [], ◌∷◌, ◌++◌, length, map}
-use Rattle.std.proofs.Common.{drop, None}
+use Rattle.std.proofs.Common.{drop, ap₂, append-nil, None}
 use Rattle.std.specs.List.{sum_by}
 use Rattle.ftl_grammar_faults.specs.Numbering.{numbered}
 use Rattle.ftl_syntax.specs.declared.rules.Grammar.{Grammar}
@@ -10,10 +10,12 @@ use Rattle.ftl_document_syntax.specs.Written.{WrittenNode, list_field, no_fields
 use Rattle.ftl_document_syntax.specs.Written.{number_field}
 use Rattle.ftl_document_syntax.specs.declared.row.WrittenRow.{WrittenRow}
 use Rattle.ftl_document_faults.specs.FirstFault.{first_node_fault, first_there, instance_count_of, node_fault}
-use Rattle.ftl_document_walk.specs.Walk.{AreRegions, IsRightLeft, IsWalked, Left, all_nodes, all_rows, fields_left}
-use Rattle.ftl_document_walk.specs.Walk.{nodes_left, nodes_left_in, region_of, rows_left, width_of}
+use Rattle.ftl_document_walk.specs.NodeRows.{node_inputs_of, node_rows_of}
+use Rattle.ftl_document_walk.specs.Walk.{AreRegions, HaveFewKids, IsRightLeft, IsWalked, IsWhole, Left, all_node_inputs}
+use Rattle.ftl_document_walk.specs.Walk.{all_node_rows, all_nodes, all_rows, count_left, fields_left, node_inputs_left}
+use Rattle.ftl_document_walk.specs.Walk.{node_rows_left, nodes_left, nodes_left_in, region_of, rows_left, width_of}
 use Rattle.ftl_document_walk.specs.declared.stack.Region.{Region}
-use Rattle.ftl_document_walk.specs.declared.walk.Progress.{Progress}
+use Rattle.ftl_document_walk.specs.declared.progress.Progress.{Progress}
 
 -- the innermost region is this one, with what is left of it
 pub record IsInside (g : Grammar) (node : WrittenNode) (xs : List WrittenRow) (p : Progress) (r : Region)
@@ -33,20 +35,28 @@ pub record IsInside (g : Grammar) (node : WrittenNode) (xs : List WrittenRow) (p
   pub few : node_count node ≤ most_nodes
   pub count : p.count + sum_by (width_of g) (nodes_left_in g x ++ all_nodes g others) ≡ instance_count_of g node
   pub small : p.count ≤ 128 * p.number
+  pub node_rows : p.rows.items ++ (node_rows_left g p.number x ++ all_node_rows g (p.number + count_left x) others)
+      ≡ node_rows_of g node
+  pub inputs : p.inputs.items ++ (node_inputs_left g x ++ all_node_inputs g others) ≡ node_inputs_of g node
+  pub kid : (region_of x).kid ≤ p.number
+  pub kids : HaveFewKids p.number others
 
 module _ (g : Grammar) (node : WrittenNode) (xs : List WrittenRow) (p : Progress) where
   pub inside : (r : Region) (outer : List Region) → IsWalked g node xs p → p.stack ≡ r ∷ outer
       → (x : Left) × IsInside g node xs p r outer x
-  inside r outer h stack = by_lefts h.lefts (sym stack ∙ h.stack) h.regions h.left h.faults h.nodes h.count
+  inside r outer h stack =
+      by_lefts h.lefts (sym stack ∙ h.stack) h.regions h.left h.faults h.nodes h.count h.node_rows h.inputs h.kids
     where
       by_lefts : (lefts : List Left) → r ∷ outer ≡ map region_of lefts → AreRegions g p.at lefts
           → drop p.at xs ≡ all_rows lefts
           → first_node_fault g node ≡ first_there (map (node_fault g) (numbered p.number (all_nodes g lefts)))
           → p.number + length (all_nodes g lefts) ≡ node_count node
           → p.count + sum_by (width_of g) (all_nodes g lefts) ≡ instance_count_of g node
+          → p.rows.items ++ all_node_rows g p.number lefts ≡ node_rows_of g node
+          → p.inputs.items ++ all_node_inputs g lefts ≡ node_inputs_of g node → HaveFewKids p.number lefts
           → (x : Left) × IsInside g node xs p r outer x
-      by_lefts [] is regions left faults nodes count = absurd (let z : ⊥ = cc is in z)
-      by_lefts (x ∷ others) is regions left faults nodes count = (
+      by_lefts [] is regions left faults nodes count node_rows inputs kids = absurd (let z : ⊥ = cc is in z)
+      by_lefts (x ∷ others) is regions left faults nodes count node_rows inputs kids = (
         x,
         record {
           others = others;
@@ -62,6 +72,10 @@ module _ (g : Grammar) (node : WrittenNode) (xs : List WrittenRow) (p : Progress
           few = h.few;
           count = count;
           small = h.small;
+          node_rows = node_rows;
+          inputs = inputs;
+          kid = kids.0;
+          kids = kids.1;
         },
       )
 
@@ -73,18 +87,22 @@ module _ (g : Grammar) (node : WrittenNode) (xs : List WrittenRow) (p : Progress
     pub at : q.at ≡ p.at
     pub number : q.number ≡ p.number
     pub count : q.count ≡ p.count
+    pub rows : q.rows.items ≡ p.rows.items
+    pub inputs : q.inputs.items ≡ p.inputs.items
 
   pub region_ended : (r : Region) (outer : List Region) (x : Left) (q : Progress) → IsInside g node xs p r outer x
       → r.end ≤ p.at → HasLeft outer q → IsWalked g node xs q
   region_ended r outer x q b past l =
-      by_left x b.ends b.left b.faults b.nodes b.count (ap (λ (y : Region). y.end) b.same) b.regions
+      by_left x b.ends b.left b.faults b.nodes b.count (ap (λ (y : Region). y.end) b.same) b.regions b.node_rows b.inputs
     where
       out : (region_of x).end ≡ p.at → drop p.at xs ≡ all_rows b.others
           → first_node_fault g node ≡ first_there (map (node_fault g) (numbered p.number (all_nodes g b.others)))
           → p.number + length (all_nodes g b.others) ≡ node_count node
           → p.count + sum_by (width_of g) (all_nodes g b.others) ≡ instance_count_of g node
+          → p.rows.items ++ all_node_rows g (p.number + 0) b.others ≡ node_rows_of g node
+          → p.inputs.items ++ all_node_inputs g b.others ≡ node_inputs_of g node
           → IsWalked g node xs q
-      out end left faults nodes count =
+      out end left faults nodes count node_rows inputs =
           let up = l.number in
           let more = l.count in
           let small = b.small in
@@ -98,6 +116,10 @@ module _ (g : Grammar) (node : WrittenNode) (xs : List WrittenRow) (p : Progress
             few = b.few;
             count = omega (arith, more, count);
             small = omega (arith, up, more, small);
+            node_rows = ap₂ (λ ys n. ys ++ all_node_rows g n b.others) l.rows
+                (let z : q.number ≡ p.number + 0 = omega (arith, up) in z) ∙ node_rows;
+            inputs = ap (λ ys. ys ++ all_node_inputs g b.others) l.inputs ∙ inputs;
+            kids = subst (λ n. HaveFewKids n b.others) (sym up) b.kids;
           }
 
       by_left : (y : Left) → (region_of x).end ≡ p.at + length (rows_left y) → drop p.at xs
@@ -106,18 +128,22 @@ module _ (g : Grammar) (node : WrittenNode) (xs : List WrittenRow) (p : Progress
           (nodes_left_in g y ++ all_nodes g b.others)))
           → p.number + length (nodes_left_in g y ++ all_nodes g b.others) ≡ node_count node
           → p.count + sum_by (width_of g) (nodes_left_in g y ++ all_nodes g b.others) ≡ instance_count_of g node
-          → (region_of x).end ≡ r.end → AreRegions g (region_of x).end b.others → IsWalked g node xs q
-      by_left (fields_left s n e no_fields) ends left faults nodes count same regions =
-          out (omega (arith, ends)) left faults nodes count
-      by_left (fields_left s n e (number_field y m later)) ends left faults nodes count same regions =
+          → (region_of x).end ≡ r.end → AreRegions g (region_of x).end b.others
+          → p.rows.items ++ (node_rows_left g p.number y ++ all_node_rows g (p.number + count_left y) b.others)
+          ≡ node_rows_of g node
+          → p.inputs.items ++ (node_inputs_left g y ++ all_node_inputs g b.others) ≡ node_inputs_of g node
+          → IsWalked g node xs q
+      by_left (fields_left s n e no_fields) ends left faults nodes count same regions node_rows inputs =
+          out (omega (arith, ends)) left faults nodes count node_rows inputs
+      by_left (fields_left s n e (number_field y m later)) ends left faults nodes count same regions node_rows inputs =
           absurd (let z : ⊥ = omega (arith, ends, same, past) in z)
-      by_left (fields_left s n e (node_field y c fs later)) ends left faults nodes count same regions =
+      by_left (fields_left s n e (node_field y c fs later)) ends left faults nodes count same regions node_rows inputs =
           absurd (let z : ⊥ = omega (arith, ends, same, past) in z)
-      by_left (fields_left s n e (list_field y ns later)) ends left faults nodes count same regions =
+      by_left (fields_left s n e (list_field y ns later)) ends left faults nodes count same regions node_rows inputs =
           absurd (let z : ⊥ = omega (arith, ends, same, past) in z)
-      by_left (nodes_left s no_nodes) ends left faults nodes count same regions =
-          out (omega (arith, ends)) left faults nodes count
-      by_left (nodes_left s (node_and c fs later)) ends left faults nodes count same regions =
+      by_left (nodes_left s no_nodes) ends left faults nodes count same regions node_rows inputs =
+          out (omega (arith, ends)) left faults nodes count node_rows inputs
+      by_left (nodes_left s (node_and c fs later)) ends left faults nodes count same regions node_rows inputs =
           absurd (let z : ⊥ = omega (arith, ends, same, past) in z)
 
 module _ (g : Grammar) (node : WrittenNode) (xs : List WrittenRow) (p : Progress) (h : IsWalked g node xs p) where
@@ -126,12 +152,19 @@ module _ (g : Grammar) (node : WrittenNode) (xs : List WrittenRow) (p : Progress
   restacked regions same = subst (λ rs. IsWalked g node xs (record p { stack = rs })) same h
 
   -- at the end nothing is left
-  pub walk_ended : p.stack ≡ [] → (first_node_fault g node ≡ None) × (p.count ≡ instance_count_of g node)
-  walk_ended empty = by_lefts h.lefts (sym empty ∙ h.stack) h.faults h.count
+  pub walk_ended : p.stack ≡ [] → IsWhole g node p
+  walk_ended empty = by_lefts h.lefts (sym empty ∙ h.stack) h.faults h.count h.node_rows h.inputs
     where
       by_lefts : (lefts : List Left) → [] ≡ map region_of lefts
           → first_node_fault g node ≡ first_there (map (node_fault g) (numbered p.number (all_nodes g lefts)))
           → p.count + sum_by (width_of g) (all_nodes g lefts) ≡ instance_count_of g node
-          → (first_node_fault g node ≡ None) × (p.count ≡ instance_count_of g node)
-      by_lefts [] same faults count = (faults, omega (arith, count))
-      by_lefts (x ∷ others) same faults count = absurd (let z : ⊥ = cc same in z)
+          → p.rows.items ++ all_node_rows g p.number lefts ≡ node_rows_of g node
+          → p.inputs.items ++ all_node_inputs g lefts ≡ node_inputs_of g node → IsWhole g node p
+      by_lefts [] same faults count node_rows inputs =
+          record {
+            none = faults;
+            count = omega (arith, count);
+            node_rows = sym (append-nil p.rows.items) ∙ node_rows;
+            inputs = sym (append-nil p.inputs.items) ∙ inputs;
+          }
+      by_lefts (x ∷ others) same faults count node_rows inputs = absurd (let z : ⊥ = cc same in z)

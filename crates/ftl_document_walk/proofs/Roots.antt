@@ -1,5 +1,5 @@
 -- The first node of a document.
-use Rattle.std.proofs.Common.{◌≡◌, ℕ, ◌≤◌, refl, sym, ◌∙◌, ap, ap₂, arith, List, [], ◌∷◌, ◌++◌, length, map}
+use Rattle.std.proofs.Common.{◌≡◌, ℕ, suc, ℤ, ◌≤◌, refl, sym, ◌∙◌, ap, ap₂, subst, arith, List, [], ◌∷◌, ◌++◌, length, map}
 use Rattle.std.proofs.Common.{append-nil, length-append}
 use Rattle.std.specs.List.{sum_by}
 use Rattle.std.proofs.lemmas.List.Sums.{sum_by-append, sum_by-cons}
@@ -12,12 +12,16 @@ use Rattle.ftl_document_syntax.specs.Written.{NameText, WrittenFields, WrittenNo
 use Rattle.ftl_document_syntax.specs.Written.{no_fields, no_nodes, node_and, node_field, number_field}
 use Rattle.ftl_document_syntax.specs.declared.row.WrittenRow.{WrittenRow}
 use Rattle.ftl_document_syntax.specs.declared.row.WrittenRow.TheVariants as rows
+use Rattle.ftl_document_faults.specs.DocumentTree.{inputs_in}
 use Rattle.ftl_document_faults.specs.FirstFault.{first_there, node_fault}
 use Rattle.ftl_document_faults.specs.Nodes.{class_number, nodes_beside, nodes_in, standing, wanted_in}
 use Rattle.ftl_document_walk.specs.Found.{AreRowsOf}
+use Rattle.ftl_tree_rows.specs.declared.row.NodeRow.{NodeRow}
+use Rattle.ftl_tree_rows.specs.declared.row.Place.{Place}
+use Rattle.ftl_document_walk.specs.NodeRows.{node_inputs_in, node_row, node_rows_in, node_rows_of}
+use Rattle.ftl_document_walk.specs.Steps.{IsFirst}
 use Rattle.ftl_document_walk.specs.Walk.{IsNext, width_of}
-use Rattle.ftl_document_walk.specs.declared.stack.Region.{Region}
-use Rattle.ftl_document_walk.specs.declared.walk.Progress.{Progress}
+use Rattle.ftl_document_walk.specs.declared.progress.Progress.{Progress}
 
 -- ---- how many nodes
 
@@ -94,14 +98,28 @@ same_count d node other is same =
 
 -- ---- before the first node
 
-abbrev pub progress_at_first : List Region → Progress
-progress_at_first regions = record { stack = regions; at = 0; number = 0; count = 0 }
+-- where the root stands
+abbrev pub root_place : Place
+root_place = record { child = 0; kid = 0 }
 
-pub first_next : (g : Grammar) (xs : List WrittenRow) (class : NameText) (regions : List Region) → regions ≡ []
+rows_first : (g : Grammar) (class : NameText) (node : WrittenNode) (before : List NodeRow) (n : ℕ) → before ≡ []
+    → n ≡ 0 → node.class ≡ class
+    → before
+    ++ (node_row (class_number g class) 0 0 0
+    ∷ (node_rows_in g (class_number g class) n (suc n) node.fields ++ [])) ≡ node_rows_of g node
+rows_first g class node before n empty zero name =
+    ap₂ (λ (ys : List NodeRow) m. ys
+    ++ (node_row (class_number g class) 0 0 0 ∷ (node_rows_in g (class_number g class) m (suc m) node.fields ++ [])))
+    empty zero
+    ∙ ap (λ (ys : List NodeRow). node_row (class_number g class) 0 0 0 ∷ ys)
+    (append-nil (node_rows_in g (class_number g class) 0 1 node.fields))
+    ∙ ap (λ c. node_row (class_number g c) 0 0 0 ∷ node_rows_in g (class_number g c) 0 1 node.fields) (sym name)
+
+pub first_next : (g : Grammar) (xs : List WrittenRow) (class : NameText) (p : Progress) → IsFirst p
     → (w node : WrittenNode) → AreRowsOf w (document_rows class xs) → node_count w ≤ most_nodes
     → AreRowsOf node (document_rows class xs)
-    → IsNext g node xs (progress_at_first regions) class (interface_number g g.root) 0 (length xs)
-first_next g xs class regions empty w node known few is =
+    → IsNext g node xs p class (interface_number g g.root) 0 (length xs) 0 root_place
+first_next g xs class p first_is w node known few is =
     let name : node.class ≡ class = ap (λ (x : DocumentRows). x.class) (sym is) in
     let same : xs ≡ rows_of_fields node.fields = ap (λ (x : DocumentRows). x.rows) is in
     let others : nodes_in g (class_number g node.class) node.fields ≡ nodes_in g
@@ -115,18 +133,38 @@ first_next g xs class regions empty w node known few is =
     let first = sum_by-cons (width_of g) (standing (interface_number g g.root) node.class node.fields) (nodes_in g
     (class_number g node.class) node.fields) in
     let equal = same_count (document_rows class xs) node w is known in
+    let zero = first_is.number in
+    let none = first_is.count in
     record {
       fields = node.fields;
       outer = [];
-      stack = empty;
+      stack = first_is.stack;
       regions = tt;
       within = omega arith;
       left = same ∙ sym (append-nil (rows_of_fields node.fields));
       ends = let e = ap length same in omega (arith, e);
       faults = ap₂ (λ c ys. first_there (map (node_fault g) (numbered 0 (standing
-          (interface_number g g.root) c node.fields ∷ ys)))) name others;
-      nodes = omega (arith, counted, length_same);
+          (interface_number g g.root) c node.fields ∷ ys)))) name others
+          ∙ ap (λ n. first_there (map (node_fault g) (numbered n (standing (interface_number g g.root) class node.fields
+          ∷ (nodes_in g (class_number g class) node.fields ++ []))))) (sym zero);
+      nodes = omega (arith, counted, length_same, zero);
       few = omega (arith, equal, few);
-      count = omega (arith, first, width_same, sum_same);
-      small = omega arith;
+      count = omega (arith, first, width_same, sum_same, none);
+      small = omega (arith, none);
+      node_rows = rows_first g class node p.rows.items p.number first_is.rows zero name;
+      inputs = ap (λ (ys : List ℤ). ys ++ (inputs_in g (class_number g class) node.fields
+          ++ (node_inputs_in g node.fields ++ []))) first_is.inputs
+          ∙ ap (λ (ys : List ℤ). inputs_in g (class_number g class) node.fields ++ ys)
+          (append-nil (node_inputs_in g node.fields))
+          ∙ ap (λ c. inputs_in g (class_number g c) node.fields ++ node_inputs_in g node.fields) (sym name);
+      kids = tt;
     }
+
+-- the same where the wanted interface is known as another number
+pub root_next : (g : Grammar) (xs : List WrittenRow) (class : NameText) (p : Progress) → IsFirst p
+    → (w node : WrittenNode) → AreRowsOf w (document_rows class xs) → node_count w ≤ most_nodes
+    → AreRowsOf node (document_rows class xs) → (wanted : ℕ) → wanted ≡ interface_number g g.root
+    → IsNext g node xs p class wanted 0 (length xs) 0 root_place
+root_next g xs class p first_is w node known few is wanted same =
+    subst (λ i. IsNext g node xs p class i 0 (length xs) 0 root_place) (sym same)
+    (first_next g xs class p first_is w node known few is)

@@ -1,44 +1,59 @@
 -- What a walk does at the next row, by what the row is.
 use Rattle.std.proofs.Common.{◌≡◌, ℕ, suc, ◌+◌, ◌<◌, ◌≤◌, refl, sym, subst, ◌∙◌, ap, ap₂, arith, List, [], ◌∷◌, ◌++◌}
-use Rattle.std.proofs.Common.{length, map, drop, append_assoc, length-append, length-drop}
+use Rattle.std.proofs.Common.{length, map, drop, append_assoc, length-append, length-drop, ℤ}
 use Rattle.std.specs.List.{sum_by}
 use Rattle.std.proofs.lemmas.List.Sums.{sum_by-cons}
 use Rattle.ftl_grammar_faults.specs.Numbering.{class_at, numbered}
 use Rattle.ftl_syntax.specs.declared.rules.Grammar.{Grammar}
 use Rattle.ftl_document_syntax.specs.Rows.{rows_of_fields, rows_of_nodes}
+use Rattle.ftl_document_syntax.specs.Sizes.{nodes_in_fields, nodes_in_list}
 use Rattle.ftl_document_syntax.specs.Written.{NameText, WrittenFields, WrittenNode, list_field, no_fields, no_nodes}
 use Rattle.ftl_document_syntax.specs.Written.{node_and, node_field, number_field}
 use Rattle.ftl_document_syntax.specs.declared.row.WrittenRow.{WrittenRow}
 use Rattle.ftl_document_syntax.specs.declared.row.WrittenRow.TheVariants as rows
+use Rattle.ftl_document_faults.specs.DocumentTree.{inputs_in}
 use Rattle.ftl_document_faults.specs.FirstFault.{first_there, node_fault}
 use Rattle.ftl_document_faults.specs.Nodes.{child_number, class_number, head_of, field_heads, list_form, node_form}
 use Rattle.ftl_document_faults.specs.Nodes.{nodes_beside, nodes_in, number_form, standing}
 use Rattle.ftl_document_faults.proofs.NoDocFault.{later_right}
 use Rattle.ftl_document_faults.proofs.RightChildren.{list_child, node_child}
-use Rattle.ftl_document_walk.specs.Walk.{AreRegions, IsNext, IsRightLeft, IsWalked, IsWithin, Left, all_nodes}
-use Rattle.ftl_document_walk.specs.Walk.{all_rows, fields_left, nodes_left, nodes_left_in, region_of, rows_left}
-use Rattle.ftl_document_walk.specs.Walk.{wanted_of, width_of}
+use Rattle.ftl_tree_rows.specs.declared.row.NodeRow.{NodeRow}
+use Rattle.ftl_tree_rows.specs.declared.row.Place.{Place}
+use Rattle.ftl_document_walk.specs.NodeRows.{node_inputs_beside, node_inputs_in, node_row, node_rows_beside}
+use Rattle.ftl_document_walk.specs.NodeRows.{node_rows_in}
+use Rattle.ftl_document_walk.specs.Steps.{HasPassed, list_region}
+use Rattle.ftl_document_walk.specs.Walk.{AreRegions, HaveFewKids, IsNext, IsRightLeft, IsWalked, IsWithin, Left}
+use Rattle.ftl_document_walk.specs.Walk.{all_node_inputs, all_node_rows, all_nodes, all_rows, count_left, fields_left}
+use Rattle.ftl_document_walk.specs.Walk.{node_inputs_left, node_rows_left, nodes_left, nodes_left_in, region_of}
+use Rattle.ftl_document_walk.specs.Walk.{rows_left, wanted_of, width_of}
 use Rattle.ftl_document_walk.specs.declared.stack.Region.{Region}
-use Rattle.ftl_document_walk.specs.declared.walk.Progress.{Progress}
+use Rattle.ftl_document_walk.specs.declared.progress.NextNode.{NextNode}
+use Rattle.ftl_document_walk.specs.declared.progress.Progress.{Progress}
 use Rattle.ftl_document_walk.proofs.Regions.{IsInside, inside}
 
 -- the child is one of the class
 abbrev pub IsDeclared : Grammar → (class child : ℕ) → Type 0
 IsDeclared g k c = c < length (class_at g k).children
 
--- a walk that passed a row, with these regions
-pub record HasPassed (p : Progress) (regions : List Region) (q : Progress) : Type 0 where
-  pub regions_are : q.stack ≡ regions
-  pub at : q.at ≡ suc p.at
-  pub number : q.number ≡ p.number
-  pub count : q.count ≡ p.count
-
 length-cons : (x : WrittenRow) (ys : List WrittenRow) → length (x ∷ ys) ≡ suc (length ys)
 length-cons x ys = refl
 
--- the region of a list
-abbrev pub list_region : (end class child : ℕ) → Region
-list_region end k c = record { end = end; class = k; child = c }
+-- the place of a single child, and of the next kid of a list
+abbrev pub single_place : (child : ℕ) → Place
+single_place c = record { child = c; kid = 0 }
+
+abbrev pub kid_place : Region → Place
+kid_place r = record { child = r.child; kid = r.kid }
+
+-- the region of a list once one more kid has come
+abbrev pub next_kid : Region → Region
+next_kid r = record r { kid = suc r.kid }
+
+-- more nodes have come, and no more kids
+pub few_kids_more : (m n : ℕ) (lefts : List Left) → m ≤ n → HaveFewKids m lefts → HaveFewKids n lefts
+few_kids_more m n [] h few = tt
+few_kids_more m n (x ∷ lefts) h few =
+    let kid = few.0 in (omega (arith, h, kid), few_kids_more m n lefts h few.1)
 
 module _ (g : Grammar) (node : WrittenNode) (xs : List WrittenRow) (p : Progress) where
   -- what follows of a row in a region
@@ -46,14 +61,18 @@ module _ (g : Grammar) (node : WrittenNode) (xs : List WrittenRow) (p : Progress
   Follows r outer (rows.Number x n) = (q : Progress) → HasPassed p (r ∷ outer) q → IsWalked g node xs q
   Follows r outer (rows.Single x c n) =
       IsDeclared g r.class (child_number g r.class x)
-      × IsNext g node xs p c (wanted_of g r.class (child_number g r.class x)) (suc p.at) (suc p.at + n)
+      × IsNext g node xs p c (wanted_of g r.class (child_number g r.class x)) (suc p.at) (suc p.at + n) r.node
+      (single_place (child_number g r.class x))
   Follows r outer (rows.List x n) =
       IsDeclared g r.class (child_number g r.class x)
       × ((q : Progress)
-      → HasPassed p (list_region (suc p.at + n) r.class (child_number g r.class x) ∷ r ∷ outer) q
+      → HasPassed p (list_region (suc p.at + n) r (child_number g r.class x) ∷ r ∷ outer) q
       → IsWalked g node xs q)
   Follows r outer (rows.Kid c n) =
-      IsDeclared g r.class r.child × IsNext g node xs p c (wanted_of g r.class r.child) (suc p.at) (suc p.at + n)
+      IsDeclared g r.class r.child × (r.kid ≤ p.number)
+      × ((rs : List Region) → rs ≡ next_kid r ∷ outer
+      → IsNext g node xs (record p { stack = rs }) c (wanted_of g r.class r.child) (suc p.at) (suc p.at + n) r.node
+      (kid_place r))
 
   module _ (r : Region) (outer : List Region) (x : Left) (b : IsInside g node xs p r outer x) (row : WrittenRow)
       (stack : p.stack ≡ r ∷ outer) (more : p.at < r.end) (next : drop p.at xs ≡ row ∷ drop (suc p.at) xs) where
@@ -64,11 +83,19 @@ module _ (g : Grammar) (node : WrittenNode) (xs : List WrittenRow) (p : Progress
         let one = length-cons row (drop (suc p.at) xs) in
         omega (arith, many, some, one)
 
+    -- the rows in the tree that are left, and the inputs
+    abbrev rows_of_left : List NodeRow
+    rows_of_left = node_rows_left g p.number x ++ all_node_rows g (p.number + count_left x) b.others
+
+    abbrev inputs_of_left : List ℤ
+    inputs_of_left = node_inputs_left g x ++ all_node_inputs g b.others
+
     -- the walk with what is left behind a row that is no node
     passed : (q : Progress) (regions : List Region) (lefts : List Left) → HasPassed p regions q
         → regions ≡ map region_of lefts → AreRegions g (suc p.at) lefts → drop (suc p.at) xs ≡ all_rows lefts
-        → nodes_left_in g x ++ all_nodes g b.others ≡ all_nodes g lefts → IsWalked g node xs q
-    passed q regions lefts h stands ends left same =
+        → nodes_left_in g x ++ all_nodes g b.others ≡ all_nodes g lefts → rows_of_left ≡ all_node_rows g p.number lefts
+        → inputs_of_left ≡ all_node_inputs g lefts → HaveFewKids p.number lefts → IsWalked g node xs q
+    passed q regions lefts h stands ends left same rows_same inputs_same kids =
         let at = h.at in
         let number = h.number in
         let many = h.count in
@@ -79,7 +106,7 @@ module _ (g : Grammar) (node : WrittenNode) (xs : List WrittenRow) (p : Progress
         let small = b.small in
         record {
           lefts = lefts;
-          stack = h.regions_are ∙ stands;
+          stack = h.stack ∙ stands;
           regions = subst (λ n. AreRegions g n lefts) (sym at) ends;
           left = ap (λ n. drop n xs) at ∙ left;
           faults = b.faults
@@ -88,16 +115,32 @@ module _ (g : Grammar) (node : WrittenNode) (xs : List WrittenRow) (p : Progress
           few = b.few;
           count = omega (arith, many, sum_same, count);
           small = omega (arith, many, number, small);
+          node_rows = ap₂ (λ ys n. ys ++ all_node_rows g n lefts) h.rows number
+              ∙ ap (λ (ys : List NodeRow). p.rows.items ++ ys) (sym rows_same)
+              ∙ b.node_rows;
+          inputs = ap (λ ys. ys ++ all_node_inputs g lefts) h.inputs
+              ∙ ap (λ (ys : List ℤ). p.inputs.items ++ ys) (sym inputs_same)
+              ∙ b.inputs;
+          kids = subst (λ n. HaveFewKids n lefts) (sym number) kids;
         }
 
     -- the walk before a node
-    node_next : (name : _) (wanted : ℕ) (fields : WrittenFields) (lefts : List Left) → p.stack ≡ map region_of lefts
+    node_next : (rs : List Region) (name : _) (wanted parent : ℕ) (place : Place) (fields : WrittenFields)
+        (lefts : List Left) → rs ≡ map region_of lefts
         → AreRegions g (suc p.at + length (rows_of_fields fields)) lefts
         → drop (suc p.at) xs ≡ rows_of_fields fields ++ all_rows lefts
         → nodes_left_in g x ++ all_nodes g b.others
         ≡ standing wanted name fields ∷ (nodes_in g (class_number g name) fields ++ all_nodes g lefts)
-        → IsNext g node xs p name wanted (suc p.at) (suc p.at + length (rows_of_fields fields))
-    node_next name wanted fields lefts stands ends left same =
+        → rows_of_left
+        ≡ node_row (class_number g name) parent place.child place.kid
+        ∷ (node_rows_in g (class_number g name) p.number (suc p.number) fields
+        ++ all_node_rows g (suc p.number + nodes_in_fields fields) lefts)
+        → inputs_of_left
+        ≡ inputs_in g (class_number g name) fields ++ (node_inputs_in g fields ++ all_node_inputs g lefts)
+        → HaveFewKids (suc p.number) lefts
+        → IsNext g node xs (record p { stack = rs }) name wanted (suc p.at)
+        (suc p.at + length (rows_of_fields fields)) parent place
+    node_next rs name wanted parent place fields lefts stands ends left same rows_same inputs_same kids =
         let length_same = ap length same in
         let sum_same = ap (sum_by (width_of g)) same in
         let nodes = b.nodes in
@@ -117,7 +160,28 @@ module _ (g : Grammar) (node : WrittenNode) (xs : List WrittenRow) (p : Progress
           few = b.few;
           count = omega (arith, one_more, sum_same, count);
           small = b.small;
+          node_rows = ap (λ (ys : List NodeRow). p.rows.items ++ ys) (sym rows_same) ∙ b.node_rows;
+          inputs = ap (λ (ys : List ℤ). p.inputs.items ++ ys) (sym inputs_same) ∙ b.inputs;
+          kids = kids;
         }
+
+    -- the rows of a list, and those behind it
+    rows_beside : (inner rest : List NodeRow) (m n : ℕ) → m ≡ n
+        → (inner ++ rest) ++ all_node_rows g m b.others ≡ inner ++ (rest ++ all_node_rows g n b.others)
+    rows_beside inner rest m n same =
+        append_assoc inner rest (all_node_rows g m b.others)
+        ∙ ap (λ k. inner ++ (rest ++ all_node_rows g k b.others)) same
+
+    -- the same with a node before them
+    rows_behind : (row : NodeRow) (inner rest : List NodeRow) (m n : ℕ) → m ≡ n
+        → row ∷ ((inner ++ rest) ++ all_node_rows g m b.others)
+        ≡ row ∷ (inner ++ (rest ++ all_node_rows g n b.others))
+    rows_behind row inner rest m n same = ap (λ (ys : List NodeRow). row ∷ ys) (rows_beside inner rest m n same)
+
+    inputs_behind : (own inner rest outer : List ℤ)
+        → (own ++ (inner ++ rest)) ++ outer ≡ own ++ (inner ++ (rest ++ outer))
+    inputs_behind own inner rest outer =
+        append_assoc own (inner ++ rest) outer ∙ ap (λ (ys : List ℤ). own ++ ys) (append_assoc inner rest outer)
 
     -- the row and what stands behind it, by what is left
     abbrev IsFront : Left → Type 0
@@ -127,6 +191,8 @@ module _ (g : Grammar) (node : WrittenNode) (xs : List WrittenRow) (p : Progress
         × (row ∷ drop (suc p.at) xs ≡ rows_left y ++ all_rows b.others)
         × (nodes_left_in g x ++ all_nodes g b.others ≡ nodes_left_in g y ++ all_nodes g b.others)
         × (AreRegions g (region_of y).end b.others)
+        × (rows_of_left ≡ node_rows_left g p.number y ++ all_node_rows g (p.number + count_left y) b.others)
+        × (inputs_of_left ≡ node_inputs_left g y ++ all_node_inputs g b.others) × ((region_of y).kid ≤ p.number)
 
     front : IsFront x
     front = (
@@ -138,6 +204,9 @@ module _ (g : Grammar) (node : WrittenNode) (xs : List WrittenRow) (p : Progress
           ∙ b.left,
       refl,
       b.regions,
+      refl,
+      refl,
+      b.kid,
     )
 
     at_end : {A : Type 0} (s : Region) → r ≡ s → s.end ≡ p.at + 0 → A
@@ -161,16 +230,20 @@ module _ (g : Grammar) (node : WrittenNode) (xs : List WrittenRow) (p : Progress
           omega (arith, ends),
           f.6,
         )
-        tail f.5)
+        tail f.5 f.7 f.8 (f.9, b.kids))
     by_left (fields_left s m e (node_field name class fields later)) f =
         let is : row ≡ rows.Single name class (length (rows_of_fields fields)) = cc f.4 in
         let tail : drop (suc p.at) xs ≡ (rows_of_fields fields ++ rows_of_fields later) ++ all_rows b.others = cc f.4 in
         let ends = f.3 in
         let both = length-append (rows_of_fields fields) (rows_of_fields later) in
         let child = node_child g m s.class e name (field_heads later) f.2 in
+        let inner = node_rows_in g (class_number g class) p.number (suc p.number) fields in
+        let rest = node_rows_in g s.class s.node (suc p.number + nodes_in_fields fields) later in
+        let before = suc p.number + nodes_in_fields fields + nodes_in_fields later in
         subst (Follows s outer) (sym is) (
           child.below,
-          node_next class (wanted_of g s.class (child_number g s.class name)) fields
+          node_next p.stack class (wanted_of g s.class (child_number g s.class name)) s.node
+              (single_place (child_number g s.class name)) fields
               (fields_left s m (e ++ head_of name node_form ∷ []) later ∷ b.others)
               (stack ∙ ap₂ (λ y (rs : List Region). y ∷ rs) f.0 b.around) (
                 subst (λ (y : Region). y.class < length g.classes) f.0 f.1,
@@ -182,7 +255,14 @@ module _ (g : Grammar) (node : WrittenNode) (xs : List WrittenRow) (p : Progress
               (f.5
               ∙ ap (λ ys. standing (wanted_of g s.class (child_number g s.class name)) class fields ∷ ys)
               (append_assoc (nodes_in g (class_number g class) fields) (nodes_in g s.class later)
-              (all_nodes g b.others))),
+              (all_nodes g b.others)))
+              (f.7
+              ∙ rows_behind (node_row (class_number g class) s.node (child_number g s.class name) 0) inner rest
+              (p.number + suc (nodes_in_fields fields + nodes_in_fields later)) before (omega arith))
+              (f.8
+              ∙ inputs_behind (inputs_in g (class_number g class) fields) (node_inputs_in g fields)
+              (node_inputs_in g later) (all_node_inputs g b.others))
+              (let kid = f.9 in omega (arith, kid), few_kids_more p.number (suc p.number) b.others (omega arith) b.kids),
         )
     by_left (fields_left s m e (list_field name nodes later)) f =
         let is : row ≡ rows.List name (length (rows_of_nodes nodes)) = cc f.4 in
@@ -191,7 +271,9 @@ module _ (g : Grammar) (node : WrittenNode) (xs : List WrittenRow) (p : Progress
         let both = length-append (rows_of_nodes nodes) (rows_of_fields later) in
         let child = list_child g m s.class e name (field_heads later) f.2 in
         let known = subst (λ (y : Region). y.class < length g.classes) f.0 f.1 in
-        let inner = list_region (suc p.at + length (rows_of_nodes nodes)) s.class (child_number g s.class name) in
+        let inner = list_region (suc p.at + length (rows_of_nodes nodes)) s (child_number g s.class name) in
+        let kids = node_rows_beside g s.node (child_number g s.class name) 0 p.number nodes in
+        let rest = node_rows_in g s.class s.node (p.number + nodes_in_list nodes) later in
         subst (Follows s outer) (sym is) (
           child.below,
           λ q h.
@@ -211,23 +293,42 @@ module _ (g : Grammar) (node : WrittenNode) (xs : List WrittenRow) (p : Progress
               (tail ∙ append_assoc (rows_of_nodes nodes) (rows_of_fields later) (all_rows b.others))
               (f.5
               ∙ append_assoc (nodes_beside g (wanted_of g s.class (child_number g s.class name)) nodes)
-              (nodes_in g s.class later) (all_nodes g b.others)),
+              (nodes_in g s.class later) (all_nodes g b.others))
+              (f.7
+              ∙ rows_beside kids rest (p.number + (nodes_in_list nodes + nodes_in_fields later))
+              (p.number + nodes_in_list nodes + nodes_in_fields later) (omega arith))
+              (f.8
+              ∙ append_assoc (node_inputs_beside g nodes) (node_inputs_in g later) (all_node_inputs g b.others))
+              (let z : 0 ≤ p.number = omega arith in z, (f.9, b.kids)),
         )
     by_left (nodes_left s (node_and class fields later)) f =
         let is : row ≡ rows.Kid class (length (rows_of_fields fields)) = cc f.4 in
         let tail : drop (suc p.at) xs ≡ (rows_of_fields fields ++ rows_of_nodes later) ++ all_rows b.others = cc f.4 in
         let ends = f.3 in
         let both = length-append (rows_of_fields fields) (rows_of_nodes later) in
+        let inner = node_rows_in g (class_number g class) p.number (suc p.number) fields in
+        let rest = node_rows_beside g s.node s.child (suc s.kid) (suc p.number + nodes_in_fields fields) later in
+        let before = suc p.number + nodes_in_fields fields + nodes_in_list later in
         subst (Follows s outer) (sym is) (
           f.2,
-          node_next class (wanted_of g s.class s.child) fields (nodes_left s later ∷ b.others)
-              (stack ∙ ap₂ (λ y (rs : List Region). y ∷ rs) f.0 b.around)
+          f.9,
+          λ rs stands.
+              node_next rs class (wanted_of g s.class s.child) s.node (kid_place s) fields
+              (nodes_left (next_kid s) later ∷ b.others)
+              (stands ∙ ap (λ (ys : List Region). next_kid s ∷ ys) b.around)
               (subst (λ (y : Region). y.class < length g.classes) f.0 f.1, f.2, omega (arith, ends, both), f.6)
               (tail ∙ append_assoc (rows_of_fields fields) (rows_of_nodes later) (all_rows b.others))
               (f.5
               ∙ ap (λ ys. standing (wanted_of g s.class s.child) class fields ∷ ys)
               (append_assoc (nodes_in g (class_number g class) fields) (nodes_beside g
-              (wanted_of g s.class s.child) later) (all_nodes g b.others))),
+              (wanted_of g s.class s.child) later) (all_nodes g b.others)))
+              (f.7
+              ∙ rows_behind (node_row (class_number g class) s.node s.child s.kid) inner rest
+              (p.number + suc (nodes_in_fields fields + nodes_in_list later)) before (omega arith))
+              (f.8
+              ∙ inputs_behind (inputs_in g (class_number g class) fields) (node_inputs_in g fields)
+              (node_inputs_beside g later) (all_node_inputs g b.others))
+              (let kid = f.9 in omega (arith, kid), few_kids_more p.number (suc p.number) b.others (omega arith) b.kids),
         )
 
     pub follows : Follows r outer row
@@ -261,11 +362,29 @@ module _ (g : Grammar) (node : WrittenNode) (xs : List WrittenRow) (p : Progress
 
 -- the same node, as code tells it
 pub next_as : (g : Grammar) (node : WrittenNode) (xs : List WrittenRow) (p : Progress) (name told : NameText)
-    (wanted w from f end e : ℕ) → told ≡ name → w ≡ wanted → f ≡ from → e ≡ end
-    → IsNext g node xs p name wanted from end
-    → IsNext g node xs p told w f e
-next_as g node xs p name told wanted w from f end e one two three four h =
-    subst (λ n. IsNext g node xs p told w f n) (sym four)
-    (subst (λ n. IsNext g node xs p told w n end) (sym three)
-    (subst (λ n. IsNext g node xs p told n from end) (sym two)
-    (subst (λ n. IsNext g node xs p n wanted from end) (sym one) h)))
+    (wanted w from f end e parent n : ℕ) (place there : Place) → told ≡ name → w ≡ wanted → f ≡ from → e ≡ end
+    → n ≡ parent → there ≡ place → IsNext g node xs p name wanted from end parent place
+    → IsNext g node xs p told w f e n there
+next_as g node xs p name told wanted w from f end e parent n place there one two three four five six h =
+    subst (λ z. IsNext g node xs p told w f e n z) (sym six)
+    (subst (λ z. IsNext g node xs p told w f e z place) (sym five)
+    (subst (λ z. IsNext g node xs p told w f z parent place) (sym four)
+    (subst (λ z. IsNext g node xs p told w z end parent place) (sym three)
+    (subst (λ z. IsNext g node xs p told z from end parent place) (sym two)
+    (subst (λ z. IsNext g node xs p z wanted from end parent place) (sym one) h)))))
+
+-- the next kid of a list, where the region of the list has been replaced
+pub kid_next : (g : Grammar) (node : WrittenNode) (xs : List WrittenRow) (p : Progress) (r : Region)
+    (outer regions : List Region) (moved : Region) (class : NameText) (below : ℕ) (next : NextNode)
+    → p.stack ≡ r ∷ outer → moved ≡ next_kid r → regions ≡ moved ∷ drop 1 p.stack → next.class.now ≡ class
+    → next.wanted ≡ wanted_of g r.class r.child → next.from ≡ suc p.at → next.end ≡ suc p.at + below
+    → next.parent ≡ r.node → next.place ≡ kid_place r
+    → ((rs : List Region) → rs ≡ next_kid r ∷ outer
+    → IsNext g node xs (record p { stack = rs }) class (wanted_of g r.class r.child) (suc p.at) (suc p.at + below) r.node
+    (kid_place r))
+    → IsNext g node xs (record p { stack = regions }) next.class.now next.wanted next.from next.end next.parent next.place
+kid_next g node xs p r outer regions moved class below next stack one replaced name wanted from end parent place h =
+    next_as g node xs (record p { stack = regions }) class next.class.now (wanted_of g r.class r.child) next.wanted
+    (suc p.at) next.from (suc p.at + below) next.end r.node next.parent (kid_place r) next.place name wanted from end
+    parent place
+    (h regions (replaced ∙ ap₂ (λ (y : Region) (ys : List Region). y ∷ drop 1 ys) one stack))

@@ -1,18 +1,36 @@
 //! The regions of rows in which a walk stands.
 
-ghost use Rattle.std.specs.Prelude.{◌≡◌, ◌++◌, ◌∷◌, [], IsNone, OnOk};
+ghost use Rattle.std.specs.Prelude.{◌≡◌, ◌++◌, ◌∷◌, ◌<◌, [], suc, drop, IsNone, OnOk};
 ghost use Rattle.std.specs.Option.{option_to_list};
 
 use std::alloc::{AllocError, Global};
 use std::marker::Model;
 
-/// The rows up to `end`: those of the fields of a node of class `class`, or of the nodes in the
-/// list child `child` of one.
+/// The rows up to `end`: those of the fields of the node `node`, which is of class `class`, or of
+/// the nodes in its list child `child`, `kid` of which have come.
 #[derive(Clone, Copy, Debug, PartialEq, Eq)]
 pub(crate) struct Region {
     pub(crate) end: usize,
     pub(crate) class: u32,
+    pub(crate) node: u32,
     pub(crate) child: u32,
+    pub(crate) kid: u32,
+}
+
+impl Region {
+    /// The same once one more kid has come.
+    pub(crate) fn with_next_kid(self) -> Region
+        requires few { self.kid < 4294967295 }
+        ensures next { result ≡ record self { kid = suc self.kid } }
+    {
+        Region {
+            end: self.end,
+            class: self.class,
+            node: self.node,
+            child: self.child,
+            kid: self.kid + 1,
+        }
+    }
 }
 
 /// Regions in one another. Contracts see them from the innermost one on.
@@ -52,5 +70,13 @@ impl Stack {
         ensures ended { IsNone result → self.old ≡ [] }
     {
         self.regions.pop()
+    }
+
+    /// Puts a region in the place of the innermost one.
+    pub(crate) fn replace(&mut self, region: Region) -> Result<(), AllocError>
+        ensures replaced { OnOk result (self.new ≡ region ∷ drop 1 self.old) }
+    {
+        self.pop();
+        self.push(region)
     }
 }

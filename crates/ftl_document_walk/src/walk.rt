@@ -8,19 +8,22 @@ ghost use Rattle.ftl_document_syntax.specs.Written.{WrittenFields, WrittenNode};
 ghost use Rattle.ftl_document_faults.specs.FirstFault.{node_fault};
 ghost use Rattle.ftl_document_faults.specs.Nodes.{child_number, standing};
 ghost use Rattle.ftl_document_names.specs.Placed.{IsClassOf};
+ghost use Rattle.ftl_document_walk.specs.Filled.{AreFilled};
 ghost use Rattle.ftl_document_walk.specs.Found.{AreRowsOf, FindsFault, IsWritten};
-ghost use Rattle.ftl_document_walk.specs.Walk.{CanEnter, CanWalk, Counts, GoesOn, IsNext};
-ghost use Rattle.ftl_document_walk.specs.Walk.{IsReady, IsRow, IsWalked, IsWithin};
+ghost use Rattle.ftl_document_walk.specs.Walk.{CanEnter, CanWalk, Ends, GoesOn, IsNext};
+ghost use Rattle.ftl_document_walk.specs.Walk.{IsReady, IsRow, IsWalked, IsWithin, Walks};
 ghost use Rattle.ftl_document_walk.specs.Walk.{wanted_of};
 
 use crate::class_tables::ClassTable;
-use crate::stack::{Region, Stack};
+use crate::progress::{NextNode, Progress};
+use crate::stack::Region;
 use ftl_checked::Checked;
 use ftl_document_faults::DocFault;
 use ftl_document_names::{KnownNode, OwnField, Slots, known_class, own_fields};
 use ftl_document_syntax::{NameRef, WrittenRow};
 use ftl_grammar_faults::Field;
-use std::alloc::{AllocError, Global};
+use ftl_tree_rows::Place;
+use std::alloc::Global;
 
 /// What a walk goes over.
 #[derive(Clone, Copy)]
@@ -30,16 +33,6 @@ pub(crate) struct Walk<'a> {
     pub(crate) rows: &'a [WrittenRow<'a>],
 }
 
-/// How far a walk has come: the regions that it stands in, the next row, the number of the next
-/// node, and how many attributes the nodes before it have.
-#[derive(Drop)]
-pub(crate) struct Progress {
-    pub(crate) stack: Stack,
-    pub(crate) at: usize,
-    pub(crate) number: u32,
-    pub(crate) count: u64,
-}
-
 /// Room for what is known of one node.
 #[derive(Drop)]
 pub(crate) struct Scratch<'a> {
@@ -47,31 +40,16 @@ pub(crate) struct Scratch<'a> {
     pub(crate) slots: Slots,
 }
 
-/// A node that is next: the name of its class, the interface that is wanted of it, and the places
-/// between which the rows of its fields stand.
-#[derive(Clone, Copy)]
-pub(crate) struct NextNode<'r, 'a> {
-    pub(crate) class: &'r NameRef<'a>,
-    pub(crate) wanted: u32,
-    pub(crate) from: usize,
-    pub(crate) end: usize,
-}
-
 impl<'a> Walk<'a> {
-    /// Looks at all nodes, and counts their attributes.
-    pub(crate) fn all(&self, alloc: Global, class: &NameRef<'a>) -> Result<u64, DocFault>
+    /// Looks at all nodes, and goes as far as behind the last one.
+    pub(crate) fn all(&self, alloc: Global, class: &NameRef<'a>) -> Result<Progress, DocFault>
         requires ready { IsReady self.now }
         requires written { IsWritten (document_rows class.now self.now.rows.now) }
         ensures exact { (node : WrittenNode)
             → AreRowsOf node (document_rows class.now self.now.rows.now)
-            → Counts self.now.checked.now.grammar node result }
+            → Walks self.now.checked.now.grammar node result }
     {
-        let mut progress = Progress {
-            stack: Stack::new(alloc),
-            at: 0,
-            number: 0,
-            count: 0,
-        };
+        let mut progress = Progress::new(alloc);
         let mut scratch = Scratch {
             fields: Vec::new(alloc),
             slots: Slots {
@@ -84,9 +62,12 @@ impl<'a> Walk<'a> {
             wanted: self.checked.root(),
             from: 0,
             end: self.rows.len(),
+            parent: 0,
+            place: Place { child: 0, kid: 0 },
         };
         self.enter(alloc, root, &mut scratch, &mut progress)?;
-        self.finish(alloc, &mut scratch, &mut progress)
+        self.finish(alloc, &mut scratch, &mut progress)?;
+        Ok(progress)
     }
 
     /// Looks at each node that is left.
@@ -95,12 +76,12 @@ impl<'a> Walk<'a> {
         alloc: Global,
         scratch: &mut Scratch<'a>,
         progress: &mut Progress,
-    ) -> Result<u64, DocFault>
+    ) -> Result<(), DocFault>
         requires ready { IsReady self.now }
         requires walked { CanWalk self.now progress.old }
         ensures exact { (node : WrittenNode)
             → IsWalked self.now.checked.now.grammar node self.now.rows.now progress.old
-            → Counts self.now.checked.now.grammar node result }
+            → Ends self.now.checked.now.grammar node result progress.new }
     {
         while let Some(region) = progress.stack.pop() {
             if progress.at < region.end {
@@ -108,7 +89,7 @@ impl<'a> Walk<'a> {
                 self.step(alloc, region, scratch, progress)?;
             }
         }
-        Ok(progress.count)
+        Ok(())
     }
 
     /// Goes on by one row.
@@ -158,16 +139,19 @@ impl<'a> Walk<'a> {
             }
             WrittenRow::Single { name, class, below } => {
                 let child = child_number(self.checked, region.class, name);
-                let next = self.next_node(region.class, child, class, *below, progress.at);
+                let place = Place { child, kid: 0 };
+                let next = self.next_node(region, place, class, *below, progress.at);
                 self.enter(alloc, next, scratch, progress)
             }
             WrittenRow::List { name, below } => {
                 let child = child_number(self.checked, region.class, name);
-                open_list(region.class, child, *below, progress)?;
+                progress.open_list(region, child, *below)?;
                 Ok(())
             }
             WrittenRow::Kid { class, below } => {
-                let next = self.next_node(region.class, region.child, class, *below, progress.at);
+                let place = place_of_kid(region);
+                let next = self.next_node(region, place, class, *below, progress.at);
+                progress.stack.replace(region.with_next_kid())?;
                 self.enter(alloc, next, scratch, progress)
             }
         }
@@ -186,23 +170,19 @@ impl<'a> Walk<'a> {
         ensures exact { (node : WrittenNode)
             → IsNext self.now.checked.now.grammar node self.now.rows.now progress.old
             next.entry.class.now next.entry.wanted next.entry.from next.entry.end
+            next.entry.parent next.entry.place
             → GoesOn self.now.checked.now.grammar node self.now.rows.now result progress.new }
         ensures at { OnOk result (progress.new.at ≡ next.entry.from) }
         ensures few { OnOk result (length progress.new.stack ≡ suc (length progress.old.stack)) }
     {
         let class = self.check_node(alloc, next, progress.number, scratch)?;
-        progress.stack.push(Region {
-            end: next.end,
-            class,
-            child: 0,
-        })?;
-        progress.at = next.from;
-        progress.number += 1;
-        progress.count += self.tables[class as usize].width as u64;
+        let table = &self.tables[class as usize];
+        let inputs = &scratch.slots.values[..table.fields.inputs as usize];
+        progress.add_node(next, class, table.width, inputs)?;
         Ok(())
     }
 
-    /// The class of a node without a fault.
+    /// The class of a node without a fault, whose inputs the slots hold then.
     fn check_node(
         &self,
         alloc: Global,
@@ -221,6 +201,10 @@ impl<'a> Walk<'a> {
               number,
               standing next.entry.wanted next.entry.class.now fields,
             )) result }
+        ensures filled { (fields : WrittenFields)
+            → slice_range self.now.rows.now next.entry.from next.entry.end ≡ rows_of_fields fields
+            → IfOk result (λ k.
+            AreFilled self.now.checked.now.grammar k fields scratch.new.slots) }
     {
         let class = known_class(alloc, self.checked, number, next.wanted, next.class)?;
         own_fields(&self.rows[next.from..next.end], &mut scratch.fields)?;
@@ -241,29 +225,35 @@ impl<'a> Walk<'a> {
         Ok(class)
     }
 
-    /// The node of the row at `at`, which stands in this child.
+    /// The node of the row at `at`, which stands at this place of the region's node.
     fn next_node<'r>(
         &self,
-        class: u32,
-        child: u32,
+        region: Region,
+        place: Place,
         name: &'r NameRef<'a>,
         below: u32,
         at: usize,
     ) -> NextNode<'r, 'a>
-        requires class { class < length self.now.checked.now.grammar.classes }
-        requires child { child < length (class_at self.now.checked.now.grammar class).children }
+        requires class { region.class < length self.now.checked.now.grammar.classes }
+        requires child { place.child
+            < length (class_at self.now.checked.now.grammar region.class).children }
         requires at { at < length self.now.rows.now }
         ensures name { result.class.now ≡ name.now }
-        ensures wanted { result.wanted ≡ wanted_of self.now.checked.now.grammar class child }
+        ensures wanted { result.wanted
+            ≡ wanted_of self.now.checked.now.grammar region.class place.child }
         ensures from { result.from ≡ suc at }
         ensures end { result.end ≡ suc at + below }
+        ensures parent { result.parent ≡ region.node }
+        ensures place { result.place ≡ place }
     {
         let from = at + 1;
         NextNode {
             class: name,
-            wanted: self.checked.child(class, child).interface,
+            wanted: self.checked.child(region.class, place.child).interface,
             from,
             end: from + below as usize,
+            parent: region.node,
+            place,
         }
     }
 }
@@ -276,26 +266,14 @@ fn row_at<'r, 'a>(rows: &'r [WrittenRow<'a>], at: usize) -> &'r WrittenRow<'a>
     &rows[at]
 }
 
-/// Stands before the nodes of a list.
-fn open_list(class: u32, child: u32, below: u32, progress: &mut Progress) -> Result<(), AllocError>
-    requires at { progress.old.at < 4611686018427387904 }
-    ensures stack { OnOk result (progress.new.stack ≡ record {
-      end = suc progress.old.at + below;
-      class = class;
-      child = child;
-    } ∷ progress.old.stack) }
-    ensures at { OnOk result (progress.new.at ≡ suc progress.old.at) }
-    ensures number { OnOk result (progress.new.number ≡ progress.old.number) }
-    ensures count { OnOk result (progress.new.count ≡ progress.old.count) }
+/// Where the next node of a list stands.
+fn place_of_kid(list: Region) -> Place
+    ensures place { result ≡ record { child = list.child; kid = list.kid } }
 {
-    let from = progress.at + 1;
-    progress.stack.push(Region {
-        end: from + below as usize,
-        class,
-        child,
-    })?;
-    progress.at = from;
-    Ok(())
+    Place {
+        child: list.child,
+        kid: list.kid,
+    }
 }
 
 /// The number of the child that a field of this name is of; 0 where it is none's.

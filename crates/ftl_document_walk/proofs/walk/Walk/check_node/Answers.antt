@@ -2,6 +2,7 @@ use Rattle.std.proofs.Common.{◌∙◌, refl}
 use Rattle.ftl_document_faults.specs.FirstFault.{node_fault}
 use Rattle.ftl_document_faults.specs.Nodes.{standing}
 use Rattle.ftl_document_names.specs.OwnFields.{own_of}
+use Rattle.ftl_document_walk.proofs.Filled.{filled}
 use Rattle.ftl_document_walk.proofs.Handed.{handed, seen}
 use Rattle.ftl_document_walk.proofs.walk.Walk.check_node.Goals as goal
 
@@ -35,3 +36,14 @@ returns-clause-exact c written is =
     let own = c.deref.ensures.value ∙ c.in_ok-own_fields.ensures.fields written is in
     seen g c.args.number next.wanted next.class.now c.deref.result.now written own
     ∙ c.in_ok-found.ensures.exact next.class.now next.wanted class.named class.interface
+
+pub returns-clause-filled : goal.returns-clause-filled
+returns-clause-filled c written is =
+    let g = c.args.self.now.checked.now.grammar in
+    let next = c.args.next in
+    let class = c.in_ok-class.ensures.class in
+    let own = c.deref.ensures.value ∙ c.in_ok-own_fields.ensures.fields written is in
+    filled g c.requires.ready.lawful c.args.number next.wanted c.in_ok-class.class next.class.now written class
+    (seen g c.args.number next.wanted next.class.now c.deref.result.now written own
+    ∙ c.in_ok-found.ensures.exact next.class.now next.wanted class.named class.interface)
+    c.check_fields-found.new.slots c.deref.result.now own c.in_ok-found.ensures.placed

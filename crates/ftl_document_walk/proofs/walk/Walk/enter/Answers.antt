@@ -1,6 +1,7 @@
-use Rattle.std.proofs.Common.{◌+◌, refl, ap, arith}
+use Rattle.std.proofs.Common.{◌+◌, ◌++◌, ◌∙◌, ap, arith}
 use Rattle.ftl_document_syntax.specs.Rows.{rows_of_fields}
 use Rattle.ftl_document_walk.specs.Walk.{all_rows}
+use Rattle.ftl_document_walk.proofs.Filled.{first_numbers}
 use Rattle.ftl_document_walk.proofs.Nodes.{node_entered}
 use Rattle.ftl_document_walk.proofs.Rows.{between, long_enough}
 use Rattle.ftl_document_walk.proofs.walk.Walk.enter.Goals as goal
@@ -21,16 +22,23 @@ returns-clause-exact c node n =
     let class = c.in_ok-class.ensures.class in
     let known = class.known in
     let many = c.requires.ready.count in
-    let table = c.requires.ready.tables k c.index-self-class.result (omega (arith, known, many)) in
+    let t = c.index-self-class.result in
+    let table = c.requires.ready.tables k t (omega (arith, known, many)) in
     let few = table.few in
     let width = table.width in
-    node_entered g node xs p next.class.now next.wanted next.from next.end n _ k class
+    let rows = between xs (rows_of_fields n.fields) (all_rows n.outer) next.from next.end n.left n.ends in
+    let entered = c.in_ok-add_node.ensures.entered in
+    node_entered g node xs p next.class.now next.wanted next.from next.end next.parent next.place n _ k class
     (record {
-      stack = c.in_ok-push.ensures.pushed;
-      at = refl;
-      number = omega arith;
-      count = ap (λ m. p.count + m) width;
+      stack = entered.stack;
+      at = entered.at;
+      number = entered.number;
+      count = entered.count ∙ ap (λ m. p.count + m) width;
+      few = omega (arith, few, width);
+      node_rows = entered.rows;
+      inputs = c.in_ok-add_node.ensures.inputs
+          ∙ ap (λ ys. p.inputs.items ++ ys)
+          (first_numbers g k n.fields c.check_node.new.scratch.slots c.deref.result.now _
+          (c.in_ok-class.ensures.filled n.fields rows) c.deref.ensures.value table.inputs);
     })
-    (omega (arith, few, width))
-    (c.in_ok-class.ensures.exact n.fields (between xs (rows_of_fields n.fields)
-    (all_rows n.outer) next.from next.end n.left n.ends))
+    (c.in_ok-class.ensures.exact n.fields rows)

@@ -1,5 +1,5 @@
 use Rattle.std.proofs.Common.{◌≡◌, ◌∷◌, ◌∙◌, refl, sym, ap, arith, length}
-use Rattle.ftl_document_walk.proofs.Handed.{handed_on}
+use Rattle.ftl_document_walk.proofs.Handed.{ended_on}
 use Rattle.ftl_document_walk.proofs.Regions.{inside, region_ended, restacked, walk_ended}
 use Rattle.ftl_document_walk.proofs.Steps.{row_within}
 use Rattle.ftl_document_walk.proofs.walk.Walk.finish.Goals as goal
@@ -26,7 +26,7 @@ returns-in_err-step c =
     let p = c.loop-region.progress in
     record {
       exact = λ node h.
-          handed_on g node c.in_err-step.field-0.0 c.from_residual-in_err-step.result
+          ended_on g node c.in_err-step.field-0.0 c.from_residual-in_err-step.result _
           c.from_residual-in_err-step.ensures.1
           (c.in_err-step.ensures.exact node
           (restacked g node xs p (c.loop-region.invariant.same node h) c.push.new.self (c.in-Some.ensures.popped
@@ -46,18 +46,36 @@ loop-region-preserved c =
       walked = record {
         node = w.node;
         walked = region_ended g w.node xs p r outer first.0 _ first.1 c.if-progress-region.false
-            (record { stack = refl; at = refl; number = refl; count = refl });
+            (record { stack = refl; at = refl; number = refl; count = refl; rows = refl; inputs = refl });
       };
       same = λ node h.
           let i = inside g node xs p r outer (c.loop-region.invariant.same node h) c.in-Some.ensures.popped in
           region_ended g node xs p r outer i.0 _ i.1 c.if-progress-region.false
-          (record { stack = refl; at = refl; number = refl; count = refl });
+          (record { stack = refl; at = refl; number = refl; count = refl; rows = refl; inputs = refl });
     }
 
 pub returns : goal.returns
 returns c =
     record {
       exact = λ node h.
-          walk_ended c.args.self.now.checked.now.grammar node c.args.self.now.rows.now c.loop-region.progress
-          (c.loop-region.invariant.same node h) (c.in_default.ensures.ended refl);
+          let whole = walk_ended c.args.self.now.checked.now.grammar node c.args.self.now.rows.now c.loop-region.progress
+          (c.loop-region.invariant.same node h) (c.in_default.ensures.ended refl) in
+          record { none = whole.none; count = whole.count; node_rows = whole.node_rows; inputs = whole.inputs };
+    }
+
+pub loop-region-preserved-in-Continue-branch-2 : goal.loop-region-preserved-in-Continue-branch-2
+loop-region-preserved-in-Continue-branch-2 c =
+    let g = c.args.self.now.checked.now.grammar in
+    let xs = c.args.self.now.rows.now in
+    let p = c.loop-region.progress in
+    let w = c.loop-region.invariant.walked in
+    let stacked = c.in-Some.ensures.popped ∙ sym c.in_ok-push.ensures.pushed in
+    record {
+      walked = record {
+        node = w.node;
+        walked = c.in_ok-step.ensures.exact w.node (restacked g w.node xs p w.walked c.push.new.self stacked);
+      };
+      same = λ node h.
+          c.in_ok-step.ensures.exact node
+          (restacked g node xs p (c.loop-region.invariant.same node h) c.push.new.self stacked);
     }

@@ -3,8 +3,10 @@ use Rattle.ftl_document_syntax.specs.declared.row.WrittenRow.TheVariants as rows
 use Rattle.ftl_grammar_faults.specs.Numbering.{class_at}
 use Rattle.ftl_document_faults.specs.Nodes.{child_number}
 use Rattle.ftl_document_walk.specs.Walk.{wanted_of}
+use Rattle.ftl_tree_rows.specs.declared.row.Place.{Place}
+use Rattle.ftl_document_walk.specs.Steps.{list_region}
 use Rattle.ftl_document_walk.specs.declared.stack.Region.{Region}
-use Rattle.ftl_document_walk.proofs.Steps.{class_known, list_region, next_as, step_at}
+use Rattle.ftl_document_walk.proofs.Steps.{class_known, kid_next, next_as, single_place, step_at}
 use Rattle.ftl_document_walk.proofs.walk.Walk.pass.Goals as goal
 
 pub child_number-child-requires : goal.child_number-child-requires
@@ -45,8 +47,9 @@ enter-requires-clause-next c =
     record {
       node = w.node;
       is = next_as g w.node xs p c.in-Single.class next.class.now (wanted_of g r.class child) next.wanted
-          (suc p.at) next.from (suc p.at + c.in-Single.below) next.end t.name (t.wanted ∙ ap
-          (wanted_of g r.class) c.child_number-child.ensures.child) t.from t.end f.1;
+          (suc p.at) next.from (suc p.at + c.in-Single.below) next.end r.node next.parent (single_place child)
+          next.place t.name (t.wanted ∙ ap (wanted_of g r.class) c.child_number-child.ensures.child) t.from t.end
+          t.parent (t.place ∙ ap single_place c.child_number-child.ensures.child) f.1;
     }
 
 pub returns-in-Single-clause-exact : goal.returns-in-Single-clause-exact
@@ -62,15 +65,23 @@ returns-in-Single-clause-exact c node h =
     (rows.Single c.in-Single.name c.in-Single.class c.in-Single.below) c.in-Single.is c.requires.row in
     c.enter.ensures.exact node
     (next_as g node xs p c.in-Single.class next.class.now (wanted_of g r.class child) next.wanted
-    (suc p.at) next.from (suc p.at + c.in-Single.below) next.end t.name (t.wanted ∙ ap
-    (wanted_of g r.class) c.child_number-child.ensures.child) t.from t.end f.1)
+    (suc p.at) next.from (suc p.at + c.in-Single.below) next.end r.node next.parent (single_place child) next.place
+    t.name (t.wanted ∙ ap (wanted_of g r.class) c.child_number-child.ensures.child) t.from t.end t.parent
+    (t.place ∙ ap single_place c.child_number-child.ensures.child) f.1)
 
 pub returns-in-Number-clause-exact : goal.returns-in-Number-clause-exact
 returns-in-Number-clause-exact c node h =
     let g = c.args.self.now.checked.now.grammar in
     let f = step_at g node c.args.self.now.rows.now c.args.progress.now c.args.region c.requires.within h
     c.args.row.now (rows.Number c.in-Number.name c.in-Number.value) c.in-Number.is c.requires.row in
-    f _ (record { regions_are = c.requires.within.stack; at = omega arith; number = refl; count = refl })
+    f _ (record {
+      stack = c.requires.within.stack;
+      at = omega arith;
+      number = refl;
+      count = refl;
+      rows = refl;
+      inputs = refl;
+    })
 
 pub child_number-child-requires-in-List : goal.child_number-child-requires-in-List
 child_number-child-requires-in-List c =
@@ -87,15 +98,17 @@ returns-in_ok-open_list-in-List-clause-exact c node h =
     let p = c.args.progress.now in
     let f = step_at g node c.args.self.now.rows.now p r c.requires.within h c.args.row.now
     (rows.List c.in-List.name c.in-List.below) c.in-List.is c.requires.row in
-    let told = c.in_ok-open_list-in-List.ensures in
-    f.1 c.open_list.new.progress
+    let told = c.in_ok-open_list-in-List.ensures.passed in
+    f.1 c.open_list.new.self
     (record {
-      regions_are = told.stack
-          ∙ ap₂ (λ n (rs : List Region). list_region (suc p.at + c.in-List.below) r.class n ∷ rs)
+      stack = told.stack
+          ∙ ap₂ (λ n (rs : List Region). list_region (suc p.at + c.in-List.below) r n ∷ rs)
           c.child_number-child-in-List.ensures.child c.requires.within.stack;
       at = told.at;
       number = told.number;
       count = told.count;
+      rows = told.rows;
+      inputs = told.inputs;
     })
 
 pub next_node-next-requires-in-Kid-clause-class : goal.next_node-next-requires-in-Kid-clause-class
@@ -111,7 +124,19 @@ next_node-next-requires-in-Kid-clause-child c =
     let r = c.args.region in
     let f = step_at g w.node c.args.self.now.rows.now c.args.progress.now r c.requires.within w.walked
     c.args.row.now (rows.Kid c.in-Kid.class c.in-Kid.below) c.in-Kid.is c.requires.row in
-    f.0
+    subst (λ (x : Place). x.child < length (class_at g r.class).children) (sym c.place_of_kid-place.ensures.place) f.0
+
+pub with_next_kid-requires : goal.with_next_kid-requires
+with_next_kid-requires c =
+    let w = c.requires.walked in
+    let g = c.args.self.now.checked.now.grammar in
+    let r = c.args.region in
+    let f = step_at g w.node c.args.self.now.rows.now c.args.progress.now r c.requires.within w.walked
+    c.args.row.now (rows.Kid c.in-Kid.class c.in-Kid.below) c.in-Kid.is c.requires.row in
+    let kids = f.1 in
+    let nodes = w.walked.nodes in
+    let few = w.walked.few in
+    record { few = omega (arith, kids, nodes, few) }
 
 pub enter-requires-in-Kid-clause-next : goal.enter-requires-in-Kid-clause-next
 enter-requires-in-Kid-clause-next c =
@@ -126,12 +151,14 @@ enter-requires-in-Kid-clause-next c =
     (rows.Kid c.in-Kid.class c.in-Kid.below) c.in-Kid.is c.requires.row in
     record {
       node = w.node;
-      is = next_as g w.node xs p c.in-Kid.class next.class.now (wanted_of g r.class r.child) next.wanted
-          (suc p.at) next.from (suc p.at + c.in-Kid.below) next.end t.name t.wanted t.from t.end f.1;
+      is = kid_next g w.node xs p r c.requires.within.outer c.replace.new.self c.with_next_kid.result c.in-Kid.class
+          c.in-Kid.below next c.requires.within.stack c.with_next_kid.ensures.next c.in_ok-replace-in-Kid.ensures.replaced
+          t.name (t.wanted ∙ ap (λ (x : Place). wanted_of g r.class x.child) c.place_of_kid-place.ensures.place)
+          t.from t.end t.parent (t.place ∙ c.place_of_kid-place.ensures.place) f.2;
     }
 
-pub returns-in-Kid-clause-exact : goal.returns-in-Kid-clause-exact
-returns-in-Kid-clause-exact c node h =
+pub returns-in_ok-replace-in-Kid-clause-exact : goal.returns-in_ok-replace-in-Kid-clause-exact
+returns-in_ok-replace-in-Kid-clause-exact c node h =
     let g = c.args.self.now.checked.now.grammar in
     let r = c.args.region in
     let p = c.args.progress.now in
@@ -141,5 +168,7 @@ returns-in-Kid-clause-exact c node h =
     let f = step_at g node xs p r c.requires.within h c.args.row.now
     (rows.Kid c.in-Kid.class c.in-Kid.below) c.in-Kid.is c.requires.row in
     c.enter-in-Kid.ensures.exact node
-    (next_as g node xs p c.in-Kid.class next.class.now (wanted_of g r.class r.child) next.wanted
-    (suc p.at) next.from (suc p.at + c.in-Kid.below) next.end t.name t.wanted t.from t.end f.1)
+    (kid_next g node xs p r c.requires.within.outer c.replace.new.self c.with_next_kid.result c.in-Kid.class
+    c.in-Kid.below next c.requires.within.stack c.with_next_kid.ensures.next c.in_ok-replace-in-Kid.ensures.replaced
+    t.name (t.wanted ∙ ap (λ (x : Place). wanted_of g r.class x.child) c.place_of_kid-place.ensures.place)
+    t.from t.end t.parent (t.place ∙ c.place_of_kid-place.ensures.place) f.2)

@@ -1,0 +1,3 @@
+pub mod FaultsTold
+pub mod ReadOnce
+pub mod NodesRead

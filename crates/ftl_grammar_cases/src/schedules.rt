@@ -1,0 +1,184 @@
+//! Requests on texts of schedules, and their answers, a line each. In a text `/` stands for a line
+//! feed.
+//!
+//! - `verify TEXT`: whether the schedule is accepted, or its first fault;
+//! - `many COUNT JOINT HEAD ^ TAIL`: the same of so many empty passes between a head and a tail, with
+//!   the joint between two of them;
+//! - `print TEXT`: the canonical text;
+//! - `cut TEXT`: how many of the fronts of the text spell a schedule, and how many go wrong within
+//!   the front.
+
+use ftl_base::Width;
+use ftl_checked::Checked;
+use ftl_dep_table::dep_table;
+use ftl_grammar_texts::grammar_of_text;
+use ftl_schedule::{
+    Accepted, ScheduleFault, VerifyFault, computed_entries, known_entries, print_schedule,
+    read_schedule, verify,
+};
+use ftl_tokens::{Scanned, tokens};
+use std::alloc::{AllocError, Global};
+use std::fmt::Write;
+
+/// The answers to these requests on the grammar that the text spells.
+pub(crate) fn schedules_answered(
+    alloc: Global,
+    text: &str,
+    requests: &str,
+) -> Result<String, AllocError> {
+    let mut out = String::new(alloc);
+    match grammar_of_text(alloc, text, Width::Narrow)? {
+        Some(checked) => write_answers(&mut out, alloc, &checked, requests)?,
+        None => out.push_str("no lawful grammar\n")?,
+    }
+    Ok(out)
+}
+
+fn write_answers(
+    out: &mut String,
+    alloc: Global,
+    checked: &Checked,
+    requests: &str,
+) -> Result<(), AllocError> {
+    for request in requests.lines() {
+        let (verb, rest) = request.split_once(' ').unwrap_or((request, ""));
+        match verb {
+            "verify" => write_verdict(out, alloc, checked, with_lines(alloc, rest)?)?,
+            "many" => write_verdict(out, alloc, checked, many_passes(alloc, rest)?)?,
+            "print" => write_canonical(out, alloc, checked, with_lines(alloc, rest)?)?,
+            "cut" => write_cuts(out, alloc, checked, rest)?,
+            _ => out.push_str("no request\n")?,
+        }
+    }
+    Ok(())
+}
+
+/// The text with line feeds in the place of `/`.
+fn with_lines(alloc: Global, text: &str) -> Result<String, AllocError> {
+    let mut lines = String::new(alloc);
+    for piece in text.chars() {
+        lines.push(if piece == '/' { '\n' } else { piece })?;
+    }
+    Ok(lines)
+}
+
+/// The text that a request for many passes asks for; empty where it asks for none.
+fn many_passes(alloc: Global, request: &str) -> Result<String, AllocError> {
+    let (count, rest) = request.split_once(' ').unwrap_or((request, ""));
+    let (joint, rest) = rest.split_once(' ').unwrap_or((rest, ""));
+    let (head, tail) = rest.split_once('^').unwrap_or((rest, ""));
+    let mut text = String::from_str(alloc, head)?;
+    for number in 0..count.parse::<u32>().unwrap_or(0) {
+        if number > 0 {
+            text.push_str(joint)?;
+        }
+        text.push_str("topdown { }")?;
+    }
+    text.push_str(tail)?;
+    Ok(text)
+}
+
+/// The tokens of a text that is no longer than one may be.
+fn scanned(alloc: Global, text: String) -> Option<Scanned> {
+    if text.len() > 67108864 {
+        return None;
+    }
+    tokens(alloc, text).ok()
+}
+
+fn write_verdict(
+    out: &mut String,
+    alloc: Global,
+    checked: &Checked,
+    text: String,
+) -> Result<(), AllocError> {
+    let Some(scanned) = scanned(alloc, text) else {
+        return out.push_str("no tokens\n");
+    };
+    match read_schedule(alloc, checked, &scanned) {
+        Ok(schedule) => {
+            computed_entries(checked, &scanned, &schedule);
+            let table = dep_table(alloc, checked)?;
+            write_verified(out, verify(alloc, checked, &table, schedule))?;
+        }
+        Err(fault) => write_fault(out, &fault)?,
+    }
+    out.push('\n')
+}
+
+fn write_verified(
+    out: &mut String,
+    verdict: Result<Accepted, VerifyFault>,
+) -> Result<(), AllocError> {
+    match verdict {
+        Ok(_accepted) => out.push_str("accepted"),
+        Err(VerifyFault::Twice { attr }) => write!(out, "{attr} twice"),
+        Err(VerifyFault::Missing { attr }) => write!(out, "{attr} missing"),
+        Err(VerifyFault::Unordered { reader, writer }) => {
+            write!(out, "{reader} reads {writer} unordered")
+        }
+        Err(VerifyFault::OutOfMemory) => out.push_str("out of memory"),
+    }
+}
+
+fn write_fault(out: &mut String, fault: &ScheduleFault) -> Result<(), AllocError> {
+    match fault {
+        ScheduleFault::Syntax { at } => write!(out, "syntax at {at}"),
+        ScheduleFault::TooManyPasses { count } => write!(out, "{count} passes"),
+        ScheduleFault::TooManyBeside { stage, count } => {
+            write!(out, "{count} passes in stage {stage}")
+        }
+        ScheduleFault::UnknownAttribute { owner, attr } => {
+            write!(out, "unknown {}.{}", owner.text(), attr.text())
+        }
+        ScheduleFault::OutOfMemory => out.push_str("out of memory"),
+    }
+}
+
+/// The canonical text between marks `<` and `>`.
+fn write_canonical(
+    out: &mut String,
+    alloc: Global,
+    checked: &Checked,
+    text: String,
+) -> Result<(), AllocError> {
+    let Some(scanned) = scanned(alloc, text) else {
+        return out.push_str("no tokens\n");
+    };
+    let Ok(schedule) = read_schedule(alloc, checked, &scanned) else {
+        return out.push_str("no schedule\n");
+    };
+    computed_entries(checked, &scanned, &schedule);
+    known_entries(checked, &schedule);
+    let text = print_schedule(alloc, checked, &schedule)?;
+    write!(out, "<{}>\n", text.as_str())
+}
+
+/// The place at which the text goes wrong; none where it spells a schedule.
+fn place_of(alloc: Global, checked: &Checked, text: &str) -> Result<Option<u32>, AllocError> {
+    let Some(scanned) = scanned(alloc, String::from_str(alloc, text)?) else {
+        return Ok(None);
+    };
+    match read_schedule(alloc, checked, &scanned) {
+        Err(ScheduleFault::Syntax { at }) => Ok(Some(at)),
+        _ => Ok(None),
+    }
+}
+
+fn write_cuts(
+    out: &mut String,
+    alloc: Global,
+    checked: &Checked,
+    text: &str,
+) -> Result<(), AllocError> {
+    let (mut read, mut wrong) = (0u32, 0u32);
+    for cut in 0..text.len() + 1 {
+        let front = text.get(0..cut).unwrap_or("");
+        match place_of(alloc, checked, front)? {
+            Some(place) if place as usize <= cut => wrong = wrong.saturating_add(1),
+            Some(_) => {}
+            None => read = read.saturating_add(1),
+        }
+    }
+    write!(out, "{read} are schedules, {wrong} go wrong within\n")
+}

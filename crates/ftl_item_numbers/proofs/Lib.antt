@@ -1,0 +1,7 @@
+pub mod RisingLists
+pub mod KidNumbers
+pub mod Places
+pub mod NextNumbers
+pub mod Ranges
+pub mod Begins
+pub mod NextCounts

@@ -1,0 +1,2 @@
+pub mod ItemNumbers
+pub mod NumberLaws

@@ -1,0 +1,6 @@
+pub mod Parents
+pub mod AllKids
+pub mod RowSteps
+pub mod RowFacts
+pub mod Starts
+pub mod StageFacts

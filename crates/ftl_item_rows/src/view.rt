@@ -1,0 +1,35 @@
+//! The items of a stage, as a view.
+ghost use Rattle.std.specs.Prelude.{map};
+ghost use Rattle.ftl_stages.specs.Stages.{pass_of};
+ghost use Rattle.ftl_item_rows.specs.RowsFit.{AreStarts};
+
+use crate::columns::ItemRows;
+use ftl_schedule_syntax::PassKind;
+use ftl_stages::Pass;
+
+/// The items of a stage: a view of what others keep.
+#[derive(Clone, Copy)]
+pub struct StageItems<'a> {
+    pub rows: &'a ItemRows<'a>,
+    pub passes: &'a [Pass],
+    pub starts: &'a [u32],
+    pub ghost fit: { AreStarts (map pass_of passes.now) rows.now.tree.now.tree
+        rows.now.grain starts.now },
+}
+
+/// An item by its pass, and by its number among the items of that.
+#[derive(Clone, Copy, Debug, PartialEq, Eq)]
+pub struct ItemPlace {
+    pub pass: u32,
+    pub item: u32,
+}
+
+/// An item by its pass, the kind of that, how many items come before the pass, and the node at
+/// which the item begins.
+#[derive(Clone, Copy, Debug, PartialEq, Eq)]
+pub struct FoundItem {
+    pub pass: u32,
+    pub kind: PassKind,
+    pub start: u32,
+    pub node: u32,
+}

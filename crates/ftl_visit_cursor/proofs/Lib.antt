@@ -1,0 +1,5 @@
+pub mod RangeLemmas
+pub mod LeftLemmas
+pub mod VisitLemmas
+pub mod TargetLemmas
+pub mod PlaceLemmas

@@ -1,0 +1,4 @@
+pub mod NodeRanges
+pub mod Places
+pub mod StepLaws
+pub mod VisitSteps

@@ -1,0 +1,2 @@
+pub mod MadeVisits
+pub mod RunLemmas
