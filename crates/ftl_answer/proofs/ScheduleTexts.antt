@@ -93,19 +93,25 @@ some_schedule g scanned = by (schedule (symbols_of scanned)) refl
   where
     by : (given : ReadResult WrittenSchedule) → schedule (symbols_of scanned) ≡ given
         → (answer : Result Schedule ScheduleFault) × (answer ≢ Err OutOfMemory) × Answers g scanned answer
-    by (Ok (w, left)) e =
-        (schedule_of g w, never g w, inr (inl (record {
-          written = w;
-          spells = is_spelled (symbols_of scanned) left w e;
-          answer = is_itself (schedule_of g w);
-        })))
+    by (Ok (w, left)) e = (
+      schedule_of g w,
+      never g w,
+      inr (inl (record {
+        written = w;
+        spells = is_spelled (symbols_of scanned) left w e;
+        answer = is_itself (schedule_of g w);
+      })),
+    )
     by (Err rest) e =
-        let at = place_of scanned.tokens (length scanned.tokens - length rest) in
-        (Err (Syntax at), (λ memory. cc), inl (record {
-          at = at;
-          none = is_no_schedule scanned rest (length rest) at e refl refl;
-          answer = λ told. refl;
-        }))
+        let at = place_of scanned.tokens (length scanned.tokens - length rest) in (
+          Err (Syntax at),
+          (λ memory. cc),
+          inl (record {
+            at = at;
+            none = is_no_schedule scanned rest (length rest) at e refl refl;
+            answer = λ told. refl;
+          }),
+        )
 
 -- ---- no other
 
