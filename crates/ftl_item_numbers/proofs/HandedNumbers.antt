@@ -52,7 +52,8 @@ pub one_list : (kind : PassKind) (t : Forest) (grain start : ℕ) (test : Path �
 one_list kind t grain start test xs ys x y =
     same_rising xs ys x.rises y.rises (λ n h. y.has n (x.of n h)) (λ n h. x.has n (y.of n h))
 
-pub no_list : (kind : PassKind) (t : Forest) (grain start : ℕ) (test : Path → Bool) → ((p : Path) → test p ≡ true → Contains (tops kind t grain) p → ⊥)
+pub no_list : (kind : PassKind) (t : Forest) (grain start : ℕ) (test : Path → Bool)
+    → ((p : Path) → test p ≡ true → Contains (tops kind t grain) p → ⊥)
     → HasHanded kind t grain start test []
 no_list kind t grain start test none =
     record {
@@ -155,7 +156,9 @@ module _ (g : AttributeGrammar) (t : Forest) (fits : IsTreeOf g t) (grain : ℕ)
               let j = known_before n hn in
               omega (arith, i, j)) (kids_rise g t fits p has)));
           of = λ n h.
-              let m = in_map (from_end t grain start) (all_kids g t p) n (in_reverse (map (from_end t grain start) (all_kids g t p)) n h) in
+              let m =
+              in_map (from_end t grain start) (all_kids g t p) n
+              (in_reverse (map (from_end t grain start) (all_kids g t p)) n h) in
               let kid = kid_there m.from m.there in
               record {
                 node = kid.node;
@@ -167,7 +170,8 @@ module _ (g : AttributeGrammar) (t : Forest) (fits : IsTreeOf g t) (grain : ℕ)
               let there = in_tops bottomup t grain bottomup_some rooted h.node h.there in
               subst (Contains (kid_items bottomup g t grain start p)) h.is
               (reverse_has (map (from_end t grain start) (all_kids g t p)) (from_end t grain start (number_of t h.node))
-              (map_has (from_end t grain start) (all_kids g t p) (number_of t h.node) (kid_listed h.node there.0 h.passes)));
+              (map_has (from_end t grain start) (all_kids g t p) (number_of t h.node)
+              (kid_listed h.node there.0 h.passes)));
         }
 
   -- a node whose tree is one item hands on to none of its kids
@@ -218,7 +222,9 @@ module _ (g : AttributeGrammar) (t : Forest) (fits : IsTreeOf g t) (grain : ℕ)
               node = a;
               there = tops_have kind t grain some a (has_parent t c k a has) (open_begins t grain a begun);
               passes = node_itself a;
-              is = ⊎_elim (λ e. e) (λ none. absurd (nothing_in n none)) (in_cases (start + place_in_pass kind t grain a) n [] h);
+              is =
+                  ⊎_elim (λ e. e) (λ none. absurd (nothing_in n none))
+                  (in_cases (start + place_in_pass kind t grain a) n [] h);
             };
         has = λ n h.
             subst (Contains ((start + place_in_pass kind t grain a) ∷ []))

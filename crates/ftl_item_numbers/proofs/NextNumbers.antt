@@ -107,7 +107,8 @@ module _ (g : AttributeGrammar) (t : Forest) (fits : IsTreeOf g t) (grain : ℕ)
       next_list : (kind : PassKind) (start : ℕ) (p : Path) → Contains (tops kind t grain) p
           → HasHanded kind t grain start (λ q. hands_on kind p q) (next_numbers kind g t grain start p)
       next_list topdown start p there =
-          let i = in_tops topdown t grain (topdown_some g t fits grain) (rooted g t fits grain) p there in down_below g t fits grain start p i.0 i.1
+          let i = in_tops topdown t grain (topdown_some g t fits grain) (rooted g t fits grain) p there in
+          down_below g t fits grain start p i.0 i.1
       next_list bottomup start p there =
           let i = in_tops bottomup t grain (bottomup_some g t fits grain) (rooted g t fits grain) p there in
           parent_item g t fits grain bottomup (bottomup_some g t fits grain) start p i.0 i.1
@@ -120,7 +121,8 @@ module _ (g : AttributeGrammar) (t : Forest) (fits : IsTreeOf g t) (grain : ℕ)
           let i = in_tops topdown t grain (topdown_some g t fits grain) (rooted g t fits grain) p there in
           parent_item g t fits grain topdown (topdown_some g t fits grain) start p i.0 i.1
       predecessor_list bottomup start p there =
-          let i = in_tops bottomup t grain (bottomup_some g t fits grain) (rooted g t fits grain) p there in up_below g t fits grain start p i.0 i.1
+          let i = in_tops bottomup t grain (bottomup_some g t fits grain) (rooted g t fits grain) p there in
+          up_below g t fits grain start p i.0 i.1
       predecessor_list inorder start p there =
           no_list inorder t grain start (λ q. hands_on inorder q p) (λ q is held. let z : ⊥ = grind (arith, is) in z)
 

@@ -62,8 +62,8 @@ impl<'a> ItemRows<'a> {
     /// How many nodes the item has that begins at this node. They follow one another in preorder.
     pub fn node_count(&self, first: u32) -> u32
         requires node { first < size (tree_in self.now) }
-        ensures count { result
-            ≡ length (nodes_of (tree_in self.now) self.now.grain (node_at (tree_in self.now) first)) }
+        ensures count { result ≡ length (nodes_of (tree_in self.now) self.now.grain
+            (node_at (tree_in self.now) first)) }
     {
         let size = self.tree.subtree_size(first);
         if size <= self.grain { size } else { 1 }

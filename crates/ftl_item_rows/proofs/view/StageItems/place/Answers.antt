@@ -112,7 +112,8 @@ returns c =
         within = below;
         entry =
             ap (item_in s) (sym start)
-            ∙ pass_stands t.tree rows.grain (root_there (meant t.checked) t.tree c.node_count-nodes.ensures.is_tree) ps m j
+            ∙ pass_stands t.tree rows.grain
+            (root_there (meant t.checked) t.tree c.node_count-nodes.ensures.is_tree) ps m j
             inside below;
       };
     }
