@@ -1,0 +1,4 @@
+pub mod KeyedLists
+pub mod RunRules
+pub mod SequenceKids
+pub mod SequenceVisits

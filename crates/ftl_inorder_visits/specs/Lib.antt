@@ -1,0 +1,3 @@
+pub mod InorderVisits
+pub mod KidSequences
+pub mod ListedRules
