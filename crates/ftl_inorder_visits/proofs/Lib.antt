@@ -2,3 +2,4 @@ pub mod KeyedLists
 pub mod RunRules
 pub mod SequenceKids
 pub mod SequenceVisits
+pub mod InorderTargets

@@ -82,20 +82,20 @@ module _ (g : AttributeGrammar) (law : IsLawful g) where
       known : class < g.class_count
       known = class_known g t fits p there
 
-      local_targets : targets g p 0 (locals g class attributes) ≡ steps_at g place here local class p
+      pub local_targets : targets g p 0 (locals g class attributes) ≡ steps_at g place here local class p
       local_targets =
           ap (map (λ w. target_of_rule p w 0)) (runs_locals g law class known attributes)
           ∙ map-map (λ w. target_of_rule p w 0) (for_self class) (filter (is_kept g local (attributes_of g class)) attributes)
           ∙ ap (map (instance_of p)) (sym (keyed_is g law s ordered stage pass local (λ e. cc) class known))
 
-      synthesized_targets : targets g p 0 (synthesized_rules g class attributes) ≡ steps_at g place here synthesized class p
+      pub synthesized_targets : targets g p 0 (synthesized_rules g class attributes) ≡ steps_at g place here synthesized class p
       synthesized_targets =
           ap (map (λ w. target_of_rule p w 0)) (runs_synthesized g law class known attributes)
           ∙ map-map (λ w. target_of_rule p w 0) (for_self class)
           (filter (is_kept g synthesized (attributes_of g class)) attributes)
           ∙ ap (map (instance_of p)) (sym (keyed_is g law s ordered stage pass synthesized (λ e. cc) class known))
 
-      inherited_targets : (c k : ℕ) → c < g.child_count class → k < kids_at t p c
+      pub inherited_targets : (c k : ℕ) → c < g.child_count class → k < kids_at t p c
           → targets g p k (inherited_rules g class c attributes)
           ≡ steps_at g place here inherited (class_at t (down c k p)) (down c k p)
       inherited_targets c k declared counted =

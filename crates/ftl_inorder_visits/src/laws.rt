@@ -1,4 +1,5 @@
 //! Sequences by kids, and by operations.
+ghost use Rattle.ftl_inorder_visits.specs.InorderSteps.{StepsComputeTheSequence};
 ghost use Rattle.ftl_inorder_visits.specs.InorderVisits.{VisitsAreTheSequence};
 ghost use Rattle.ftl_inorder_visits.specs.KidSequences.{GoesKidByKid, OfNodes};
 
@@ -11,4 +12,9 @@ pub fn sequences_by_kids()
 /// A law: in an ordered schedule the sequence at a node is what the operations of its visit do.
 pub fn visits_make_sequences()
     ensures sequence { VisitsAreTheSequence }
+{}
+
+/// A law: in an ordered schedule the steps of an inorder pass compute its sequence.
+pub fn inorder_steps_make_sequences()
+    ensures steps { StepsComputeTheSequence }
 {}
