@@ -1,5 +1,5 @@
 -- The instances that the steps of an inorder pass compute.
-use Rattle.std.proofs.Common.{◌≡◌, ℕ, suc, ◌+◌, ◌<◌, List, [], ◌∷◌, ◌++◌, flat_map, map, refl, sym, ◌∙◌, ap, ap₂, subst, arith}
+use Rattle.std.proofs.Common.{◌≡◌, ℕ, suc, ◌+◌, ◌<◌, List, [], ◌∷◌, ◌++◌, map, refl, sym, ◌∙◌, ap, ap₂, subst}
 use Rattle.std.proofs.lemmas.List.{map-append}
 use Rattle.ftl_model.specs.AttributeGrammar.{AttributeGrammar, inherited, local, synthesized}
 use Rattle.ftl_model.specs.Path.{Has, Path, at as tree_at, class_at, down, number_of, one_more, top}

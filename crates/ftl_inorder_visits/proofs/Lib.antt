@@ -3,3 +3,4 @@ pub mod RunRules
 pub mod SequenceKids
 pub mod SequenceVisits
 pub mod InorderTargets
+pub mod InorderStepLemmas

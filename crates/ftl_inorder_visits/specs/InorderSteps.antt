@@ -1,6 +1,6 @@
 -- The steps of the sequence of an inorder pass: at a node its locals; for each child and each kid the rules for the
 -- kid and the kid's steps; the synthesized attributes.
-use Rattle.std.specs.Prelude.{◌≡◌, ℕ, List, [], ◌∷◌, ◌++◌, flat_map, map}
+use Rattle.std.specs.Prelude.{◌≡◌, ℕ, List, [], ◌∷◌, ◌++◌, flat_map, map, Contains}
 use Rattle.ftl_model.specs.AttributeGrammar.{AttributeGrammar}
 use Rattle.ftl_model.specs.Path.{Path, at as tree_at, class_at, down, number_of, one_more, top}
 use Rattle.ftl_model.specs.Tree.{Forest, below_of, none, tree}
@@ -10,7 +10,7 @@ use Rattle.ftl_order.specs.Ordered.{IsOrdered}
 use Rattle.ftl_order.specs.Schedule.{Schedule, pass_at, spot_of}
 use Rattle.ftl_order.specs.Sequence.{sequence}
 use Rattle.ftl_items.specs.Items.{spot_at}
-use Rattle.ftl_steps.specs.Steps.{target_of}
+use Rattle.ftl_steps.specs.Steps.{IsStepOf, target_of}
 use Rattle.ftl_steps.specs.declared.step.Step.{Step}
 use Rattle.ftl_visit_list.specs.Visits.{inherited_rules, locals, synthesized_rules}
 use Rattle.ftl_visit_list.specs.declared.visit_op.VisitOp.{VisitOp}
@@ -50,3 +50,9 @@ StepsComputeTheSequence =
     → (stage pass : ℕ)
     → map (target_of g t) (inorder_steps g t (pass_at s stage pass).attributes top)
     ≡ sequence g (spot_of s) (spot_at stage pass) t
+
+-- and are steps of the tree
+abbrev pub StepsAreOfTheTree : Type 0
+StepsAreOfTheTree =
+    (g : AttributeGrammar) (t : Forest) → IsLawful g → IsTreeOf g t → (attributes : List ℕ)
+    → (x : Step) → Contains (inorder_steps g t attributes top) x → IsStepOf g t x

@@ -1,5 +1,5 @@
 //! Sequences by kids, and by operations.
-ghost use Rattle.ftl_inorder_visits.specs.InorderSteps.{StepsComputeTheSequence};
+ghost use Rattle.ftl_inorder_visits.specs.InorderSteps.{StepsAreOfTheTree, StepsComputeTheSequence};
 ghost use Rattle.ftl_inorder_visits.specs.InorderVisits.{VisitsAreTheSequence};
 ghost use Rattle.ftl_inorder_visits.specs.KidSequences.{GoesKidByKid, OfNodes};
 
@@ -14,7 +14,9 @@ pub fn visits_make_sequences()
     ensures sequence { VisitsAreTheSequence }
 {}
 
-/// A law: in an ordered schedule the steps of an inorder pass compute its sequence.
+/// A law: the steps of an inorder pass are steps of the tree, and in an ordered schedule they
+/// compute its sequence.
 pub fn inorder_steps_make_sequences()
+    ensures tree { StepsAreOfTheTree }
     ensures steps { StepsComputeTheSequence }
 {}
