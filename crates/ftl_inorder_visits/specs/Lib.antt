@@ -2,3 +2,4 @@ pub mod InorderSteps
 pub mod InorderVisits
 pub mod KidSequences
 pub mod ListedRules
+pub mod WorkedSteps

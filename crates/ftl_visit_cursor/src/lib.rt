@@ -8,7 +8,9 @@ mod cursor;
 mod laws;
 mod nodes;
 mod place;
+mod worked_steps;
 
 pub use cursor::VisitCursor;
 pub use laws::{items_by_ranges, nodes_of_subtrees, visits_make_steps};
 pub use nodes::NodeOrder;
+pub use worked_steps::steps_of_two_words;
