@@ -89,8 +89,11 @@ module _ (g : AttributeGrammar) where
         ≡ from_kids seen (tree k d i b s) d
     first_kids seen k d i b s =
         let same : (d == d) ≡ true = eq-eqb d d refl in
-        ap (λ n. kid_sequence g place x t p d (seen d) ++ flat_map (kid_sequence g place x t p d) (range_with_len n (count_in d s)))
-        (ap (λ (w : Bool). if w then suc (seen d) else seen d) same ∙ (let z : suc (seen d) ≡ seen d + 1 = omega arith in z))
+        ap
+        (λ n. kid_sequence g place x t p d (seen d)
+        ++ flat_map (kid_sequence g place x t p d) (range_with_len n (count_in d s)))
+        (ap (λ (w : Bool). if w then suc (seen d) else seen d) same
+        ∙ (let z : suc (seen d) ≡ seen d + 1 = omega arith in z))
         ∙ sym
         (ap (λ m. flat_map (kid_sequence g place x t p d) (range_with_len (seen d) m))
         (ap (λ (w : Bool). if w then suc (count_in d s) else count_in d s) same))
@@ -109,7 +112,9 @@ module _ (g : AttributeGrammar) where
         let rest = count - (d - from + 1) in
         let parts : count ≡ before + suc rest = omega arith in
         let here : from + before ≡ d = omega arith in
-        let later = by_kids s (one_more d seen) _ d (suc rest) (left_next t p seen passed k d i b s left) fits.4 fits.3 (omega arith) in
+        let later =
+        by_kids s (one_more d seen) _ d (suc rest) (left_next t p seen passed k d i b s left) fits.4 fits.3
+        (omega arith) in
         regroup (steps_at g place x inherited k q) (steps_at g place x local k q)
         (sequence_below g place x q (λ c. 0) b) (steps_at g place x synthesized k q)
         (sequence_below g place x p (one_more d seen) s)
@@ -135,5 +140,6 @@ module _ (g : AttributeGrammar) where
   goes_kid_by_kid place x t fits p there =
       ap
       (λ xs. steps_at g place x local (class_at t p) p ++ (xs ++ steps_at g place x synthesized (class_at t p) p))
-      (by_kids place x t p (class_at t p) (below_of (tree_at t p)) (λ c. 0) 0 0 (g.child_count (class_at t p)) (left_all t p)
+      (by_kids place x t p (class_at t p) (below_of (tree_at t p)) (λ c. 0) 0 0
+      (g.child_count (class_at t p)) (left_all t p)
       (fits_at g t p fits there).below (from_zero (below_of (tree_at t p))) (omega arith))

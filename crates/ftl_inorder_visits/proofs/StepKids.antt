@@ -43,8 +43,11 @@ module _ (g : AttributeGrammar) where
         ≡ from_kids seen (tree k d i b s) d
     first_kids seen k d i b s =
         let same : (d == d) ≡ true = eq-eqb d d refl in
-        ap (λ n. kid_steps g t attributes p d (seen d) ++ flat_map (kid_steps g t attributes p d) (range_with_len n (count_in d s)))
-        (ap (λ (w : Bool). if w then suc (seen d) else seen d) same ∙ (let z : suc (seen d) ≡ seen d + 1 = omega arith in z))
+        ap
+        (λ n. kid_steps g t attributes p d (seen d)
+        ++ flat_map (kid_steps g t attributes p d) (range_with_len n (count_in d s)))
+        (ap (λ (w : Bool). if w then suc (seen d) else seen d) same
+        ∙ (let z : suc (seen d) ≡ seen d + 1 = omega arith in z))
         ∙ sym
         (ap (λ m. flat_map (kid_steps g t attributes p d) (range_with_len (seen d) m))
         (ap (λ (w : Bool). if w then suc (count_in d s) else count_in d s) same))
@@ -63,7 +66,9 @@ module _ (g : AttributeGrammar) where
         let rest = count - (d - from + 1) in
         let parts : count ≡ before + suc rest = omega arith in
         let here : from + before ≡ d = omega arith in
-        let later = by_kids s (one_more d seen) _ d (suc rest) (left_next t p seen passed k d i b s left) fits.4 fits.3 (omega arith) in
+        let later =
+        by_kids s (one_more d seen) _ d (suc rest) (left_next t p seen passed k d i b s left) fits.4 fits.3
+        (omega arith) in
         regroup (steps_of_ops (number_of t p) (seen d) (inherited_rules g (class_at t p) d attributes))
         (steps_of_ops (number_of t q) 0 (locals g k attributes)) (steps_below g t attributes q (λ c. 0) b)
         (steps_of_ops (number_of t q) 0 (synthesized_rules g k attributes))
@@ -92,5 +97,6 @@ module _ (g : AttributeGrammar) where
       ap
       (λ xs. steps_of_ops (number_of t p) 0 (locals g (class_at t p) attributes)
       ++ (xs ++ steps_of_ops (number_of t p) 0 (synthesized_rules g (class_at t p) attributes)))
-      (by_kids t attributes p (class_at t p) (below_of (tree_at t p)) (λ c. 0) 0 0 (g.child_count (class_at t p)) (left_all t p)
+      (by_kids t attributes p (class_at t p) (below_of (tree_at t p)) (λ c. 0) 0 0
+      (g.child_count (class_at t p)) (left_all t p)
       (fits_at g t p fits there).below (from_zero (below_of (tree_at t p))) (omega arith))
