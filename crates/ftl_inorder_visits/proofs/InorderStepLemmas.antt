@@ -94,7 +94,8 @@ module _ (g : AttributeGrammar) (law : IsLawful g) where
     pub locals_are : (Kid : RuleName → Type 0) → ((a : ℕ) → Kid (for_self class a))
         → (op : VisitOp) → Contains (locals g class attributes) op → IsRuleFor class Kid op
     locals_are Kid right =
-        as_rule Kid (locals g class attributes) (for_self class) (filter (is_kept g local (attributes_of g class)) attributes)
+        as_rule Kid (locals g class attributes) (for_self class)
+        (filter (is_kept g local (attributes_of g class)) attributes)
         (λ a. (refl, right a)) (runs_locals g law class known attributes) (among_key (local_rule g class) local_inside)
 
     pub synthesized_are : (Kid : RuleName → Type 0) → ((a : ℕ) → Kid (for_self class a))

@@ -73,7 +73,8 @@ module _ (g : AttributeGrammar) (law : IsLawful g) (s : Schedule) (ordered : IsO
       ≡ steps_at g place here inherited class (down c k p)
   inherited_at p there c k declared kid class is =
       targets_are g t p there k (inherited_rules g (class_at t p) c attributes)
-      ∙ inherited_targets g law s ordered t fits stage pass p there c k declared (kid_counted c k (below_of (tree_at t p)) kid)
+      ∙ inherited_targets g law s ordered t fits stage pass p there c k declared
+      (kid_counted c k (below_of (tree_at t p)) kid)
       ∙ ap (λ n. steps_at g place here inherited n (down c k p)) is
 
   five_parts : (a b c d e : List Step)

@@ -102,14 +102,20 @@ module _ (q : ℕ → Bool) where
       let past = λ (a : ℕ) (there : Contains (filter q xs) a).
       ap (λ (b : Bool). if b then 0 else suc (place_in xs a)) (off a there) in
       let rest =
-      rising_more (λ a b. place_in xs a < place_in xs b) (λ a b. place_in (x ∷ xs) a < place_in (x ∷ xs) b) (filter q xs)
-      (λ a b ha hb less. let ea = past a ha in let eb = past b hb in (let z : place_in (x ∷ xs) a < place_in (x ∷ xs) b = omega (arith, ea, eb, less) in z))
+      rising_more (λ a b. place_in xs a < place_in xs b) (λ a b. place_in (x ∷ xs) a < place_in (x ∷ xs) b)
+      (filter q xs)
+      (λ a b ha hb less.
+      let ea = past a ha in
+      let eb = past b hb in
+      (let z : place_in (x ∷ xs) a < place_in (x ∷ xs) b = omega (arith, ea, eb, less) in z))
       (rising_places xs (λ a there e. fewer x xs a (few a (later_in x a xs there) e))) in
       let first : place_in (x ∷ xs) x ≡ 0 = ap (λ (b : Bool). if b then 0 else suc (place_in xs x)) (eq-eqb x x refl) in
       elim (q x) as
       (λ b. Rising (λ a b. place_in (x ∷ xs) a < place_in (x ∷ xs) b) (if b then x ∷ filter q xs else filter q xs)) [
         | true ↦ (
-          (λ b there. let e = past b there in (let z : place_in (x ∷ xs) x < place_in (x ∷ xs) b = omega (arith, first, e) in z)),
+          (λ b there.
+              let e = past b there in
+              (let z : place_in (x ∷ xs) x < place_in (x ∷ xs) b = omega (arith, first, e) in z)),
           rest,
         )
         | false ↦ rest

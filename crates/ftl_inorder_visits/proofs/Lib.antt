@@ -4,3 +4,4 @@ pub mod SequenceKids
 pub mod SequenceVisits
 pub mod InorderTargets
 pub mod InorderStepLemmas
+pub mod StepKids

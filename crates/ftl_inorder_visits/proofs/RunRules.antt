@@ -61,7 +61,8 @@ module _ (g : AttributeGrammar) where
         ∙ ap (λ w. items.rules_for g class w a) is
 
     local_runs : (a : ℕ) (so : Sort) → g.sort a ≡ so
-        → run (local_rule g class so a) ≡ rule_for (is_same_sort so local && is_listed (attributes_of g class) a) (for_self class a)
+        → run (local_rule g class so a)
+        ≡ rule_for (is_same_sort so local && is_listed (attributes_of g class) a) (for_self class a)
     local_runs a input is = refl
     local_runs a inherited is = refl
     local_runs a synthesized is = refl
@@ -77,7 +78,8 @@ module _ (g : AttributeGrammar) where
         alone a synthesized is ∙ as_rule_for (is_listed (attributes_of g class) a) (for_self class a)
 
     pub runs_locals : (attributes : List ℕ)
-        → run (locals g class attributes) ≡ map (for_self class) (filter (is_kept g local (attributes_of g class)) attributes)
+        → run (locals g class attributes)
+        ≡ map (for_self class) (filter (is_kept g local (attributes_of g class)) attributes)
     runs_locals = runs_listed local (attributes_of g class) (local_rule g class) (for_self class) local_runs
 
     pub runs_synthesized : (attributes : List ℕ)
@@ -110,7 +112,9 @@ module _ (g : AttributeGrammar) where
         by (Some r) is =
             let at = position-Some (is_of_class class (Some c) a) g.rules r (for_self 0 0) is in
             ap (λ v. v ∷ []) (kid_is c a (get_or g.rules r (for_self 0 0)) at.1)
-        by None is = absurd (none_passes (is_of_class class (Some c) a) g.rules is (for_child class c a) h (kid_passes c a))
+        by None is =
+            absurd
+            (none_passes (is_of_class class (Some c) a) g.rules is (for_child class c a) h (kid_passes c a))
 
     kid_gone : (c a : ℕ) → (Contains g.rules (for_child class c a) → ⊥) → run (rule_in g class (Some c) a) ≡ []
     kid_gone c a none = by (rule_number g class (Some c) a) refl
@@ -153,5 +157,6 @@ module _ (g : AttributeGrammar) where
       inherited_runs a inherited is = kid_runs a is
 
       pub runs_inherited : (attributes : List ℕ)
-          → run (inherited_rules g class c attributes) ≡ map (for_child class c) (filter (is_kept g inherited shared) attributes)
+          → run (inherited_rules g class c attributes)
+          ≡ map (for_child class c) (filter (is_kept g inherited shared) attributes)
       runs_inherited = runs_listed inherited shared (inherited_rule g class c) (for_child class c) inherited_runs

@@ -14,7 +14,7 @@ use Rattle.ftl_order.specs.Schedule.{Placing, Spot}
 use Rattle.ftl_order.specs.Sequence.{sequence_at, sequence_below, steps_at}
 use Rattle.ftl_inorder_visits.specs.KidSequences.{children_sequence, kid_sequence}
 
-not_same : (d c : ℕ) → (d ≡ c → ⊥) → (d == c) ≡ false
+pub not_same : (d c : ℕ) → (d ≡ c → ⊥) → (d == c) ≡ false
 not_same d c other =
     elim (d == c) as (λ b. (d == c) ≡ b → b ≡ false) [
       | true ↦ λ e. absurd (other (eqb-true d c e))
@@ -23,19 +23,19 @@ not_same d c other =
     refl
 
 -- pieces that are the same
-same_pieces : {X : Type 0} (f h : ℕ → List X) (ns : List ℕ) → ((n : ℕ) → Contains ns n → f n ≡ h n)
+pub same_pieces : {X : Type 0} (f h : ℕ → List X) (ns : List ℕ) → ((n : ℕ) → Contains ns n → f n ≡ h n)
     → flat_map f ns ≡ flat_map h ns
 same_pieces f h [] same = refl
 same_pieces f h (n ∷ ns) same =
     ap₂ (λ xs ys. xs ++ ys) (same n (here_in n ns)) (same_pieces f h ns (λ m there. same m (later_in n m ns there)))
 
 -- pieces that are empty
-no_pieces : {X : Type 0} (f : ℕ → List X) (ns : List ℕ) → ((n : ℕ) → f n ≡ []) → flat_map f ns ≡ []
+pub no_pieces : {X : Type 0} (f : ℕ → List X) (ns : List ℕ) → ((n : ℕ) → f n ≡ []) → flat_map f ns ≡ []
 no_pieces f [] none_is = refl
 no_pieces f (n ∷ ns) none_is = ap₂ (λ xs ys. xs ++ ys) (none_is n) (no_pieces f ns none_is)
 
 -- empty pieces at the front are passed over
-pass_over : {X : Type 0} (f : ℕ → List X) (from before count : ℕ)
+pub pass_over : {X : Type 0} (f : ℕ → List X) (from before count : ℕ)
     → ((n : ℕ) → from ≤ n → n < from + before → f n ≡ [])
     → flat_map f (range_with_len from (before + count)) ≡ flat_map f (range_with_len (from + before) count)
 pass_over f from zero count none_is =
@@ -48,9 +48,13 @@ pass_over f from (suc before) count none_is =
     ∙ pass_over f (from + 1) before count (λ n low high. none_is n (omega arith) (omega arith))
     ∙ ap (λ m. flat_map f (range_with_len m count)) (let z : (from + 1) + before ≡ from + suc before = omega arith in z)
 
+pub from_zero : (f : Forest) → StartsFrom 0 f
+from_zero none = tt
+from_zero (tree k d i b s) = omega arith
+
 module _ (g : AttributeGrammar) where
   -- no tree stands in a child before that of the first
-  none_before : (above d c : ℕ) (f : Forest) → FitBelow g above f → StartsFrom d f → c < d → count_in c f ≡ 0
+  pub none_before : (above d c : ℕ) (f : Forest) → FitBelow g above f → StartsFrom d f → c < d → count_in c f ≡ 0
   none_before above d c none fits starts less = refl
   none_before above d c (tree k e i b s) fits starts less =
       let other : (e ≡ c → ⊥) = λ is. (let z : ⊥ = omega arith in z) in
@@ -85,8 +89,11 @@ module _ (g : AttributeGrammar) where
         ≡ from_kids seen (tree k d i b s) d
     first_kids seen k d i b s =
         let same : (d == d) ≡ true = eq-eqb d d refl in
-        ap (λ n. kid_sequence g place x t p d (seen d) ++ flat_map (kid_sequence g place x t p d) (range_with_len n (count_in d s)))
-        (ap (λ (w : Bool). if w then suc (seen d) else seen d) same ∙ (let z : suc (seen d) ≡ seen d + 1 = omega arith in z))
+        ap
+        (λ n. kid_sequence g place x t p d (seen d)
+        ++ flat_map (kid_sequence g place x t p d) (range_with_len n (count_in d s)))
+        (ap (λ (w : Bool). if w then suc (seen d) else seen d) same
+        ∙ (let z : suc (seen d) ≡ seen d + 1 = omega arith in z))
         ∙ sym
         (ap (λ m. flat_map (kid_sequence g place x t p d) (range_with_len (seen d) m))
         (ap (λ (w : Bool). if w then suc (count_in d s) else count_in d s) same))
@@ -105,7 +112,9 @@ module _ (g : AttributeGrammar) where
         let rest = count - (d - from + 1) in
         let parts : count ≡ before + suc rest = omega arith in
         let here : from + before ≡ d = omega arith in
-        let later = by_kids s (one_more d seen) _ d (suc rest) (left_next t p seen passed k d i b s left) fits.4 fits.3 (omega arith) in
+        let later =
+        by_kids s (one_more d seen) _ d (suc rest) (left_next t p seen passed k d i b s left) fits.4 fits.3
+        (omega arith) in
         regroup (steps_at g place x inherited k q) (steps_at g place x local k q)
         (sequence_below g place x q (λ c. 0) b) (steps_at g place x synthesized k q)
         (sequence_below g place x p (one_more d seen) s)
@@ -131,9 +140,6 @@ module _ (g : AttributeGrammar) where
   goes_kid_by_kid place x t fits p there =
       ap
       (λ xs. steps_at g place x local (class_at t p) p ++ (xs ++ steps_at g place x synthesized (class_at t p) p))
-      (by_kids place x t p (class_at t p) (below_of (tree_at t p)) (λ c. 0) 0 0 (g.child_count (class_at t p)) (left_all t p)
+      (by_kids place x t p (class_at t p) (below_of (tree_at t p)) (λ c. 0) 0 0
+      (g.child_count (class_at t p)) (left_all t p)
       (fits_at g t p fits there).below (from_zero (below_of (tree_at t p))) (omega arith))
-    where
-      from_zero : (f : Forest) → StartsFrom 0 f
-      from_zero none = tt
-      from_zero (tree k d i b s) = omega arith

@@ -1,9 +1,9 @@
 -- The sequence at a node is what the operations of its visit do.
-use Rattle.std.proofs.Common.{◌≡◌, ℕ, ◌<◌, ◌&&◌, Bool, List, [], ◌∷◌, ◌++◌, filter, flat_map, map, Contains, refl, sym, ◌∙◌, ap, ap₂, ⊎_elim, arith}
+use Rattle.std.proofs.Common.{◌≡◌, ℕ, ◌<◌, ◌&&◌, Bool, List, [], ◌∷◌, ◌++◌, filter, flat_map, map, refl, sym, ◌∙◌, ap, ap₂, ⊎_elim, arith}
 use Rattle.std.specs.List.{range_with_len}
 use Rattle.std.proofs.lemmas.List.Elements.{Contains-append_cases, Contains-append_left}
 use Rattle.ftl_lists.specs.Lists.{is_listed}
-use Rattle.ftl_lists.proofs.Elements.{here_in, in_range_from, later_in}
+use Rattle.ftl_lists.proofs.Elements.{in_range_from}
 use Rattle.ftl_lists.proofs.Listed.{is_there, listed}
 use Rattle.ftl_model.specs.AttributeGrammar.{AttributeGrammar, Sort, attributes_of, for_child, for_self, inherited, input, local, synthesized}
 use Rattle.ftl_model.specs.Path.{Has, Path, at as tree_at, class_at, down, kids_at}
@@ -24,17 +24,11 @@ use Rattle.ftl_inorder_visits.specs.KidSequences.{child_sequence, children_seque
 use Rattle.ftl_inorder_visits.specs.ListedRules.{is_kept}
 use Rattle.ftl_inorder_visits.proofs.KeyedLists.{keyed_is, one_test}
 use Rattle.ftl_inorder_visits.proofs.RunRules.{runs_inherited, runs_locals, runs_synthesized}
-use Rattle.ftl_inorder_visits.proofs.SequenceKids.{goes_kid_by_kid}
+use Rattle.ftl_inorder_visits.proofs.SequenceKids.{goes_kid_by_kid, same_pieces}
 
 map-map : {X Y Z : Type 0} (f : Y → Z) (h : X → Y) (xs : List X) → map f (map h xs) ≡ map (λ x. f (h x)) xs
 map-map f h [] = refl
 map-map f h (x ∷ xs) = ap (λ rest. f (h x) ∷ rest) (map-map f h xs)
-
-pieces_agree : {X : Type 0} (f h : ℕ → List X) (ns : List ℕ) → ((n : ℕ) → Contains ns n → f n ≡ h n)
-    → flat_map f ns ≡ flat_map h ns
-pieces_agree f h [] same = refl
-pieces_agree f h (n ∷ ns) same =
-    ap₂ (λ xs ys. xs ++ ys) (same n (here_in n ns)) (pieces_agree f h ns (λ m there. same m (later_in n m ns there)))
 
 module _ (g : AttributeGrammar) (law : IsLawful g) where
   -- an inherited attribute of a class is its interface's
@@ -85,10 +79,12 @@ module _ (g : AttributeGrammar) (law : IsLawful g) where
       pub local_targets : targets g p 0 (locals g class attributes) ≡ steps_at g place here local class p
       local_targets =
           ap (map (λ w. target_of_rule p w 0)) (runs_locals g law class known attributes)
-          ∙ map-map (λ w. target_of_rule p w 0) (for_self class) (filter (is_kept g local (attributes_of g class)) attributes)
+          ∙ map-map (λ w. target_of_rule p w 0) (for_self class)
+          (filter (is_kept g local (attributes_of g class)) attributes)
           ∙ ap (map (instance_of p)) (sym (keyed_is g law s ordered stage pass local (λ e. cc) class known))
 
-      pub synthesized_targets : targets g p 0 (synthesized_rules g class attributes) ≡ steps_at g place here synthesized class p
+      pub synthesized_targets : targets g p 0 (synthesized_rules g class attributes)
+          ≡ steps_at g place here synthesized class p
       synthesized_targets =
           ap (map (λ w. target_of_rule p w 0)) (runs_synthesized g law class known attributes)
           ∙ map-map (λ w. target_of_rule p w 0) (for_self class)
@@ -108,19 +104,22 @@ module _ (g : AttributeGrammar) (law : IsLawful g) where
           ∙ map-map (λ w. target_of_rule p w k) (for_child class c)
           (filter (is_kept g inherited (g.shared (g.child_interface class c))) attributes)
           ∙ ap (λ (test : ℕ → Bool). map (instance_of q) (filter test attributes)) (λ i a. sym (alike a) i)
-          ∙ ap (map (instance_of q)) (sym (keyed_is g law s ordered stage pass inherited (λ e. cc) (class_at t q) below))
+          ∙ ap (map (instance_of q))
+          (sym (keyed_is g law s ordered stage pass inherited (λ e. cc) (class_at t q) below))
 
       blocks : children_sequence g place here t p
           ≡ flat_map
-          (λ c. flat_map (block_at g class attributes p (sequence_at g place here t) c) (range_with_len 0 (kids_at t p c)))
+          (λ c. flat_map (block_at g class attributes p (sequence_at g place here t) c)
+          (range_with_len 0 (kids_at t p c)))
           (children g class)
       blocks =
-          pieces_agree (child_sequence g place here t p)
-          (λ c. flat_map (block_at g class attributes p (sequence_at g place here t) c) (range_with_len 0 (kids_at t p c)))
+          same_pieces (child_sequence g place here t p)
+          (λ c. flat_map (block_at g class attributes p (sequence_at g place here t) c)
+          (range_with_len 0 (kids_at t p c)))
           (children g class)
           (λ c among.
           let declared = (in_range_from 0 (g.child_count class) c among).1 in
-          pieces_agree (kid_sequence g place here t p c) (block_at g class attributes p (sequence_at g place here t) c)
+          same_pieces (kid_sequence g place here t p c) (block_at g class attributes p (sequence_at g place here t) c)
           (range_with_len 0 (kids_at t p c))
           (λ k kid.
           let counted = (in_range_from 0 (kids_at t p c) k kid).1 in

@@ -37,7 +37,8 @@ done_at g t attributes visit p =
     (children g (class_at t p))
     ++ targets g p 0 (synthesized_rules g (class_at t p) attributes))
 
--- the sequence of a pass at a node is what the operations of its visit do, where the visit of a kid is the kid's sequence
+-- the sequence of a pass at a node is what the operations of its visit do, where the visit of a kid is the sequence
+-- there
 abbrev pub VisitsAreTheSequence : Type 0
 VisitsAreTheSequence =
     (g : AttributeGrammar) (s : Schedule) (t : Forest) → IsLawful g → IsOrdered g s → IsTreeOf g t

@@ -1,5 +1,6 @@
 //! Sequences by kids, and by operations.
 ghost use Rattle.ftl_inorder_visits.specs.InorderSteps.{StepsAreOfTheTree, StepsComputeTheSequence};
+ghost use Rattle.ftl_inorder_visits.specs.InorderSteps.{StepsGoKidByKid};
 ghost use Rattle.ftl_inorder_visits.specs.InorderVisits.{VisitsAreTheSequence};
 ghost use Rattle.ftl_inorder_visits.specs.KidSequences.{GoesKidByKid, OfNodes};
 
@@ -19,4 +20,9 @@ pub fn visits_make_sequences()
 pub fn inorder_steps_make_sequences()
     ensures tree { StepsAreOfTheTree }
     ensures steps { StepsComputeTheSequence }
+{}
+
+/// A law: the steps at a node are its own, with those of its kids between them.
+pub fn inorder_steps_by_kids()
+    ensures kids { StepsGoKidByKid }
 {}

@@ -7,5 +7,7 @@
 mod laws;
 mod worked_steps;
 
-pub use laws::{inorder_steps_make_sequences, sequences_by_kids, visits_make_sequences};
+pub use laws::{
+    inorder_steps_by_kids, inorder_steps_make_sequences, sequences_by_kids, visits_make_sequences,
+};
 pub use worked_steps::inorder_steps_of_two_words;
