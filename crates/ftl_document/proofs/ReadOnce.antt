@@ -43,7 +43,8 @@ by_fault c s node (Some x) spelled first = (
 
 pub some_tree : (c : CheckedGrammar) (s : WideTokenized) → length s.tokenized.tokens ≤ 4294967295
     → AreAtMost s.greatest (symbols_of s.tokenized) → Answer c s
-some_tree c s short small = by_text (some_answer s short small).0 (some_answer s short small).1 (some_answer s short small).2
+some_tree c s short small =
+    by_text (some_answer s short small).0 (some_answer s short small).1 (some_answer s short small).2
   where
     by_text : (read : _) → read ≢ Err written.OutOfMemory → ReadsDocument s read → Answer c s
     by_text (Ok d) told h =

@@ -2,7 +2,6 @@
 
 ghost use Rattle.std.specs.Prelude.{◌≡◌};
 ghost use Rattle.ftl_base.specs.Widths.{greatest_of_width};
-ghost use Rattle.ftl_document_syntax.specs.declared.fault.WrittenDocumentFault.{WrittenDocumentFault};
 ghost use Rattle.ftl_document.specs.ReadNodes.{ReadsNodes, told_as};
 ghost use Rattle.ftl_document.specs.ReadTree.{ReadsTree};
 

@@ -1,5 +1,5 @@
 -- The slots of a node without a fault hold its inputs.
-use Rattle.std.proofs.Common.{◌≡◌, ℕ, ◌+◌, ◌≤◌, ◌∙◌, ap, ap₂, subst, arith, List, [], ◌∷◌, ◌++◌, length, map, take, None}
+use Rattle.std.proofs.Common.{◌≡◌, ℕ, ◌∙◌, ap, ap₂, subst, arith, List, [], ◌∷◌, length, map, take, None}
 use Rattle.std.proofs.Common.{Option, Some, ℤ, refl, length-append}
 use Rattle.std.proofs.lemmas.List.{length-map, map-append, take_at}
 use Rattle.ftl_syntax.specs.declared.rules.Grammar.{Grammar}

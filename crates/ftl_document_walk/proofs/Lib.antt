@@ -5,7 +5,9 @@ pub mod WrittenRows
 pub mod Nodes
 pub mod Filled
 pub mod Regions
+pub mod LeftRows
 pub mod Steps
+pub mod NextSteps
 pub mod Handed
 pub mod Roots
 pub mod Whole

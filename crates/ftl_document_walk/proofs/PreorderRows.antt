@@ -1,11 +1,11 @@
 -- The rows and the inputs of a tree, by recursion over the tree.
-use Rattle.std.proofs.Common.{◌≡◌, ℕ, suc, ◌+◌, refl, sym, ap, ap₂, ◌∙◌, arith, List, [], ◌∷◌, ◌++◌, ℤ, map}
+use Rattle.std.proofs.Common.{◌≡◌, ℕ, suc, ◌+◌, refl, ap, ap₂, ◌∙◌, arith, List, [], ◌∷◌, ◌++◌, ℤ, map}
 use Rattle.std.proofs.Common.{append_assoc}
 use Rattle.std.specs.List.{flat_map}
 use Rattle.std.proofs.lemmas.List.{map-append}
 use Rattle.std.proofs.lemmas.Grind.{flat_map-append}
-use Rattle.ftl_model.specs.Path.{Path, child_at, class_at, down, inputs_at, kid_at, nodes_below, number_of, one_more}
-use Rattle.ftl_model.specs.Path.{preorder, top}
+use Rattle.ftl_model.specs.Path.{Path, down, inputs_at, nodes_below, number_of, one_more}
+use Rattle.ftl_model.specs.Path.{top}
 use Rattle.ftl_model.specs.Tree.{Forest, below_of, class_of, inputs_of, none, size, tree}
 use Rattle.ftl_model.proofs.Numbering.{Left, at-left, left_all, left_below, left_next, number-left}
 use Rattle.ftl_tree_rows.specs.declared.row.NodeRow.{NodeRow}

@@ -1,6 +1,6 @@
 -- One row more of a walk, or the end of a region.
 use Rattle.std.proofs.Common.{◌≡◌, ◌+◌, ◌*◌, ◌<◌, ◌≤◌, sym, subst, ◌∙◌, ap, arith, List, [], ◌∷◌, ◌++◌, length, map}
-use Rattle.std.proofs.Common.{drop, ap₂, append-nil, None}
+use Rattle.std.proofs.Common.{drop, ap₂, append-nil}
 use Rattle.std.specs.List.{sum_by}
 use Rattle.ftl_grammar_faults.specs.Numbering.{numbered}
 use Rattle.ftl_syntax.specs.declared.rules.Grammar.{Grammar}

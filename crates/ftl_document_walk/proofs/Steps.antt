@@ -7,7 +7,7 @@ use Rattle.ftl_grammar_faults.specs.Numbering.{class_at, numbered}
 use Rattle.ftl_syntax.specs.declared.rules.Grammar.{Grammar}
 use Rattle.ftl_document_syntax.specs.Rows.{rows_of_fields, rows_of_nodes}
 use Rattle.ftl_document_syntax.specs.Sizes.{nodes_in_fields, nodes_in_list}
-use Rattle.ftl_document_syntax.specs.Written.{NameText, WrittenFields, WrittenNode, list_field, no_fields, no_nodes}
+use Rattle.ftl_document_syntax.specs.Written.{WrittenFields, WrittenNode, list_field, no_fields, no_nodes}
 use Rattle.ftl_document_syntax.specs.Written.{node_and, node_field, number_field}
 use Rattle.ftl_document_syntax.specs.declared.row.WrittenRow.{WrittenRow}
 use Rattle.ftl_document_syntax.specs.declared.row.WrittenRow.TheVariants as rows
@@ -22,14 +22,14 @@ use Rattle.ftl_tree_rows.specs.declared.row.Place.{Place}
 use Rattle.ftl_document_walk.specs.NodeRows.{node_inputs_beside, node_inputs_in, node_row, node_rows_beside}
 use Rattle.ftl_document_walk.specs.NodeRows.{node_rows_in}
 use Rattle.ftl_document_walk.specs.Steps.{HasPassed, list_region}
-use Rattle.ftl_document_walk.specs.Walk.{AreRegions, HaveFewKids, IsNext, IsRightLeft, IsWalked, IsWithin, Left}
+use Rattle.ftl_document_walk.specs.Walk.{AreRegions, HaveFewKids, IsNext, IsRightLeft, IsWalked, Left}
 use Rattle.ftl_document_walk.specs.Walk.{all_node_inputs, all_node_rows, all_nodes, all_rows, count_left, fields_left}
 use Rattle.ftl_document_walk.specs.Walk.{node_inputs_left, node_rows_left, nodes_left, nodes_left_in, region_of}
 use Rattle.ftl_document_walk.specs.Walk.{rows_left, wanted_of, width_of}
 use Rattle.ftl_document_walk.specs.declared.stack.Region.{Region}
-use Rattle.ftl_document_walk.specs.declared.progress.NextNode.{NextNode}
 use Rattle.ftl_document_walk.specs.declared.progress.Progress.{Progress}
-use Rattle.ftl_document_walk.proofs.Regions.{IsInside, inside}
+use Rattle.ftl_document_walk.proofs.LeftRows.{few_kids_more, inputs_behind, rows_behind, rows_beside}
+use Rattle.ftl_document_walk.proofs.Regions.{IsInside}
 
 -- the child is one of the class
 abbrev pub IsDeclared : Grammar → (class child : ℕ) → Type 0
@@ -48,12 +48,6 @@ kid_place r = record { child = r.child; kid = r.kid }
 -- the region of a list once one more kid has come
 abbrev pub next_kid : Region → Region
 next_kid r = record r { kid = suc r.kid }
-
--- more nodes have come, and no more kids
-pub few_kids_more : (m n : ℕ) (lefts : List Left) → m ≤ n → HaveFewKids m lefts → HaveFewKids n lefts
-few_kids_more m n [] h few = tt
-few_kids_more m n (x ∷ lefts) h few =
-    let kid = few.0 in (omega (arith, h, kid), few_kids_more m n lefts h few.1)
 
 module _ (g : Grammar) (node : WrittenNode) (xs : List WrittenRow) (p : Progress) where
   -- what follows of a row in a region
@@ -165,24 +159,6 @@ module _ (g : Grammar) (node : WrittenNode) (xs : List WrittenRow) (p : Progress
           kids = kids;
         }
 
-    -- the rows of a list, and those behind it
-    rows_beside : (inner rest : List NodeRow) (m n : ℕ) → m ≡ n
-        → (inner ++ rest) ++ all_node_rows g m b.others ≡ inner ++ (rest ++ all_node_rows g n b.others)
-    rows_beside inner rest m n same =
-        append_assoc inner rest (all_node_rows g m b.others)
-        ∙ ap (λ k. inner ++ (rest ++ all_node_rows g k b.others)) same
-
-    -- the same with a node before them
-    rows_behind : (row : NodeRow) (inner rest : List NodeRow) (m n : ℕ) → m ≡ n
-        → row ∷ ((inner ++ rest) ++ all_node_rows g m b.others)
-        ≡ row ∷ (inner ++ (rest ++ all_node_rows g n b.others))
-    rows_behind row inner rest m n same = ap (λ (ys : List NodeRow). row ∷ ys) (rows_beside inner rest m n same)
-
-    inputs_behind : (own inner rest outer : List ℤ)
-        → (own ++ (inner ++ rest)) ++ outer ≡ own ++ (inner ++ (rest ++ outer))
-    inputs_behind own inner rest outer =
-        append_assoc own (inner ++ rest) outer ∙ ap (λ (ys : List ℤ). own ++ ys) (append_assoc inner rest outer)
-
     -- the row and what stands behind it, by what is left
     abbrev IsFront : Left → Type 0
     IsFront y =
@@ -257,7 +233,7 @@ module _ (g : Grammar) (node : WrittenNode) (xs : List WrittenRow) (p : Progress
               (append_assoc (nodes_in g (class_number g class) fields) (nodes_in g s.class later)
               (all_nodes g b.others)))
               (f.7
-              ∙ rows_behind (node_row (class_number g class) s.node (child_number g s.class name) 0) inner rest
+              ∙ rows_behind g b.others (node_row (class_number g class) s.node (child_number g s.class name) 0) inner rest
               (p.number + suc (nodes_in_fields fields + nodes_in_fields later)) before (omega arith))
               (f.8
               ∙ inputs_behind (inputs_in g (class_number g class) fields) (node_inputs_in g fields)
@@ -295,7 +271,7 @@ module _ (g : Grammar) (node : WrittenNode) (xs : List WrittenRow) (p : Progress
               ∙ append_assoc (nodes_beside g (wanted_of g s.class (child_number g s.class name)) nodes)
               (nodes_in g s.class later) (all_nodes g b.others))
               (f.7
-              ∙ rows_beside kids rest (p.number + (nodes_in_list nodes + nodes_in_fields later))
+              ∙ rows_beside g b.others kids rest (p.number + (nodes_in_list nodes + nodes_in_fields later))
               (p.number + nodes_in_list nodes + nodes_in_fields later) (omega arith))
               (f.8
               ∙ append_assoc (node_inputs_beside g nodes) (node_inputs_in g later) (all_node_inputs g b.others))
@@ -323,7 +299,7 @@ module _ (g : Grammar) (node : WrittenNode) (xs : List WrittenRow) (p : Progress
               (append_assoc (nodes_in g (class_number g class) fields) (nodes_beside g
               (wanted_of g s.class s.child) later) (all_nodes g b.others)))
               (f.7
-              ∙ rows_behind (node_row (class_number g class) s.node s.child s.kid) inner rest
+              ∙ rows_behind g b.others (node_row (class_number g class) s.node s.child s.kid) inner rest
               (p.number + suc (nodes_in_fields fields + nodes_in_list later)) before (omega arith))
               (f.8
               ∙ inputs_behind (inputs_in g (class_number g class) fields) (node_inputs_in g fields)
@@ -333,58 +309,3 @@ module _ (g : Grammar) (node : WrittenNode) (xs : List WrittenRow) (p : Progress
 
     pub follows : Follows r outer row
     follows = subst (λ y. Follows y outer row) b.same (by_left x front)
-
-module _ (g : Grammar) (node : WrittenNode) (xs : List WrittenRow) (p : Progress) (r : Region) (w : IsWithin p r)
-    (h : IsWalked g node xs p) where
-  -- what follows of this row
-  pub step_at : (row other : WrittenRow) → row ≡ other → drop p.at xs ≡ row ∷ drop (suc p.at) xs
-      → Follows g node xs p r w.outer other
-  step_at row other is next =
-      let i = inside g node xs p r w.outer h w.stack in
-      subst (Follows g node xs p r w.outer) is (follows g node xs p r w.outer i.0 i.1 row w.stack w.more next)
-
-  pub class_known : r.class < length g.classes
-  class_known =
-      let i = inside g node xs p r w.outer h w.stack in
-      subst (λ (y : Region). y.class < length g.classes) i.1.same i.1.known
-
-  -- there is a row
-  pub row_within : p.at < length xs
-  row_within =
-      let i = inside g node xs p r w.outer h w.stack in
-      let ends = i.1.ends in
-      let same = ap (λ (y : Region). y.end) i.1.same in
-      let more = w.more in
-      let many = length-drop p.at xs in
-      let left = ap length i.1.left in
-      let both = length-append (rows_left i.0) (all_rows i.1.others) in
-      omega (arith, ends, same, more, many, left, both)
-
--- the same node, as code tells it
-pub next_as : (g : Grammar) (node : WrittenNode) (xs : List WrittenRow) (p : Progress) (name told : NameText)
-    (wanted w from f end e parent n : ℕ) (place there : Place) → told ≡ name → w ≡ wanted → f ≡ from → e ≡ end
-    → n ≡ parent → there ≡ place → IsNext g node xs p name wanted from end parent place
-    → IsNext g node xs p told w f e n there
-next_as g node xs p name told wanted w from f end e parent n place there one two three four five six h =
-    subst (λ z. IsNext g node xs p told w f e n z) (sym six)
-    (subst (λ z. IsNext g node xs p told w f e z place) (sym five)
-    (subst (λ z. IsNext g node xs p told w f z parent place) (sym four)
-    (subst (λ z. IsNext g node xs p told w z end parent place) (sym three)
-    (subst (λ z. IsNext g node xs p told z from end parent place) (sym two)
-    (subst (λ z. IsNext g node xs p z wanted from end parent place) (sym one) h)))))
-
--- the next kid of a list, where the region of the list has been replaced
-pub kid_next : (g : Grammar) (node : WrittenNode) (xs : List WrittenRow) (p : Progress) (r : Region)
-    (outer regions : List Region) (moved : Region) (class : NameText) (below : ℕ) (next : NextNode)
-    → p.stack ≡ r ∷ outer → moved ≡ next_kid r → regions ≡ moved ∷ drop 1 p.stack → next.class.now ≡ class
-    → next.wanted ≡ wanted_of g r.class r.child → next.from ≡ suc p.at → next.end ≡ suc p.at + below
-    → next.parent ≡ r.node → next.place ≡ kid_place r
-    → ((rs : List Region) → rs ≡ next_kid r ∷ outer
-    → IsNext g node xs (record p { stack = rs }) class (wanted_of g r.class r.child) (suc p.at) (suc p.at + below) r.node
-    (kid_place r))
-    → IsNext g node xs (record p { stack = regions }) next.class.now next.wanted next.from next.end next.parent next.place
-kid_next g node xs p r outer regions moved class below next stack one replaced name wanted from end parent place h =
-    next_as g node xs (record p { stack = regions }) class next.class.now (wanted_of g r.class r.child) next.wanted
-    (suc p.at) next.from (suc p.at + below) next.end r.node next.parent (kid_place r) next.place name wanted from end
-    parent place
-    (h regions (replaced ∙ ap₂ (λ (y : Region) (ys : List Region). y ∷ drop 1 ys) one stack))

@@ -1,6 +1,5 @@
 -- The rows and inputs of a walk that has ended are those of the document's tree.
-use Rattle.std.proofs.Common.{◌≡◌, ℕ, suc, ◌+◌, ◌≤◌, sym, ◌∙◌, ap, arith, None}
-use Rattle.ftl_model.specs.Tree.{size}
+use Rattle.std.proofs.Common.{◌≡◌, ℕ, ◌≤◌, sym, ◌∙◌, arith, None}
 use Rattle.ftl_syntax.specs.declared.rules.Grammar.{Grammar}
 use Rattle.ftl_grammar_faults.specs.FirstFault as grammars
 use Rattle.ftl_meaning.specs.GrammarOf.{grammar_of}

@@ -9,7 +9,7 @@ use Rattle.std.proofs.lemmas.List.Folds.{list_any-append}
 use Rattle.ftl_model.specs.Path.{one_more}
 use Rattle.ftl_model.specs.Tree.{Forest, size}
 use Rattle.ftl_syntax.specs.declared.rules.Grammar.{Grammar}
-use Rattle.ftl_grammar_faults.specs.Numbering.{child_at, interface_number, is_among}
+use Rattle.ftl_grammar_faults.specs.Numbering.{child_at, is_among}
 use Rattle.ftl_document_syntax.specs.Sizes.{nodes_in_fields, nodes_in_list}
 use Rattle.ftl_document_syntax.specs.Written.{NameText, WrittenFields, WrittenNode, WrittenNodes, list_field, no_fields}
 use Rattle.ftl_document_syntax.specs.Written.{no_nodes, node_and, node_field, number_field}

@@ -7,6 +7,7 @@
 
 mod all_nodes;
 mod class_tables;
+mod entering;
 mod progress;
 mod stack;
 mod walk;

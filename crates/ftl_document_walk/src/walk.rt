@@ -1,25 +1,20 @@
 //! A walk over the rows of a document.
 
-ghost use Rattle.std.specs.Prelude.{◌≡◌, suc, ◌+◌, ◌∷◌, ◌<◌, ◌≤◌, drop, length, slice_range, IfOk};
-ghost use Rattle.std.specs.Prelude.{OnOk};
+ghost use Rattle.std.specs.Prelude.{◌≡◌, suc, ◌+◌, ◌∷◌, ◌<◌, ◌≤◌, drop, length, OnOk};
 ghost use Rattle.ftl_grammar_faults.specs.Numbering.{class_at};
-ghost use Rattle.ftl_document_syntax.specs.Rows.{document_rows, rows_of_fields};
-ghost use Rattle.ftl_document_syntax.specs.Written.{WrittenFields, WrittenNode};
-ghost use Rattle.ftl_document_faults.specs.FirstFault.{node_fault};
-ghost use Rattle.ftl_document_faults.specs.Nodes.{child_number, standing};
-ghost use Rattle.ftl_document_names.specs.Placed.{IsClassOf};
-ghost use Rattle.ftl_document_walk.specs.Filled.{AreFilled};
-ghost use Rattle.ftl_document_walk.specs.Found.{AreRowsOf, FindsFault, IsWritten};
-ghost use Rattle.ftl_document_walk.specs.Walk.{CanEnter, CanWalk, Ends, GoesOn, IsNext};
-ghost use Rattle.ftl_document_walk.specs.Walk.{IsReady, IsRow, IsWalked, IsWithin, Walks};
-ghost use Rattle.ftl_document_walk.specs.Walk.{wanted_of};
+ghost use Rattle.ftl_document_syntax.specs.Rows.{document_rows};
+ghost use Rattle.ftl_document_syntax.specs.Written.{WrittenNode};
+ghost use Rattle.ftl_document_faults.specs.Nodes.{child_number};
+ghost use Rattle.ftl_document_walk.specs.Found.{AreRowsOf, IsWritten};
+ghost use Rattle.ftl_document_walk.specs.Walk.{CanWalk, Ends, GoesOn, IsReady, IsRow, IsWalked};
+ghost use Rattle.ftl_document_walk.specs.Walk.{IsWithin, Walks, wanted_of};
 
 use crate::class_tables::ClassTable;
+use crate::entering::Scratch;
 use crate::progress::{NextNode, Progress};
 use crate::stack::Region;
 use ftl_checked::Checked;
 use ftl_document_faults::DocFault;
-use ftl_document_names::{KnownNode, OwnField, Slots, known_class, own_fields};
 use ftl_document_syntax::{NameRef, WrittenRow};
 use ftl_grammar_faults::Field;
 use ftl_tree_rows::Place;
@@ -33,13 +28,6 @@ pub(crate) struct Walk<'a> {
     pub(crate) rows: &'a [WrittenRow<'a>],
 }
 
-/// Room for what is known of one node.
-#[derive(Drop)]
-pub(crate) struct Scratch<'a> {
-    pub(crate) fields: Vec<OwnField<'a>>,
-    pub(crate) slots: Slots,
-}
-
 impl<'a> Walk<'a> {
     /// Looks at all nodes, and goes as far as behind the last one.
     pub(crate) fn all(&self, alloc: Global, class: &NameRef<'a>) -> Result<Progress, DocFault>
@@ -50,13 +38,7 @@ impl<'a> Walk<'a> {
             → Walks self.now.checked.now.grammar node result }
     {
         let mut progress = Progress::new(alloc);
-        let mut scratch = Scratch {
-            fields: Vec::new(alloc),
-            slots: Slots {
-                values: Vec::new(alloc),
-                latest: 0,
-            },
-        };
+        let mut scratch = Scratch::new(alloc);
         let root = NextNode {
             class,
             wanted: self.checked.root(),
@@ -155,74 +137,6 @@ impl<'a> Walk<'a> {
                 self.enter(alloc, next, scratch, progress)
             }
         }
-    }
-
-    /// Looks at a node, and stands before its fields.
-    fn enter(
-        &self,
-        alloc: Global,
-        next: NextNode<'_, 'a>,
-        scratch: &mut Scratch<'a>,
-        progress: &mut Progress,
-    ) -> Result<(), DocFault>
-        requires ready { IsReady self.now }
-        requires next { CanEnter self.now progress.old next }
-        ensures exact { (node : WrittenNode)
-            → IsNext self.now.checked.now.grammar node self.now.rows.now progress.old
-            next.entry.class.now next.entry.wanted next.entry.from next.entry.end
-            next.entry.parent next.entry.place
-            → GoesOn self.now.checked.now.grammar node self.now.rows.now result progress.new }
-        ensures at { OnOk result (progress.new.at ≡ next.entry.from) }
-        ensures few { OnOk result (length progress.new.stack ≡ suc (length progress.old.stack)) }
-    {
-        let class = self.check_node(alloc, next, progress.number, scratch)?;
-        let table = &self.tables[class as usize];
-        let inputs = &scratch.slots.values[..table.fields.inputs as usize];
-        progress.add_node(next, class, table.width, inputs)?;
-        Ok(())
-    }
-
-    /// The class of a node without a fault, whose inputs the slots hold then.
-    fn check_node(
-        &self,
-        alloc: Global,
-        next: NextNode<'_, 'a>,
-        number: u32,
-        scratch: &mut Scratch<'a>,
-    ) -> Result<u32, DocFault>
-        requires ready { IsReady self.now }
-        requires from { next.from ≤ next.end }
-        requires end { next.end ≤ length self.now.rows.now }
-        ensures class { IfOk result (λ k. IsClassOf self.now.checked.now.grammar next.entry.wanted
-            next.entry.class.now k) }
-        ensures exact { (fields : WrittenFields)
-            → slice_range self.now.rows.now next.entry.from next.entry.end ≡ rows_of_fields fields
-            → FindsFault (node_fault self.now.checked.now.grammar (
-              number,
-              standing next.entry.wanted next.entry.class.now fields,
-            )) result }
-        ensures filled { (fields : WrittenFields)
-            → slice_range self.now.rows.now next.entry.from next.entry.end ≡ rows_of_fields fields
-            → IfOk result (λ k.
-            AreFilled self.now.checked.now.grammar k fields scratch.new.slots) }
-    {
-        let class = known_class(alloc, self.checked, number, next.wanted, next.class)?;
-        own_fields(&self.rows[next.from..next.end], &mut scratch.fields)?;
-        let node = KnownNode {
-            checked: self.checked,
-            table: &self.tables[class as usize].fields,
-            class,
-            number,
-        };
-        let found = node.check_fields(alloc, &scratch.fields, &mut scratch.slots);
-        let KnownNode {
-            checked: _checked,
-            table: _table,
-            class,
-            number: _number,
-        } = node;
-        found?;
-        Ok(class)
     }
 
     /// The node of the row at `at`, which stands at this place of the region's node.

@@ -48,6 +48,11 @@ before_later c (suc k) (suc n) (tree class child inputs below beside) less h =
           z
     ]) h
 
+-- each kid of one child stands behind fewer nodes than a kid of another
+abbrev StandsBefore : (c d n : ℕ) → Forest → Type 0
+StandsBefore c d n f =
+    (m : ℕ) → IsTree (from_kid c m f) → IsTree (from_kid d n f) → nodes_before c m f < nodes_before d n f
+
 module _ (g : AttributeGrammar) (above : ℕ) where
   -- no kid stands in a child that is declared before the first tree's
   from_child : (d c k : ℕ) (f : Forest) → FitBelow g above f → StartsFrom d f → IsTree (from_kid c k f) → d ≤ c
@@ -73,21 +78,26 @@ module _ (g : AttributeGrammar) (above : ℕ) where
   other_child c d k n (tree class child inputs below beside) fits less hc hd =
       by_second (child == d) refl (λ m hc hd. other_child c d m n beside fits.4 less hc hd)
     where
-      from_first : (same : Bool) → child == c ≡ same → child == d ≡ false → (m : ℕ) → m ≡ k → ((m : ℕ) → IsTree (from_kid c m beside) → IsTree (from_kid d n beside)
-          → nodes_before c m beside < nodes_before d n beside)
-          → nodes_before c k (tree class child inputs below beside) < nodes_before d n (tree class child inputs below beside)
+      from_first : (same : Bool) → child == c ≡ same → child == d ≡ false → (m : ℕ) → m ≡ k
+          → StandsBefore c d n beside
+          → nodes_before c k (tree class child inputs below beside)
+          < nodes_before d n (tree class child inputs below beside)
       from_first true e other zero is later =
           let here : nodes_before c k (tree class child inputs below beside) ≡ 0 =
-          ap (λ j. nodes_before c j (tree class child inputs below beside)) (sym is) ∙ nodes_before-here c class child inputs below beside e in
+          ap (λ j. nodes_before c j (tree class child inputs below beside)) (sym is)
+          ∙ nodes_before-here c class child inputs below beside e in
           let there = nodes_before-other d n class child inputs below beside other in
           omega (arith, here, there)
       from_first true e other (suc m) is later =
-          let here = ap (λ j. nodes_before c j (tree class child inputs below beside)) (sym is) ∙ nodes_before-next c m class child inputs below beside e in
+          let here =
+          ap (λ j. nodes_before c j (tree class child inputs below beside)) (sym is)
+          ∙ nodes_before-next c m class child inputs below beside e in
           let there = nodes_before-other d n class child inputs below beside other in
           let i =
           later m
           (subst IsTree
-          (ap (λ j. from_kid c j (tree class child inputs below beside)) (sym is) ∙ from_kid-next c m class child inputs below beside e) hc)
+          (ap (λ j. from_kid c j (tree class child inputs below beside)) (sym is)
+          ∙ from_kid-next c m class child inputs below beside e) hc)
           (subst IsTree (from_kid-other d n class child inputs below beside other) hd) in
           omega (arith, here, there, i)
       from_first false e other m is later =
@@ -99,15 +109,16 @@ module _ (g : AttributeGrammar) (above : ℕ) where
           (subst IsTree (from_kid-other d n class child inputs below beside other) hd) in
           omega (arith, here, there, i)
 
-      by_second : (same : Bool) → child == d ≡ same → ((m : ℕ) → IsTree (from_kid c m beside) → IsTree (from_kid d n beside)
-          → nodes_before c m beside < nodes_before d n beside)
-          → nodes_before c k (tree class child inputs below beside) < nodes_before d n (tree class child inputs below beside)
+      by_second : (same : Bool) → child == d ≡ same → StandsBefore c d n beside
+          → nodes_before c k (tree class child inputs below beside)
+          < nodes_before d n (tree class child inputs below beside)
       by_second true e later =
           let is = eqb-true child d e in
           let low =
           from_child child c k beside fits.4 fits.3
           (subst IsTree
-          (from_kid-other c k class child inputs below beside (ne_eqb child c (λ same. omega (arith, same, is, less)))) hc) in
+          (from_kid-other c k class child inputs below beside
+          (ne_eqb child c (λ same. omega (arith, same, is, less)))) hc) in
           absurd (let z : ⊥ = omega (arith, low, is, less) in z)
       by_second false e later = from_first (child == c) refl e k refl later
 
@@ -161,7 +172,8 @@ module _ (g : AttributeGrammar) (t : Forest) (fits : IsTreeOf g t) (p : Path) wh
       let first = in_kid_of c a ha in
       let second = in_kid_of d b hb in
       let i =
-      other_child g (class_at t p) c d first.0 second.0 (below_of (at t p)) (fits_at g t p fits has).below less first.1 second.1 in
+      other_child g (class_at t p) c d first.0 second.0 (below_of (at t p)) (fits_at g t p fits has).below less
+      first.1 second.1 in
       let e = first.2 in
       let f = second.2 in
       omega (arith, i, e, f))

@@ -40,7 +40,10 @@ module _ (t : Forest) (grain : ℕ) (passes : List Pass) where
       ∙ length-map (tops (pass_in passes m).kind t grain) (item m))
 
   start_rises : (m n : ℕ) → start_of_pass passes t grain m ≤ start_of_pass passes t grain (m + n)
-  start_rises m zero = (let e : m ≡ m + 0 = omega arith in let f = ap (start_of_pass passes t grain) e in omega (arith, f))
+  start_rises m zero =
+      let e : m ≡ m + 0 = omega arith in
+      let f = ap (start_of_pass passes t grain) e in
+      omega (arith, f)
   start_rises m (suc n) =
       let e : m + suc n ≡ (m + n) + 1 = omega arith in
       let f = ap (start_of_pass passes t grain) e in

@@ -18,7 +18,7 @@ first_nodes t grain = filter (begins t grain) (preorder t)
 abbrev pub items_before : Forest → (grain nodes : ℕ) → ℕ
 items_before t grain n = length (filter (begins t grain) (take n (preorder t)))
 
--- the place in its pass of the item that begins at a node: how many begin before it, or behind it where the pass goes up
+-- the place in its pass of the item that begins at a node: how many begin before it, or in a bottomup pass behind it
 abbrev pub place_in_pass : PassKind → Forest → (grain : ℕ) → Path → ℕ
 place_in_pass topdown t grain p = items_before t grain (number_of t p)
 place_in_pass bottomup t grain p = length (first_nodes t grain) - 1 - items_before t grain (number_of t p)

@@ -1,4 +1,5 @@
-ghost use Rattle.ftl_item_numbers.specs.NumberLaws.{ItemsBeginBelowLargeTrees, ItemsAreRanges, OfPasses};
+ghost use Rattle.ftl_item_numbers.specs.NumberLaws.{ItemsBeginBelowLargeTrees, ItemsAreRanges};
+ghost use Rattle.ftl_item_numbers.specs.NumberLaws.{OfPasses};
 ghost use Rattle.ftl_item_numbers.specs.NumberLaws.{PassesStandInOrder, ItemsStandAtTheirPlaces};
 ghost use Rattle.ftl_item_numbers.specs.NumberLaws.{NextsAreNumbered, PredecessorsAreNumbered};
 

@@ -4,3 +4,4 @@ pub mod RowSteps
 pub mod RowFacts
 pub mod Starts
 pub mod StageFacts
+pub mod Found

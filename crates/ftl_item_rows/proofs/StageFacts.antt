@@ -14,7 +14,8 @@ use Rattle.ftl_items.proofs.StepLaws.{item_here}
 use Rattle.ftl_item_numbers.specs.ItemNumbers.{all_kids, item_above, items_before, next_numbers, predecessor_numbers, start_of_pass}
 use Rattle.ftl_item_numbers.specs.NumberLaws.{item_numbered}
 use Rattle.ftl_item_numbers.proofs.NextCounts.{below_at, length-below_down, length-below_up, length-item_above, next_below}
-use Rattle.ftl_item_numbers.proofs.NextNumbers.{nexts_numbered, open_begins, predecessors_numbered}
+use Rattle.ftl_item_numbers.proofs.HandedNumbers.{open_begins}
+use Rattle.ftl_item_numbers.proofs.NextNumbers.{nexts_numbered, predecessors_numbered}
 use Rattle.ftl_tree_rows.proofs.Access.{number_at}
 use Rattle.ftl_item_rows.specs.RowsFit.{IsBegunBelow}
 

@@ -48,7 +48,8 @@ module _ (passes : List Pass) (t : Forest) (grain : ℕ) where
     pub start_is : (m : ℕ) → m ≤ length passes → get_or starts m 0 ≡ start_of_pass passes t grain m
     start_is m known =
         ap (λ ns. get_or ns m 0) fit.starts_are
-        ∙ get_or-map-range_with_len (start_of_pass passes t grain) 0 (suc (length passes)) m m 0 (omega (arith, known)) (omega arith)
+        ∙ get_or-map-range_with_len (start_of_pass passes t grain) 0 (suc (length passes)) m m 0
+        (omega (arith, known)) (omega arith)
 
   -- an item that was found by its pass and its number there
   pub record FoundAt (m i n : ℕ) : Type 0 where

@@ -23,32 +23,32 @@ abbrev pub kids_of : CheckedTree → (node : ℕ) → List ℕ
 kids_of t n = all_kids (meant t.checked) t.tree (node_at t.tree n)
 
 -- the tree
-abbrev pub tree_of : ItemRows → Forest
-tree_of rows = rows.tree.now.tree
+abbrev pub tree_in : ItemRows → Forest
+tree_in rows = rows.tree.now.tree
 
 -- the nodes at which the items of a pass begin
-abbrev pub tops_of : ItemRows → PassKind → List Path
-tops_of rows kind = tops (kind_of kind) (tree_of rows) rows.grain
+abbrev pub tops_by : ItemRows → PassKind → List Path
+tops_by rows kind = tops (kind_of kind) (tree_in rows) rows.grain
 
 -- the passes of the stage
-abbrev pub passes_of : StageItems → List order.Pass
-passes_of s = map pass_of s.passes.now
+abbrev pub passes_in : StageItems → List order.Pass
+passes_in s = map pass_of s.passes.now
 
 -- its items, in order of number
-abbrev pub items_of : StageItems → List Item
-items_of s = items (passes_of s) (tree_of s.rows.now) s.rows.now.grain
+abbrev pub items_in : StageItems → List Item
+items_in s = items (passes_in s) (tree_in s.rows.now) s.rows.now.grain
 
 -- the item of a number
-abbrev pub item_of : StageItems → (number : ℕ) → Item
-item_of s i = item_numbered (passes_of s) (tree_of s.rows.now) s.rows.now.grain i
+abbrev pub item_in : StageItems → (number : ℕ) → Item
+item_in s i = item_numbered (passes_in s) (tree_in s.rows.now) s.rows.now.grain i
 
 -- the pass of a number
-abbrev pub pass_at : StageItems → (pass : ℕ) → order.Pass
-pass_at s m = pass_in (passes_of s) m
+abbrev pub pass_numbered : StageItems → (pass : ℕ) → order.Pass
+pass_numbered s m = pass_in (passes_in s) m
 
 -- how many items come before a pass
-abbrev pub start_at : StageItems → (pass : ℕ) → ℕ
-start_at s m = start_of_pass (passes_of s) (tree_of s.rows.now) s.rows.now.grain m
+abbrev pub start_in : StageItems → (pass : ℕ) → ℕ
+start_in s m = start_of_pass (passes_in s) (tree_in s.rows.now) s.rows.now.grain m
 
 -- the rows are of this tree
 pub record IsMadeOf (t : CheckedTree) (grain : ℕ) (rows : ItemRows) : Type 0 where
@@ -62,21 +62,21 @@ pub record IsStageOf (rows : ItemRows) (passes : List Pass) (s : StageItems) : T
 
 -- the nodes at which the items of a pass begin
 abbrev pub tops_in : StageItems → (pass : ℕ) → List Path
-tops_in s m = tops (pass_at s m).kind (tree_of s.rows.now) s.rows.now.grain
+tops_in s m = tops (pass_numbered s m).kind (tree_in s.rows.now) s.rows.now.grain
 
 -- an item is that of this number in this pass
 pub record IsPlaceOf (s : StageItems) (number : ℕ) (place : ItemPlace) : Type 0 where
   pub known : place.pass < length s.passes.now
-  pub start : start_at s place.pass + place.item ≡ number
+  pub start : start_in s place.pass + place.item ≡ number
   pub within : place.item < length (tops_in s place.pass)
-  pub entry : item_of s number ≡ item place.pass (slice_index_or (tops_in s place.pass) place.item top)
+  pub entry : item_in s number ≡ item place.pass (slice_index_or (tops_in s place.pass) place.item top)
 
 -- an item of the stage: it is of a pass of this kind, which begins at this number, and begins at this node
 pub record IsFound (s : StageItems) (number : ℕ) (found : FoundItem) : Type 0 where
-  pub is_tree : IsTreeOf (meant s.rows.now.tree.now.checked) (tree_of s.rows.now)
-  pub few : length (items_of s) ≤ 2147483648
-  pub pass_is : found.pass ≡ (item_of s number).pass
-  pub kind_is : kind_of found.kind ≡ (pass_at s (item_of s number).pass).kind
-  pub start_is : found.start ≡ start_at s (item_of s number).pass
-  pub known : found.node < size (tree_of s.rows.now)
-  pub node_is : node_at (tree_of s.rows.now) found.node ≡ (item_of s number).first
+  pub is_tree : IsTreeOf (meant s.rows.now.tree.now.checked) (tree_in s.rows.now)
+  pub few : length (items_in s) ≤ 2147483648
+  pub pass_is : found.pass ≡ (item_in s number).pass
+  pub kind_is : kind_of found.kind ≡ (pass_numbered s (item_in s number).pass).kind
+  pub start_is : found.start ≡ start_in s (item_in s number).pass
+  pub known : found.node < size (tree_in s.rows.now)
+  pub node_is : node_at (tree_in s.rows.now) found.node ≡ (item_in s number).first

@@ -8,7 +8,7 @@ ghost use Rattle.ftl_model.specs.Path.{node_at};
 ghost use Rattle.ftl_model.specs.Tree.{size};
 ghost use Rattle.ftl_order.specs.Schedule.{bottomup};
 ghost use Rattle.ftl_item_rows.specs.RowsFit.{IsBegunBelow};
-ghost use Rattle.ftl_item_rows.specs.StageItems.{items_of, kids_of, passes_of, tree_of};
+ghost use Rattle.ftl_item_rows.specs.StageItems.{items_in, kids_of, passes_in, tree_in};
 
 use crate::columns::ItemRows;
 use crate::kids::{kid_at, kid_total};
@@ -18,9 +18,9 @@ use ftl_schedule_syntax::PassKind;
 impl<'a> StageItems<'a> {
     /// How many items hand on to an item.
     pub fn pred_count(&self, item: u32) -> u32
-        requires item { item < length (items_of self.now) }
+        requires item { item < length (items_in self.now) }
         ensures count { result
-            ≡ length (predecessors (passes_of self.now) (items_of self.now) item) }
+            ≡ length (predecessors (passes_in self.now) (items_in self.now) item) }
     {
         let found = self.find(item);
         match found.kind {
@@ -32,8 +32,8 @@ impl<'a> StageItems<'a> {
 
     /// How many items an item hands on to.
     pub fn next_count(&self, item: u32) -> u32
-        requires item { item < length (items_of self.now) }
-        ensures count { result ≡ length (nexts (passes_of self.now) (items_of self.now) item) }
+        requires item { item < length (items_in self.now) }
+        ensures count { result ≡ length (nexts (passes_in self.now) (items_in self.now) item) }
     {
         let found = self.find(item);
         match found.kind {
@@ -45,10 +45,10 @@ impl<'a> StageItems<'a> {
 
     /// The items that an item hands on to, by place.
     pub fn next(&self, item: u32, place: u32) -> u32
-        requires item { item < length (items_of self.now) }
-        requires place { place < length (nexts (passes_of self.now) (items_of self.now) item) }
+        requires item { item < length (items_in self.now) }
+        requires place { place < length (nexts (passes_in self.now) (items_in self.now) item) }
         ensures next { result
-            ≡ slice_index (nexts (passes_of self.now) (items_of self.now) item) place }
+            ≡ slice_index (nexts (passes_in self.now) (items_in self.now) item) place }
     {
         let found = self.find(item);
         match found.kind {
@@ -68,9 +68,9 @@ fn count_above(node: u32) -> u32
 
 // How many items begin at the kids of the node at which an item begins.
 fn count_below(rows: &ItemRows<'_>, node: u32) -> u32
-    requires node { node < size (tree_of rows.now) }
-    ensures count { result ≡ (if is_small (tree_of rows.now) rows.now.grain
-        (node_at (tree_of rows.now) node) then 0 else length (kids_of rows.now.tree.now node)) }
+    requires node { node < size (tree_in rows.now) }
+    ensures count { result ≡ (if is_small (tree_in rows.now) rows.now.grain
+        (node_at (tree_in rows.now) node) then 0 else length (kids_of rows.now.tree.now node)) }
 {
     if rows.tree.subtree_size(node) <= rows.grain {
         0
@@ -81,9 +81,9 @@ fn count_below(rows: &ItemRows<'_>, node: u32) -> u32
 
 // The number in a topdown pass of the item that begins at a kid.
 fn kid_item(rows: &ItemRows<'_>, node: u32, place: u32) -> u32
-    requires node { node < size (tree_of rows.now) }
+    requires node { node < size (tree_in rows.now) }
     requires place { place < length (kids_of rows.now.tree.now node) }
-    ensures item { result ≡ items_before (tree_of rows.now) rows.now.grain
+    ensures item { result ≡ items_before (tree_in rows.now) rows.now.grain
         (slice_index (kids_of rows.now.tree.now node) place) }
 {
     let _nodes = rows.tree.node_count();
@@ -92,11 +92,11 @@ fn kid_item(rows: &ItemRows<'_>, node: u32, place: u32) -> u32
 
 // The number in a bottomup pass of the item that begins at a node's parent.
 fn parent_item(rows: &ItemRows<'_>, node: u32) -> u32
-    requires node { node < size (tree_of rows.now) }
-    requires parent { IsBegunBelow (tree_of rows.now) rows.now.grain
-        (node_at (tree_of rows.now) node) }
-    ensures item { (start : ℕ) → item_above bottomup (tree_of rows.now) rows.now.grain start
-        (node_at (tree_of rows.now) node) ≡ (start + result) ∷ [] }
+    requires node { node < size (tree_in rows.now) }
+    requires parent { IsBegunBelow (tree_in rows.now) rows.now.grain
+        (node_at (tree_in rows.now) node) }
+    ensures item { (start : ℕ) → item_above bottomup (tree_in rows.now) rows.now.grain start
+        (node_at (tree_in rows.now) node) ≡ (start + result) ∷ [] }
 {
     let _nodes = rows.tree.node_count();
     match rows.tree.parent(node) {

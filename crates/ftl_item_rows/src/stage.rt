@@ -2,8 +2,8 @@
 ghost use Rattle.std.specs.Prelude.{◌≡◌, ◌<◌, ◌≤◌, length, map, IfOk};
 ghost use Rattle.ftl_stages.specs.Stages.{pass_of};
 ghost use Rattle.ftl_item_rows.specs.RowsFit.{AreStarts};
-ghost use Rattle.ftl_item_rows.specs.StageItems.{IsFound, IsPlaceOf, IsStageOf, items_of};
-ghost use Rattle.ftl_item_rows.specs.StageItems.{tree_of};
+ghost use Rattle.ftl_item_rows.specs.StageItems.{IsFound, IsPlaceOf, IsStageOf, items_in};
+ghost use Rattle.ftl_item_rows.specs.StageItems.{tree_in};
 
 use crate::columns::ItemRows;
 use crate::view::{FoundItem, ItemPlace, StageItems};
@@ -18,7 +18,7 @@ pub fn pass_starts(
 ) -> Result<Vec<u32>, AllocError>
     requires few { length passes.now ≤ 2048 }
     ensures starts { IfOk result (λ v. AreStarts (map pass_of passes.now)
-        (tree_of rows.now) rows.now.grain v.items) }
+        (tree_in rows.now) rows.now.grain v.items) }
 {
     let mut starts = Vec::with_capacity(alloc, passes.len() + 1)?;
     let mut start = 0;
@@ -33,7 +33,7 @@ pub fn pass_starts(
 impl<'a> StageItems<'a> {
     /// The items of these passes.
     pub fn new(rows: &'a ItemRows<'a>, passes: &'a [Pass], starts: &'a [u32]) -> StageItems<'a>
-        requires starts { AreStarts (map pass_of passes.now) (tree_of rows.now) rows.now.grain
+        requires starts { AreStarts (map pass_of passes.now) (tree_in rows.now) rows.now.grain
             starts.now }
         ensures made { IsStageOf rows.now passes.now result }
     {
@@ -46,7 +46,7 @@ impl<'a> StageItems<'a> {
 
     /// How many items there are.
     pub fn item_count(&self) -> u32
-        ensures count { result ≡ length (items_of self.now) }
+        ensures count { result ≡ length (items_in self.now) }
         ensures bound { result ≤ 2147483648 }
     {
         let _nodes = self.rows.tree.node_count();
@@ -55,7 +55,7 @@ impl<'a> StageItems<'a> {
 
     /// The pass of an item, and its number there, by halving.
     pub fn place(&self, item: u32) -> ItemPlace
-        requires item { item < length (items_of self.now) }
+        requires item { item < length (items_in self.now) }
         ensures place { IsPlaceOf self.now item result }
     {
         let _nodes = self.rows.tree.node_count();
@@ -77,7 +77,7 @@ impl<'a> StageItems<'a> {
 
     /// The item of a number.
     pub fn find(&self, item: u32) -> FoundItem
-        requires item { item < length (items_of self.now) }
+        requires item { item < length (items_in self.now) }
         ensures found { IsFound self.now item result }
     {
         let _nodes = self.rows.tree.node_count();

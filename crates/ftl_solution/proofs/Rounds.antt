@@ -114,6 +114,8 @@ module _ (g : AttributeGrammar) (law : IsLawful g) (t : Forest) (fits : IsTreeOf
       let end = all_end rank falls in
       let table : Solves g t (values_after g t n) = λ i valid.
       settled n (suc n) i valid (end i valid) (longer n i (end i valid)) in
-      let one = one_list_by g law t fits (one_table_by g law t fits (λ i. suc (rank i)) (reads_end_by g law t fits rank falls)) in
+      let one =
+      one_list_by g law t fits
+      (one_table_by g law t fits (λ i. suc (rank i)) (reads_end_by g law t fits rank falls)) in
       let solves = listed_solves g law t fits (values_after g t n) table in
       record { solves = solves; only = λ others h. one.any_two_equal others (solution g t) h solves }

@@ -3,3 +3,4 @@ pub mod LeftLemmas
 pub mod VisitLemmas
 pub mod TargetLemmas
 pub mod PlaceLemmas
+pub mod ItemLemmas

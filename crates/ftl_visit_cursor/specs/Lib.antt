@@ -1,3 +1,4 @@
+pub mod ItemSteps
 pub mod NodeRanges
 pub mod Places
 pub mod StepLaws

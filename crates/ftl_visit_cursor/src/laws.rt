@@ -1,4 +1,6 @@
 //! Which steps visits have.
+ghost use Rattle.ftl_visit_cursor.specs.ItemSteps.{BottomupItems, NodesAreThere, OfItems};
+ghost use Rattle.ftl_visit_cursor.specs.ItemSteps.{TopdownItems};
 ghost use Rattle.ftl_visit_cursor.specs.StepLaws.{NodesOfSubtrees, OfVisits, VisitsAreOfClasses};
 ghost use Rattle.ftl_visit_cursor.specs.StepLaws.{StepsAreSteps, TargetsAreTheItems};
 
@@ -13,4 +15,12 @@ pub fn visits_make_steps()
 /// A law: the nodes of the tree at a node stand side by side, from its number on.
 pub fn nodes_of_subtrees()
     ensures nodes { NodesOfSubtrees }
+{}
+
+/// A law: the nodes of an item are so many from its first on, and what their steps compute are the
+/// steps of the item.
+pub fn items_by_ranges()
+    ensures nodes { OfItems NodesAreThere }
+    ensures topdown { OfItems TopdownItems }
+    ensures bottomup { OfItems BottomupItems }
 {}

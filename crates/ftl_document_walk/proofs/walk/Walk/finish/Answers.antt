@@ -1,7 +1,7 @@
 use Rattle.std.proofs.Common.{◌≡◌, ◌∷◌, ◌∙◌, refl, sym, ap, arith, length}
 use Rattle.ftl_document_walk.proofs.Handed.{ended_on}
 use Rattle.ftl_document_walk.proofs.Regions.{inside, region_ended, restacked, walk_ended}
-use Rattle.ftl_document_walk.proofs.Steps.{row_within}
+use Rattle.ftl_document_walk.proofs.NextSteps.{row_within}
 use Rattle.ftl_document_walk.proofs.walk.Walk.finish.Goals as goal
 
 pub loop-region-smaller-in-Continue-branch-2 : goal.loop-region-smaller-in-Continue-branch-2

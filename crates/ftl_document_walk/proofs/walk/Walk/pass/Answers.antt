@@ -6,7 +6,8 @@ use Rattle.ftl_document_walk.specs.Walk.{wanted_of}
 use Rattle.ftl_tree_rows.specs.declared.row.Place.{Place}
 use Rattle.ftl_document_walk.specs.Steps.{list_region}
 use Rattle.ftl_document_walk.specs.declared.stack.Region.{Region}
-use Rattle.ftl_document_walk.proofs.Steps.{class_known, kid_next, next_as, single_place, step_at}
+use Rattle.ftl_document_walk.proofs.NextSteps.{class_known, kid_next, next_as, step_at}
+use Rattle.ftl_document_walk.proofs.Steps.{single_place}
 use Rattle.ftl_document_walk.proofs.walk.Walk.pass.Goals as goal
 
 pub child_number-child-requires : goal.child_number-child-requires

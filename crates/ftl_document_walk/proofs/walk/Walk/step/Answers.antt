@@ -1,4 +1,4 @@
-use Rattle.ftl_document_walk.proofs.Steps.{row_within}
+use Rattle.ftl_document_walk.proofs.NextSteps.{row_within}
 use Rattle.ftl_document_walk.proofs.walk.Walk.step.Goals as goal
 
 pub row_at-row-requires : goal.row_at-row-requires

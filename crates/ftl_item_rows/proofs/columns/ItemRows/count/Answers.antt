@@ -2,7 +2,7 @@ use Rattle.std.proofs.Common.{length, ap, sym, ◌∙◌}
 use Rattle.std.proofs.lemmas.List.{length-reverse}
 use Rattle.ftl_item_numbers.specs.ItemNumbers.{first_nodes}
 use Rattle.ftl_schedule_syntax.specs.declared.kind.PassKind.{PassKind}
-use Rattle.ftl_item_rows.specs.StageItems.{tops_of}
+use Rattle.ftl_item_rows.specs.StageItems.{tops_by}
 use Rattle.ftl_item_rows.proofs.columns.ItemRows.count.Goals as goal
 
 pub returns-in-BottomUp : goal.returns-in-BottomUp
@@ -12,6 +12,6 @@ returns-in-BottomUp c =
       count =
           c.begin_count-in-BottomUp.ensures.count
           ∙ sym (length-reverse (first_nodes s.tree.now.tree s.grain))
-          ∙ ap (λ (k : PassKind). length (tops_of s k)) (sym c.in-BottomUp.is);
+          ∙ ap (λ (k : PassKind). length (tops_by s k)) (sym c.in-BottomUp.is);
       bound = c.begin_count-in-BottomUp.ensures.bound;
     }

@@ -1,7 +1,7 @@
 use Rattle.std.proofs.Common.{◌≡◌, ◌<◌, ◌-◌, get_or, length, ap, sym, subst, ◌∙◌, arith}
 use Rattle.ftl_model.specs.Path.{number_of, top}
 use Rattle.ftl_schedule_syntax.specs.declared.kind.PassKind.{PassKind}
-use Rattle.ftl_item_rows.specs.StageItems.{tops_of, tree_of}
+use Rattle.ftl_item_rows.specs.StageItems.{tops_by, tree_in}
 use Rattle.ftl_item_rows.proofs.RowFacts.{first_up}
 use Rattle.ftl_item_rows.proofs.columns.ItemRows.first.Goals as goal
 
@@ -19,6 +19,6 @@ returns-in-BottomUp c =
           ∙ ap (λ n. get_or s.firsts.items (n - 1 - c.args.item) c.index-in-BottomUp.result.now) count
           ∙ first_up s.tree.now.tree s.grain s.firsts.items s.before.items s.fit c.args.item
           c.index-in-BottomUp.result.now
-          (subst (λ (k : PassKind). c.args.item < length (tops_of s k)) kind c.requires.item)
-          ∙ ap (λ (k : PassKind). number_of (tree_of s) (get_or (tops_of s k) c.args.item top)) (sym kind);
+          (subst (λ (k : PassKind). c.args.item < length (tops_by s k)) kind c.requires.item)
+          ∙ ap (λ (k : PassKind). number_of (tree_in s) (get_or (tops_by s k) c.args.item top)) (sym kind);
     }

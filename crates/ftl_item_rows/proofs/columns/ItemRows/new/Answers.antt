@@ -68,7 +68,9 @@ invariant_of-result c =
     let all = length-preorder t.tree in
     record {
       fit = record {
-        firsts_are = c.loop-node.invariant.firsts ∙ firsts_end t.tree c.args.grain n (omega (arith, count, past, one, all));
+        firsts_are =
+            c.loop-node.invariant.firsts
+            ∙ firsts_end t.tree c.args.grain n (omega (arith, count, past, one, all));
         before_are =
             c.loop-node.invariant.before ∙ ap (before_to t.tree c.args.grain) (omega (arith, count, past, most));
       };

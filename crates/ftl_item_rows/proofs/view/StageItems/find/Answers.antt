@@ -6,7 +6,7 @@ use Rattle.ftl_items.specs.Cut.{tops}
 use Rattle.ftl_items.specs.Items.{pass_in}
 use Rattle.ftl_dep_table.specs.Meant.{meant}
 use Rattle.ftl_stages.specs.Stages.{pass_of}
-use Rattle.ftl_item_rows.specs.StageItems.{start_at}
+use Rattle.ftl_item_rows.specs.StageItems.{start_in}
 use Rattle.ftl_item_rows.proofs.Starts.{few_items, found_at, length-pass_starts, pass_kind, start_is}
 use Rattle.ftl_item_rows.proofs.view.StageItems.find.Goals as goal
 
@@ -64,7 +64,7 @@ returns c =
         kind_is = sym kind ∙ ap (λ n. (pass_in ps n).kind) (sym at.pass_is);
         start_is =
             start_is ps t.tree rows.grain s.starts.now s.fit m (omega (arith, known, count))
-            ∙ ap (start_at s) (sym at.pass_is);
+            ∙ ap (start_in s) (sym at.pass_is);
         known = at.known;
         node_is = at.first_is;
       };

@@ -2,7 +2,7 @@ use Rattle.std.proofs.Common.{length, map, ap, sym, ◌∙◌, arith}
 use Rattle.std.proofs.lemmas.List.{length-map}
 use Rattle.ftl_dep_table.specs.Meant.{meant}
 use Rattle.ftl_stages.specs.Stages.{pass_of}
-use Rattle.ftl_item_rows.specs.StageItems.{start_at}
+use Rattle.ftl_item_rows.specs.StageItems.{start_in}
 use Rattle.ftl_item_rows.proofs.Starts.{few_items, length-pass_starts, start_is}
 use Rattle.ftl_item_rows.proofs.view.StageItems.item_count.Goals as goal
 
@@ -27,5 +27,5 @@ returns c =
     rows.grain (map pass_of s.passes.now) few in
     let is =
     start_is (map pass_of s.passes.now) t.tree rows.grain s.starts.now s.fit (length s.passes.now)
-    (omega (arith, count)) ∙ ap (start_at s) (sym count) in
+    (omega (arith, count)) ∙ ap (start_in s) (sym count) in
     record { count = is; bound = omega (arith, is, most) }

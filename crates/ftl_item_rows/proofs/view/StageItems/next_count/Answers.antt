@@ -1,58 +1,43 @@
-use Rattle.std.proofs.Common.{map, ap, sym, ◌∙◌}
+use Rattle.std.proofs.Common.{◌∙◌}
 use Rattle.ftl_dep_table.specs.Meant.{meant}
-use Rattle.ftl_stages.specs.Stages.{kind_of, pass_of}
+use Rattle.ftl_schedule_syntax.specs.declared.kind.PassKind.TheVariants.{BottomUp, InOrder, TopDown}
+use Rattle.ftl_item_rows.specs.StageItems.{passes_in}
+use Rattle.ftl_item_rows.proofs.Found.{known_in}
 use Rattle.ftl_item_rows.proofs.StageFacts.{next_count_down, next_count_none, next_count_up}
 use Rattle.ftl_item_rows.proofs.view.StageItems.next_count.Goals as goal
 
 pub returns-in-TopDown : goal.returns-in-TopDown
 returns-in-TopDown c =
     let s = c.args.self.now in
-    let rows = s.rows.now in
-    let t = rows.tree.now in
+    let i = c.args.item in
+    let found = c.find-found.result in
     let f = c.find-found.ensures.found in
-    record {
-      count =
-          c.count_below.ensures.count
-          ∙ next_count_down (meant t.checked) t.tree f.is_tree rows.grain (map pass_of s.passes.now) c.args.item
-          c.requires.item c.find-found.result.start c.find-found.result.node (record {
-            kind_is = ap kind_of (sym c.in-TopDown.is) ∙ f.kind_is;
-            start_is = f.start_is;
-            known = f.known;
-            node_is = f.node_is;
-          });
-    }
+    let known = known_in s i found TopDown c.in-TopDown.is f in
+    let count =
+    next_count_down (meant s.rows.now.tree.now.checked) s.rows.now.tree.now.tree f.is_tree s.rows.now.grain (passes_in s) i
+    c.requires.item found.start found.node known in
+    record { count = c.count_below.ensures.count ∙ count }
 
 pub returns-in-BottomUp : goal.returns-in-BottomUp
 returns-in-BottomUp c =
     let s = c.args.self.now in
-    let rows = s.rows.now in
-    let t = rows.tree.now in
+    let i = c.args.item in
+    let found = c.find-found.result in
     let f = c.find-found.ensures.found in
-    record {
-      count =
-          c.count_above.ensures.count
-          ∙ next_count_up (meant t.checked) t.tree f.is_tree rows.grain (map pass_of s.passes.now) c.args.item
-          c.requires.item c.find-found.result.start c.find-found.result.node (record {
-            kind_is = ap kind_of (sym c.in-BottomUp.is) ∙ f.kind_is;
-            start_is = f.start_is;
-            known = f.known;
-            node_is = f.node_is;
-          });
-    }
+    let known = known_in s i found BottomUp c.in-BottomUp.is f in
+    let count =
+    next_count_up (meant s.rows.now.tree.now.checked) s.rows.now.tree.now.tree f.is_tree s.rows.now.grain (passes_in s) i
+    c.requires.item found.start found.node known in
+    record { count = c.count_above.ensures.count ∙ count }
 
 pub returns-in-InOrder : goal.returns-in-InOrder
 returns-in-InOrder c =
     let s = c.args.self.now in
-    let rows = s.rows.now in
-    let t = rows.tree.now in
+    let i = c.args.item in
+    let found = c.find-found.result in
     let f = c.find-found.ensures.found in
-    record {
-      count =
-          next_count_none (meant t.checked) t.tree f.is_tree rows.grain (map pass_of s.passes.now) c.args.item c.requires.item
-          c.find-found.result.start c.find-found.result.node (record {
-            kind_is = ap kind_of (sym c.in-InOrder.is) ∙ f.kind_is;
-            start_is = f.start_is;
-            known = f.known;
-            node_is = f.node_is;
-          });
-    }
+    let known = known_in s i found InOrder c.in-InOrder.is f in
+    let count =
+    next_count_none (meant s.rows.now.tree.now.checked) s.rows.now.tree.now.tree f.is_tree s.rows.now.grain (passes_in s) i
+    c.requires.item found.start found.node known in
+    record { count = count }

@@ -4,7 +4,7 @@ use Rattle.ftl_stages.specs.Stages.{pass_of}
 use Rattle.ftl_order.proofs.Kids.{root_there}
 use Rattle.ftl_dep_table.specs.Meant.{meant}
 use Rattle.ftl_item_numbers.proofs.Places.{pass_stands, start_next}
-use Rattle.ftl_item_rows.specs.StageItems.{item_of, start_at, tops_in}
+use Rattle.ftl_item_rows.specs.StageItems.{item_in, start_in, tops_in}
 use Rattle.ftl_item_rows.proofs.Starts.{length-pass_starts, start_is}
 use Rattle.ftl_item_rows.proofs.view.StageItems.place.Goals as goal
 
@@ -100,10 +100,10 @@ returns c =
     let is = start_is ps t.tree rows.grain s.starts.now s.fit m (omega (arith, order, known, count)) in
     let j = c.args.item - get_or s.starts.now m 0 in
     let high : c.loop-high.high ≡ m + 1 = omega (arith, order, last) in
-    let end = ap (start_at s) high in
+    let end = ap (start_in s) high in
     let next = start_next t.tree rows.grain ps m in
     let below : j < length (tops_in s m) = omega (arith, is, from, to, end, next) in
-    let start : start_at s m + j ≡ c.args.item = omega (arith, is, from) in
+    let start : start_in s m + j ≡ c.args.item = omega (arith, is, from) in
     let inside : m < length ps = omega (arith, order, known, count) in
     record {
       place = record {
@@ -111,8 +111,9 @@ returns c =
         start = start;
         within = below;
         entry =
-            ap (item_of s) (sym start)
-            ∙ pass_stands t.tree rows.grain (root_there (meant t.checked) t.tree c.node_count-nodes.ensures.is_tree) ps m j
+            ap (item_in s) (sym start)
+            ∙ pass_stands t.tree rows.grain
+            (root_there (meant t.checked) t.tree c.node_count-nodes.ensures.is_tree) ps m j
             inside below;
       };
     }

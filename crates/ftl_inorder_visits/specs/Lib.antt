@@ -1,0 +1,5 @@
+pub mod InorderSteps
+pub mod InorderVisits
+pub mod KidSequences
+pub mod ListedRules
+pub mod WorkedSteps

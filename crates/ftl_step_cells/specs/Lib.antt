@@ -1,0 +1,3 @@
+pub mod ReadCells
+pub mod Seen
+pub mod Cursor
