@@ -1,12 +1,10 @@
 -- Words and bytes have one answer.
-use Rattle.std.proofs.Common.{◌≡◌, ◌≤◌, ◌<◌, ◌⊎◌, inl, inr, refl, sym, ap, ◌∙◌, subst, ℕ, Bool, true, false, List, [], length}
+use Rattle.std.proofs.Common.{◌≡◌, ◌≤◌, refl, sym, ap, ◌∙◌, ℕ, Bool, true, false, List, length}
 use Rattle.std.proofs.Common.{Option, Some, None, Result, Ok, Err, arith}
 use Rattle.std.specs.Prelude.{IfSome, nat_lt, if◌then◌else◌}
 use Rattle.std.specs.Str.{IsUtf8}
-use Rattle.std.proofs.lemmas.Bool.{cases_Bool, ltb-false}
+use Rattle.std.proofs.lemmas.Bool.{ltb-false}
 use Rattle.std.proofs.lemmas.Str.{IsUtf8-nil}
-use Rattle.ftl_model.specs.Outcome.{Gives}
-use Rattle.ftl_model.specs.Table.{SolvesList}
 use Rattle.ftl_model.specs.Tree.{Forest}
 use Rattle.ftl_model.specs.Values.{Value}
 use Rattle.ftl_order.specs.OneTable.{ExactlyOneList}
@@ -14,7 +12,6 @@ use Rattle.ftl_order.proofs.Scheduled.{one_list_under}
 use Rattle.ftl_page.specs.Page.{page_of}
 use Rattle.ftl_page.specs.Texts.{HasTextsUpTo}
 use Rattle.ftl_page.specs.declared.fault.PageFault.{PageFault}
-use Rattle.ftl_page.specs.declared.fault.PageFault.TheVariants as faults
 use Rattle.ftl_page.specs.declared.page.Need.{Need}
 use Rattle.ftl_page.specs.declared.page.Page.{Page}
 use Rattle.ftl_page.proofs.TextLemmas.{answer_is_short}
@@ -27,13 +24,13 @@ use Rattle.ftl_dep_table.specs.Meant.{meant}
 use Rattle.ftl_stages.specs.Stages.{stages_of}
 use Rattle.ftl_stages.specs.declared.types.Schedule.{Schedule}
 use Rattle.ftl_refusals.specs.PageLines.{page_line, too_long_line, words_line}
-use Rattle.ftl_answer.specs.Answer.{Answer, answer, refused}
+use Rattle.ftl_answer.specs.Answer.{Answer, refused}
 use Rattle.ftl_answer.specs.Answers.{HasOneAnswer, answered, boxes_of, command_in, document_text, obeyed, rules_alone}
 use Rattle.ftl_answer.specs.Answers.{shown_answer, shown_by, solved, summary_of, text_or_none, whole_page, with_rules}
 use Rattle.ftl_answer.specs.Stages.{HasOne, Is, Outcome, Stage, Then, ends, hands_on, or_told}
 use Rattle.ftl_answer.specs.Texts.{grammar, page, schedule, tree}
 use Rattle.ftl_answer.proofs.DocumentBytes.{document_utf8}
-use Rattle.ftl_answer.proofs.Ones.{end_is_no_value, is_one, same_end, same_value, then_handed, then_one}
+use Rattle.ftl_answer.proofs.Ones.{end_is_no_value, is_one, same_end, same_value, then_one}
 use Rattle.ftl_answer.proofs.Rules.{IsHanded, grammar_handed, grammar_one, handed_law, schedule_one, schedule_ordered}
 use Rattle.ftl_answer.proofs.TreesRead.{tree_fits, tree_one}
 

@@ -1,13 +1,12 @@
 -- The document of a page is in UTF-8, as the page is.
-use Rattle.std.proofs.Common.{◌≡◌, ℕ, zero, suc, ◌+◌, ◌<◌, ◌≤◌, Bool, true, false, List, [], ◌∷◌, length, take, drop}
-use Rattle.std.proofs.Common.{Option, Some, None, Result, Ok, Err, sym, refl, ap, ◌∙◌, subst, ⊎_elim, arith, length-drop}
-use Rattle.std.specs.Prelude.{IfSome, if◌then◌else◌}
+use Rattle.std.proofs.Common.{◌≡◌, ℕ, zero, suc, ◌+◌, ◌≤◌, Bool, true, false, List, [], ◌∷◌, length, take, drop}
+use Rattle.std.proofs.Common.{Option, Some, None, Result, Ok, Err, sym, refl, ◌∙◌, subst, ⊎_elim, arith, length-drop}
+use Rattle.std.specs.Prelude.{IfSome}
 use Rattle.std.specs.Str.{IsUtf8, is_utf8}
 use Rattle.std.specs.List.{prefix_len, take_while}
 use Rattle.std.proofs.lemmas.Bool.{cond-true, cond-false, cases_Bool}
 use Rattle.std.proofs.lemmas.Str.{IsUtf8-append, IsUtf8-drop, IsUtf8-from_is_utf8, IsUtf8-nil, IsUtf8-take}
 use Rattle.ftl_base.specs.declared.width.Width.{Width}
-use Rattle.ftl_page.specs.declared.fault.Section.{Section}
 use Rattle.ftl_page.specs.declared.fault.Section.TheVariants.{Grammar, Schedule, Document, Edits}
 use Rattle.ftl_page.specs.declared.fault.PageFault.{PageFault}
 use Rattle.ftl_page.specs.declared.fault.PageFault.TheVariants.{NotText}

@@ -5,3 +5,4 @@ pub mod StagesBack
 pub mod Rules
 pub mod TreesRead
 pub mod Commands
+pub mod WorkedRefusals

@@ -1,5 +1,5 @@
 -- Stages of one outcome, alone and one after the other.
-use Rattle.std.proofs.Common.{◌≡◌, ◌≢◌, ◌⊎◌, inl, inr, refl, sym, ap, subst, ◌∙◌, List, ℕ, Option, Some, None, Result, Ok, Err}
+use Rattle.std.proofs.Common.{◌≡◌, ◌≢◌, inl, inr, refl, sym, ap, subst, ◌∙◌, Option, Some, None, Result, Ok, Err}
 use Rattle.ftl_answer.specs.Answer.{Answer}
 use Rattle.ftl_answer.specs.Stages.{HasOne, Is, Outcome, Stage, Then, Told, ends, hands_on, unless}
 
@@ -21,7 +21,7 @@ abbrev value_of : {X : Type 0} → X → Outcome X → X
 value_of x (ends b) = x
 value_of x (hands_on y) = y
 
-same_end : {X : Type 0} (a b : Answer) → ended X a ≡ ended X b → a ≡ b
+pub same_end : {X : Type 0} (a b : Answer) → ended X a ≡ ended X b → a ≡ b
 same_end a b e = ap (end_of a) e
 
 pub same_value : {X : Type 0} (x y : X) → hands_on x ≡ hands_on y → x ≡ y

@@ -1,14 +1,11 @@
 -- A page has one grammar and one schedule, or one refusal of them.
-use Rattle.std.proofs.Common.{◌≡◌, ◌⊎◌, inl, inr, refl, sym, ap, ◌∙◌, subst, ℕ, List, [], Option, Some, None, Result, Ok, Err}
-use Rattle.ftl_base.specs.Widths.{greatest_of_width}
+use Rattle.std.proofs.Common.{◌≡◌, ◌⊎◌, inl, inr, refl, sym, ap, ◌∙◌, subst, ℕ, List, [], Option, Some, None}
 use Rattle.ftl_base.specs.declared.width.Width.{Width}
-use Rattle.ftl_model.specs.AttributeGrammar.{AttributeGrammar}
 use Rattle.ftl_order.specs.Lawful.{IsLawful}
 use Rattle.ftl_order.specs.Ordered.{IsOrdered}
 use Rattle.ftl_order.specs.Schedule as order
-use Rattle.ftl_tokens.specs.Tokenized.{Tokenized, symbols_of}
+use Rattle.ftl_tokens.specs.Tokenized.{Tokenized}
 use Rattle.ftl_page.specs.declared.fault.Section.TheVariants as section
-use Rattle.ftl_syntax.specs.declared.rules.Grammar.{Grammar}
 use Rattle.ftl_grammar.specs.Read.{ReadsGrammar}
 use Rattle.ftl_grammar.specs.declared.fault.SyntaxFault.TheVariants as syntax
 use Rattle.ftl_grammar.proofs.AnswerLemmas as grammars
@@ -33,11 +30,11 @@ use Rattle.ftl_automatic.proofs.Ordered.{automatic_ordered}
 use Rattle.ftl_refusals.specs.GrammarLines.{grammar_line}
 use Rattle.ftl_refusals.specs.ScheduleLines.{schedule_line, stuck_line, verify_line}
 use Rattle.ftl_refusals.specs.TextLines.{syntax_line}
-use Rattle.ftl_answer.specs.Answer.{Answer, refused}
-use Rattle.ftl_answer.specs.Stages.{HasOne, Outcome, Stage, Then, ends, hands_on, unless}
+use Rattle.ftl_answer.specs.Answer.{refused}
+use Rattle.ftl_answer.specs.Stages.{HasOne, Outcome, Then, ends, hands_on}
 use Rattle.ftl_answer.specs.Texts.{automatic_schedule, checked_grammar, grammar, lawful_grammar, ordered_schedule}
 use Rattle.ftl_answer.specs.Texts.{schedule, spelled_grammar, spelled_schedule, tokens}
-use Rattle.ftl_answer.proofs.Ones.{end_is_no_value, handed, is_one, same_value, then_handed, then_one, told_one}
+use Rattle.ftl_answer.proofs.Ones.{handed, is_one, then_handed, then_one, told_one}
 use Rattle.ftl_answer.proofs.ScheduleTexts.{one_schedule, some_schedule}
 use Rattle.ftl_answer.proofs.StagesBack.{one_stands, same_schedule, schedule_back}
 

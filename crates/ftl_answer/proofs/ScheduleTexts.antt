@@ -1,5 +1,5 @@
 -- A text spells one schedule, or goes wrong at one place.
-use Rattle.std.proofs.Common.{◌≡◌, ◌≢◌, ◌⊎◌, inl, inr, refl, sym, ap, ◌∙◌, ℕ, ◌+◌, ◌-◌, Bool, true, false, List, [], ◌∷◌, length}
+use Rattle.std.proofs.Common.{◌≡◌, ◌≢◌, inl, inr, refl, sym, ap, ◌∙◌, ℕ, ◌+◌, ◌-◌, Bool, true, false, List, [], ◌∷◌, length}
 use Rattle.std.proofs.Common.{Option, Some, None, Result, Ok, Err}
 use Rattle.std.specs.Prelude.{if◌then◌else◌, nat_lt}
 use Rattle.ftl_tokens.specs.Tokenized.{Tokenized, symbols_of}
@@ -7,6 +7,7 @@ use Rattle.ftl_reading.specs.Place.{place_of}
 use Rattle.ftl_reading.specs.Reader.{ReadResult}
 use Rattle.ftl_reading.proofs.PlacesOnce.{one_place}
 use Rattle.ftl_syntax.specs.declared.rules.Grammar.{Grammar}
+use Rattle.ftl_grammar_faults.specs.Checked.{attribute_named}
 use Rattle.ftl_schedule_syntax.specs.Reading.{schedule}
 use Rattle.ftl_schedule_syntax.specs.declared.types.AttributeName.{AttributeName}
 use Rattle.ftl_schedule_syntax.specs.declared.types.WrittenPass.{WrittenPass}
@@ -14,11 +15,10 @@ use Rattle.ftl_schedule_syntax.specs.declared.types.WrittenStage.{WrittenStage}
 use Rattle.ftl_schedule_syntax.specs.declared.types.WrittenSchedule.{WrittenSchedule}
 use Rattle.ftl_schedule_syntax.proofs.Schedules.{is_no_schedule, is_spelled, one_written_schedule}
 use Rattle.ftl_stages.specs.declared.types.Schedule.{Schedule}
-use Rattle.ftl_schedule_names.specs.Named.{after, attribute_named, attribute_number, before, each, made_of, number_or}
+use Rattle.ftl_schedule_names.specs.Named.{attribute_number, before, each, made_of, number_or}
 use Rattle.ftl_schedule_names.specs.Named.{pass_named, schedule_named, stage_named}
 use Rattle.ftl_schedule_names.specs.declared.fault.ScheduleFault.{ScheduleFault}
 use Rattle.ftl_schedule_names.specs.declared.fault.ScheduleFault.TheVariants.{OutOfMemory, Syntax, TooManyBeside, TooManyPasses}
-use Rattle.ftl_schedule_names.specs.declared.fault.ScheduleFault.TheVariants.{UnknownAttribute}
 use Rattle.ftl_schedule_reading.specs.Limits.{beside_fault, limit_fault, pass_count}
 use Rattle.ftl_schedule_reading.specs.Read.{Answers, Is, schedule_of, unless}
 

@@ -1,6 +1,6 @@
 -- A page has one document, or one refusal of it.
-use Rattle.std.proofs.Common.{◌≡◌, ◌≤◌, refl, sym, ap, ◌∙◌, subst, ℕ, List, [], ◌∷◌, length, Option, Some, None, Result, Ok, Err, arith}
-use Rattle.std.proofs.Common.{length-map}
+use Rattle.std.proofs.Common.{◌≡◌, ◌≤◌, refl, sym, ap, subst, ℕ, List, [], ◌∷◌, length, Option, Some, None, Result, Ok, Err, arith}
+use Rattle.std.proofs.lemmas.List.{length-map}
 use Rattle.std.specs.Str.{IsUtf8}
 use Rattle.ftl_base.specs.Widths.{greatest_of_width}
 use Rattle.ftl_model.specs.Tree.{Forest}
@@ -20,22 +20,24 @@ use Rattle.ftl_lawful.specs.Faultless.{IsFaultless}
 use Rattle.ftl_dep_table.specs.Meant.{meant}
 use Rattle.ftl_stages.specs.Stages.{stages_of}
 use Rattle.ftl_stages.specs.declared.types.Schedule.{Schedule}
+use Rattle.ftl_document_syntax.specs.Sizes.{FieldsAreWithin, NodesAreWithin}
+use Rattle.ftl_document_syntax.specs.Written.{WrittenFields, WrittenNodes, list_field, no_fields, no_nodes, node_and}
+use Rattle.ftl_document_syntax.specs.Written.{node_field, number_field}
 use Rattle.ftl_document_syntax.proofs.NumberLemmas.{document-within}
 use Rattle.ftl_document_faults.specs.FirstFault.{first_node_fault, first_there, instance_count_of, too_many_instances}
-use Rattle.ftl_document_faults.specs.Within.{IsWithin}
+use Rattle.ftl_document_faults.specs.Within.{AreAllWithin, AreWithin, IsWithin}
 use Rattle.ftl_document_faults.specs.declared.fault.DocFault.{DocFault}
 use Rattle.ftl_document_faults.specs.declared.fault.DocFault.TheVariants as document
 use Rattle.ftl_document_faults.proofs.RightTrees.{faultless_is_tree}
 use Rattle.ftl_tree.specs.CheckedTree.{CheckedTree}
 use Rattle.ftl_document.specs.ReadTree.{IsTreeRead, ReadsTree}
-use Rattle.ftl_document.proofs.NodesRead.{fields_within}
-use Rattle.ftl_document.proofs.ReadOnce.{one_tree, some_tree}
+use Rattle.ftl_document.proofs.ReadOnce.{any_two_trees, some_tree}
 use Rattle.ftl_plan_limits.specs.PlanFaults.{first_fault}
 use Rattle.ftl_refusals.specs.DocumentLines.{document_line}
 use Rattle.ftl_refusals.specs.PlanLines.{plan_line}
 use Rattle.ftl_refusals.specs.TextLines.{token_line}
-use Rattle.ftl_answer.specs.Answer.{Answer, refused}
-use Rattle.ftl_answer.specs.Stages.{HasOne, Stage, Then, ends, hands_on, unless}
+use Rattle.ftl_answer.specs.Answer.{refused}
+use Rattle.ftl_answer.specs.Stages.{HasOne, Stage, Then, hands_on}
 use Rattle.ftl_answer.specs.Texts.{planned_tree, scanned_as, spelled_tree, status_of, tokenized, tokens, tree, wide}
 use Rattle.ftl_answer.proofs.Ones.{end_is_no_value, handed, is_one, same_value, then_handed, then_one, told_one}
 
@@ -77,6 +79,22 @@ few_of greatest text scanned are short utf8 =
       numbers = at_most-symbols greatest scanned.text 0 scanned.tokens own;
     }
 
+-- ---- widths, as the syntax and as the faults say it
+
+mutual
+  fields_within : (greatest : ℕ) (fields : WrittenFields) → FieldsAreWithin greatest fields → AreWithin greatest fields
+  fields_within greatest no_fields h = tt
+  fields_within greatest (number_field name n later) h = (h.0, fields_within greatest later h.1)
+  fields_within greatest (node_field name class fields later) h =
+      (fields_within greatest fields h.0, fields_within greatest later h.1)
+  fields_within greatest (list_field name nodes later) h =
+      (nodes_within greatest nodes h.0, fields_within greatest later h.1)
+
+  nodes_within : (greatest : ℕ) (nodes : WrittenNodes) → NodesAreWithin greatest nodes → AreAllWithin greatest nodes
+  nodes_within greatest no_nodes h = tt
+  nodes_within greatest (node_and class fields later) h =
+      (fields_within greatest fields h.0, nodes_within greatest later h.1)
+
 -- ---- the tree
 
 module _ (c : CheckedGrammar) (s : Schedule) (text : List ℕ) (short : length text ≤ 67108864) (utf8 : IsUtf8 text) where
@@ -86,7 +104,7 @@ module _ (c : CheckedGrammar) (s : Schedule) (text : List ℕ) (short : length t
       few_of (greatest_of_width c.width) text scanned
       (are_scanned section.Document (greatest_of_width c.width) text scanned is) short utf8
 
-  after : Tokenized → Stage Forest
+  abbrev after : Tokenized → Stage Forest
   after scanned =
       Then (spelled_tree c (wide (greatest_of_width c.width) scanned)) (λ (t : CheckedTree). planned_tree c s t.tree)
 
@@ -97,7 +115,7 @@ module _ (c : CheckedGrammar) (s : Schedule) (text : List ℕ) (short : length t
       let w = wide (greatest_of_width c.width) scanned in
       then_one (spelled_tree c w) (λ (t : CheckedTree). planned_tree c s t.tree)
       (told_one document.OutOfMemory (λ fault. refused 7 (document_line c.grammar fault)) (ReadsTree c w)
-      (some_tree c w (few_in scanned is).few (few_in scanned is).numbers) (one_tree c w))
+      (some_tree c w (few_in scanned is).few (few_in scanned is).numbers) (any_two_trees c w))
       (λ t read. is_one _))
 
   -- a document without a fault has no node with one

@@ -1,5 +1,5 @@
 -- The answer to words and bytes: the first refusal that applies, or what the command asks for.
-use Rattle.std.specs.Prelude.{◌≡◌, ℕ, true, false, if◌then◌else◌, List, [], Option, Some, None, codes, ⊥}
+use Rattle.std.specs.Prelude.{◌≡◌, ℕ, true, false, if◌then◌else◌, List, [], Option, Some, None, codes}
 use Rattle.ftl_model.specs.Boxes.{boxes, shows_overflow}
 use Rattle.ftl_model.specs.Table.{SolvesList, value_in}
 use Rattle.ftl_model.specs.Tree.{Forest}

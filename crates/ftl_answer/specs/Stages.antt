@@ -1,5 +1,5 @@
 -- Stages: each ends with an answer, or hands a value on to the next.
-use Rattle.std.specs.Prelude.{◌≡◌, ◌≢◌, ◌⊎◌, ℕ, List, Option, Some, None, Result, Ok, Err}
+use Rattle.std.specs.Prelude.{◌≡◌, ◌≢◌, ◌⊎◌, Option, Some, None, Result, Ok, Err}
 use Rattle.ftl_answer.specs.Answer.{Answer}
 
 -- what a stage comes to: the end, with the answer, or a value that is handed on

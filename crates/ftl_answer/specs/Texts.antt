@@ -1,16 +1,13 @@
 -- The stages on the way from a page to its document: each refuses, or hands on what it found.
-use Rattle.std.specs.Prelude.{◌≡◌, ℕ, nat_lt, true, false, if◌then◌else◌, List, length, Option, Some, None, Result, Ok, Err}
-use Rattle.std.specs.List.{sum_by}
+use Rattle.std.specs.Prelude.{◌≡◌, ℕ, nat_lt, if◌then◌else◌, List, length, Option, Some, None, Result, Ok, Err}
 use Rattle.ftl_base.specs.Widths.{greatest_of_width}
 use Rattle.ftl_base.specs.declared.width.Width.{Width}
-use Rattle.ftl_model.specs.AttributeGrammar.{AttributeGrammar}
 use Rattle.ftl_model.specs.Tree.{Forest}
 use Rattle.ftl_tokens.specs.Scan.{scan}
 use Rattle.ftl_tokens.specs.Tokenized.{Tokenized, WideTokenized}
 use Rattle.ftl_tokens.specs.declared.fault.TokenFault.{TokenFault}
 use Rattle.ftl_tokens.specs.declared.kind.Token.{Token}
 use Rattle.ftl_page.specs.Page.{page_of}
-use Rattle.ftl_page.specs.declared.fault.PageFault.{PageFault}
 use Rattle.ftl_page.specs.declared.fault.Section.{Section}
 use Rattle.ftl_page.specs.declared.fault.Section.TheVariants as section
 use Rattle.ftl_page.specs.declared.page.Need.{Need}
@@ -37,7 +34,7 @@ use Rattle.ftl_refusals.specs.PageLines.{page_line, too_long_line}
 use Rattle.ftl_refusals.specs.PlanLines.{plan_line}
 use Rattle.ftl_refusals.specs.ScheduleLines.{schedule_line, stuck_line, verify_line}
 use Rattle.ftl_refusals.specs.TextLines.{syntax_line, token_line}
-use Rattle.ftl_answer.specs.Answer.{Answer, refused}
+use Rattle.ftl_answer.specs.Answer.{refused}
 use Rattle.ftl_answer.specs.Stages.{Is, Outcome, Stage, Then, Told, ends, hands_on, or_told, unless}
 
 -- the status of a refusal in a section

@@ -4,5 +4,7 @@
 #![tactic(auto)]
 
 mod laws;
+mod worked;
 
 pub use laws::one_answer;
+pub use worked::worked_refusals;
