@@ -8,6 +8,8 @@
 //! - `cut TEXT`: how many of the fronts of the text spell a schedule, and how many go wrong within
 //!   the front.
 
+ghost use Rattle.std.specs.Prelude.{◌≤◌, length, IfSome};
+
 use ftl_base::Width;
 use ftl_checked::Checked;
 use ftl_dep_table::dep_table;
@@ -79,7 +81,9 @@ fn many_passes(alloc: Global, request: &str) -> Result<String, AllocError> {
 }
 
 /// The tokens of a text that is no longer than one may be.
-fn scanned(alloc: Global, text: String) -> Option<Scanned> {
+fn scanned(alloc: Global, text: String) -> Option<Scanned>
+    ensures short { IfSome result (λ s. length s.text ≤ 67108864) }
+{
     if text.len() > 67108864 {
         return None;
     }

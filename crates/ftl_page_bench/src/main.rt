@@ -36,7 +36,7 @@ enum Asked {
 }
 
 /// What the words ask for.
-fn asked(rt: &(impl Env + AllocGlobal)) -> io::Result<Asked> {
+fn asked_for(rt: &(impl Env + AllocGlobal)) -> io::Result<Asked> {
     let mut words = env::args(rt)?.skip(1);
     match words.next() {
         None => Ok(Asked::Both),
@@ -154,7 +154,7 @@ fn tell_code(
 }
 
 fn main(rt: HostRuntime) -> io::Result<()> {
-    let asked = asked(&rt)?;
+    let asked = asked_for(&rt)?;
     match read_page(&rt, rt.alloc(), asked) {
         Some(page) => tell(&rt, rt.alloc(), page, asked),
         None => {
