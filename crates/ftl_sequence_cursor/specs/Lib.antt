@@ -1,0 +1,4 @@
+pub mod BehindOps
+pub mod Moves
+pub mod Places
+pub mod SequenceRest

@@ -1,0 +1,63 @@
+//! Cursors over the steps of an inorder pass.
+ghost use Rattle.std.specs.Prelude.{◌≡◌, [], ◌∷◌, MatchOption};
+ghost use Rattle.ftl_dep_table.specs.Meant.{meant};
+ghost use Rattle.ftl_inorder_visits.specs.InorderSteps.{inorder_steps};
+ghost use Rattle.ftl_model.specs.Path.{top};
+ghost use Rattle.ftl_schedule_syntax.specs.declared.kind.PassKind.TheVariants.{InOrder};
+ghost use Rattle.ftl_visit_rows.specs.VisitRows.{visits_of};
+
+use crate::place::{Place, Tables, next_step};
+use ftl_steps::Step;
+use ftl_tree::Tree;
+use ftl_visit_rows::PassVisits;
+use std::marker::Model;
+
+/// Goes through the steps of an inorder pass over a tree. Contracts see the steps that are left.
+#[derive(Drop)]
+pub struct SequenceCursor<'a> {
+    tables: Tables<'a>,
+    at: Place<'a>,
+}
+
+impl<'a> Model for SequenceCursor<'a> {
+    ghost use Rattle.std.specs.Prelude.{List};
+    ghost use Rattle.ftl_steps.specs.declared.step.Step.{Step};
+
+    ghost Value = { List Step };
+
+    ghost use Rattle.ftl_sequence_cursor.specs.Places.{AreTables, IsPlace, left};
+
+    ghost view = { λ c. left c.tables c.at };
+
+    ghost invariant = { λ c. AreTables c.tables × IsPlace c.tables c.at };
+}
+
+impl<'a> SequenceCursor<'a> {
+    /// All steps of a pass with these visits, whose list of attributes is this one.
+    pub fn new(tree: &'a Tree<'a>, visits: &'a PassVisits, attrs: &'a [u32]) -> SequenceCursor<'a>
+        requires visits { visits.now ≡ visits_of (meant tree.now.checked) InOrder attrs.now }
+        ensures steps { result ≡ inorder_steps (meant tree.now.checked) tree.now.tree attrs.now top }
+    {
+        let _nodes = tree.node_count();
+        let ops = visits.visit(tree.class(0));
+        let tables = Tables {
+            tree,
+            visits,
+            attrs,
+        };
+        let at = Place {
+            node: 0,
+            kid: 0,
+            ops,
+        };
+        SequenceCursor { tables, at }
+    }
+
+    /// The next step; none at the end.
+    pub fn next(&mut self) -> Option<Step>
+        ensures step { MatchOption result ((self.old ≡ []) × (self.new ≡ []))
+            (λ step. self.old ≡ step ∷ self.new) }
+    {
+        next_step(self.tables, &mut self.at)
+    }
+}
