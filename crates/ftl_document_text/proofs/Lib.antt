@@ -1,0 +1,3 @@
+mod Shallow
+mod Fronts
+mod SpelledDocument
