@@ -1,0 +1,76 @@
+//! What the text of a document means by the text of a grammar.
+
+ghost use Rattle.std.specs.Prelude.{◌≡◌};
+ghost use Rattle.ftl_base.specs.Widths.{greatest_of_width};
+ghost use Rattle.ftl_tokens.specs.Tokenized.{IsGreatestNumber};
+
+use crate::nodes::write_nodes;
+use ftl_base::Width;
+use ftl_checked::Checked;
+use ftl_document::read_document;
+use ftl_document_faults::DocFault;
+use ftl_grammar_texts::grammar_of_text;
+use ftl_page::Section;
+use ftl_refusals::{write_document_fault, write_token_fault};
+use ftl_tokens::{TokenFault, WideScanned, document_tokens};
+use std::alloc::{AllocError, Global};
+
+/// The refusal line of a document, or its nodes.
+pub fn answer(alloc: Global, grammar: &str, document: &str) -> Result<String, AllocError> {
+    match grammar_of_text(alloc, grammar, Width::Narrow)? {
+        Some(checked) => of_text(alloc, &checked, document),
+        None => String::from_str(alloc, "no grammar\n"),
+    }
+}
+
+fn of_text(alloc: Global, checked: &Checked, document: &str) -> Result<String, AllocError> {
+    if document.len() > 67108864 {
+        return String::from_str(alloc, "too long\n");
+    }
+    let text = String::from_str(alloc, document)?;
+    match document_tokens(alloc, text, greatest_number(checked.width())) {
+        Ok(scanned) => of_tokens(alloc, checked, &scanned),
+        Err(fault) => token_line(alloc, fault),
+    }
+}
+
+fn of_tokens(alloc: Global, checked: &Checked, scanned: &WideScanned) -> Result<String, AllocError>
+    requires width { scanned.now.greatest ≡ greatest_of_width checked.now.width }
+{
+    match read_document(alloc, checked, scanned) {
+        Ok(tree) => {
+            let mut out = String::new(alloc);
+            write_nodes(alloc, &mut out, &tree, scanned)?;
+            Ok(out)
+        }
+        Err(fault) => fault_line(alloc, checked, &fault),
+    }
+}
+
+fn token_line(alloc: Global, fault: TokenFault) -> Result<String, AllocError> {
+    let mut line = Vec::new(alloc);
+    write_token_fault(&mut line, Section::Document, fault)?;
+    ended(alloc, line)
+}
+
+fn fault_line(alloc: Global, checked: &Checked, fault: &DocFault) -> Result<String, AllocError> {
+    let mut line = Vec::new(alloc);
+    write_document_fault(&mut line, checked, fault)?;
+    ended(alloc, line)
+}
+
+fn ended(alloc: Global, mut line: Vec<u8>) -> Result<String, AllocError> {
+    line.push(b'\n')?;
+    Ok(String::from_utf8(line).unwrap_or(String::new(alloc)))
+}
+
+/// The greatest number of a width.
+fn greatest_number(width: Width) -> u64
+    ensures greatest { result ≡ greatest_of_width width }
+    ensures known { IsGreatestNumber result }
+{
+    match width {
+        Width::Narrow => 2147483647,
+        Width::Wide => 140737488355327,
+    }
+}

@@ -1,0 +1,50 @@
+//! The nodes of a tree, a line each.
+
+ghost use Rattle.std.specs.Prelude.{◌<◌};
+ghost use Rattle.ftl_model.specs.Tree.{size};
+
+use ftl_document_syntax::read_written_document;
+use ftl_document_walk::document_nodes;
+use ftl_tokens::WideScanned;
+use ftl_tree::Tree;
+use std::alloc::{AllocError, Global};
+use std::fmt::Write;
+
+/// A line for each node, and one with the inputs of all.
+pub(crate) fn write_nodes(
+    alloc: Global,
+    out: &mut String,
+    tree: &Tree,
+    scanned: &WideScanned,
+) -> Result<(), AllocError> {
+    for node in 0..tree.node_count() {
+        write_node(out, tree, node)?;
+    }
+    match read_written_document(alloc, scanned) {
+        Ok(document) => match document_nodes(alloc, tree.checked(), &document) {
+            Ok(nodes) => write_inputs(out, nodes.inputs.as_slice()),
+            Err(_fault) => Ok(()),
+        },
+        Err(_fault) => Ok(()),
+    }
+}
+
+fn write_node(out: &mut String, tree: &Tree, node: u32) -> Result<(), AllocError>
+    requires node { node < size tree.now.tree }
+{
+    let row = tree.row(node);
+    let place = row.place;
+    write!(
+        out,
+        "{node} class {} parent {} child {} kid {}\n",
+        row.class, row.parent, place.child, place.kid
+    )
+}
+
+fn write_inputs(out: &mut String, inputs: &[i64]) -> Result<(), AllocError> {
+    out.push_str("inputs")?;
+    for input in inputs {
+        write!(out, " {}", *input)?;
+    }
+    out.push('\n')
+}
