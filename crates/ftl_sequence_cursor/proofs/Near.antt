@@ -13,8 +13,7 @@ use Rattle.ftl_visit_list.specs.Visits.{visit_of}
 use Rattle.ftl_visit_list.specs.declared.visit_op.VisitOp.{VisitOp}
 use Rattle.ftl_visit_list.specs.declared.visit_op.VisitOp.TheVariants.{Begin, Rule, Visit}
 use Rattle.ftl_visit_rows.specs.VisitRows.{visits_of}
-use Rattle.ftl_sequence_cursor.specs.BehindOps.{rule_first}
-use Rattle.ftl_sequence_cursor.specs.Places.{FitOps, IsPlace, left}
+use Rattle.ftl_sequence_cursor.specs.Places.{FitOps, IsPlace, left, rule_first}
 use Rattle.ftl_sequence_cursor.specs.declared.place.Place.{Place}
 use Rattle.ftl_sequence_cursor.specs.declared.place.Tables.{Tables}
 use Rattle.ftl_sequence_cursor.proofs.VisitShape.{AreRules, block_of, blocks_from, first_block, inherited_are, locals_are, synthesized_are, visit_is}

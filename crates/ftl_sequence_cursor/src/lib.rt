@@ -3,8 +3,11 @@
 //! of the pass at first; `specs/SequenceRest.antt` says what is left at a place.
 #![tactic(auto)]
 
-mod behind;
+mod block_places;
 mod cursor;
 mod place;
+mod worked_places;
 
+pub use block_places::SequencePlaces;
 pub use cursor::SequenceCursor;
+pub use worked_places::{places_of_two_children, rest_of_two_words};

@@ -37,7 +37,7 @@ invariant_of-result c =
     ∙ ap (λ (vs : List (List VisitOp)). get_or vs c.class.result []) c.requires.visits
     ∙ ap (λ n. get_or (visits_of g InOrder a) n []) c.class.ensures.class
     ∙ visit_in g a (class_at t top) (class_within g t fits 0 within) in
-    (c.requires.visits, record { node = within; ops = subst (FitOps g t top 0) (sym is) (visit_fits g t top a) })
+    (record { visits = c.requires.visits; places = c.requires.places }, record { node = within; ops = subst (FitOps g t top 0) (sym is) (visit_fits g t top a) })
 
 pub returns : goal.returns
 returns c =
