@@ -1,12 +1,13 @@
 -- The places of the blocks of the visits that were passed so far.
-use Rattle.std.proofs.Common.{◌≡◌, ℕ, zero, suc, ◌+◌, ◌<◌, List, [], ◌∷◌, ◌++◌, drop, get_or, length, map, take, refl, sym, ◌∙◌, ap, ap₂, arith}
+use Rattle.std.proofs.Common.{◌≡◌, ℕ, zero, suc, ◌+◌, ◌<◌, List, [], ◌∷◌, ◌++◌, get_or, length, take, refl, sym, ◌∙◌, ap, ap₂, arith}
 use Rattle.ftl_visit_list.specs.declared.visit_op.VisitOp.{VisitOp}
 use Rattle.ftl_visit_rows.specs.Runs.{IsCut, runs}
 use Rattle.ftl_sequence_cursor.specs.BlockPlaces.{places_in, places_of}
 use Rattle.ftl_sequence_cursor.specs.declared.block_places.BlockPlaces.{BlockPlaces}
 
 -- those of the visits of so many classes
-pub record AreAdded (visits : List (List VisitOp)) (class : ℕ) (starts : List ℕ) (places : List BlockPlaces) : Type 0 where
+pub record AreAdded (visits : List (List VisitOp)) (class : ℕ) (starts : List ℕ) (places : List BlockPlaces)
+    : Type 0 where
   pub cut : IsCut starts places
   pub are : runs starts places ≡ places_of (take class visits)
 

@@ -8,8 +8,7 @@ use Rattle.ftl_model.specs.TreeOf.{IsTreeOf}
 use Rattle.ftl_schedule_syntax.specs.declared.kind.PassKind.TheVariants.{InOrder}
 use Rattle.ftl_visit_list.specs.Visits.{visit_of}
 use Rattle.ftl_visit_list.specs.declared.visit_op.VisitOp.{VisitOp}
-use Rattle.ftl_visit_rows.specs.VisitRows.{visits_of}
-use Rattle.ftl_sequence_cursor.specs.BlockPlaces.{places_in, places_of}
+use Rattle.ftl_sequence_cursor.specs.BlockPlaces.{places_in}
 use Rattle.ftl_sequence_cursor.specs.Places.{AreTables, grammar_of, node_of, tree_of}
 use Rattle.ftl_sequence_cursor.specs.declared.block_places.BlockPlaces.{BlockPlaces}
 use Rattle.ftl_sequence_cursor.specs.declared.place.Tables.{Tables}

@@ -1,10 +1,10 @@
 -- What comes behind the operations of an inorder visit.
-use Rattle.std.proofs.Common.{◌≡◌, ℕ, zero, suc, ◌+◌, ◌-◌, ◌<◌, ◌==◌, Bool, true, false, if◌then◌else◌, List, [], ◌∷◌, ◌++◌, flat_map, Option, Some, None, refl, sym, ◌∙◌, ap, subst, append_assoc, arith, eq-eqb}
+use Rattle.std.proofs.Common.{◌≡◌, ℕ, suc, ◌+◌, List, [], ◌∷◌, ◌++◌, flat_map, Option, Some, None, ◌∙◌, ap, append_assoc}
 use Rattle.std.specs.List.{range_with_len}
 use Rattle.std.specs.Option.{option_map, option_to_list}
 use Rattle.ftl_model.specs.AttributeGrammar.{AttributeGrammar, Sort, inherited, input, local, synthesized}
 use Rattle.ftl_schedule_syntax.specs.declared.kind.PassKind.TheVariants.{InOrder}
-use Rattle.ftl_visit_list.specs.Visits.{child_block, inherited_rule, inherited_rules, local_rule, locals, rule_in, rule_number, synthesized_rule, synthesized_rules, visit_of}
+use Rattle.ftl_visit_list.specs.Visits.{child_block, inherited_rule, inherited_rules, local_rule, locals, rule_number, synthesized_rule, synthesized_rules, visit_of}
 use Rattle.ftl_visit_list.specs.declared.visit_op.VisitOp.{VisitOp}
 use Rattle.ftl_visit_list.specs.declared.visit_op.VisitOp.TheVariants.{Begin, Rule, Visit}
 

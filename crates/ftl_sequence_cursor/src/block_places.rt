@@ -12,7 +12,7 @@ use std::alloc::{AllocError, Global};
 use std::marker::Model;
 
 /// Where the block of a child begins in a visit, and where it ends with the visit of a kid.
-#[derive(Clone, Copy, Debug)]
+#[derive(Clone, Copy)]
 pub(crate) struct BlockPlaces {
     pub begin: usize,
     pub visit: usize,

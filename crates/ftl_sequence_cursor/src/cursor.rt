@@ -45,7 +45,8 @@ impl<'a> SequenceCursor<'a> {
     ) -> SequenceCursor<'a>
         requires visits { visits.now ≡ visits_of (meant tree.now.checked) InOrder attrs.now }
         requires places { places.now ≡ places_of visits.now }
-        ensures steps { result ≡ inorder_steps (meant tree.now.checked) tree.now.tree attrs.now top }
+        ensures steps { result
+            ≡ inorder_steps (meant tree.now.checked) tree.now.tree attrs.now top }
     {
         let _nodes = tree.node_count();
         let ops = visits.visit(tree.class(0));

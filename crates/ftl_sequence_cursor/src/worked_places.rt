@@ -11,7 +11,8 @@ ghost use Rattle.ftl_visit_list.specs.declared.visit_op.VisitOp.TheVariants.{Beg
 
 /// A law: the places of two children, the second of which has no rules for its kids.
 pub fn places_of_two_children()
-    ensures places { places_in (Rule 4 ∷ Begin 0 ∷ Rule 7 ∷ Visit 0 ∷ Begin 1 ∷ Visit 1 ∷ Rule 2 ∷ [])
+    ensures places { places_in
+        (Rule 4 ∷ Begin 0 ∷ Rule 7 ∷ Visit 0 ∷ Begin 1 ∷ Visit 1 ∷ Rule 2 ∷ [])
         ≡ block 1 3 ∷ block 4 5 ∷ [] }
 {}
 

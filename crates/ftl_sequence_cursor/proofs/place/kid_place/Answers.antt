@@ -1,4 +1,4 @@
-use Rattle.std.proofs.Common.{◌≡◌, ℕ, ◌+◌, ◌-◌, ◌<◌, ◌≤◌, ◌∷◌, get_or, sym, ◌∙◌, ap, subst, arith}
+use Rattle.std.proofs.Common.{◌≡◌, ◌+◌, ◌-◌, ◌<◌, ◌≤◌, get_or, sym, ◌∙◌, ap, subst, arith}
 use Rattle.ftl_model.specs.Path.{class_at, kids_at}
 use Rattle.ftl_visit_list.specs.declared.visit_op.VisitOp.TheVariants.{Begin, Visit}
 use Rattle.ftl_sequence_cursor.specs.Moves.{moves_left}
