@@ -4,3 +4,6 @@ pub mod MovesByKids
 pub mod MoveLemmas
 pub mod Near
 pub mod Above
+pub mod BlockLemmas
+pub mod PlaceTable
+pub mod TableLemmas

@@ -4,7 +4,7 @@ use Rattle.std.specs.List.{range_with_len}
 use Rattle.std.proofs.lemmas.List.{append-nil}
 use Rattle.std.proofs.lemmas.List.FromFn.{length-range_with_len}
 use Rattle.ftl_model.specs.AttributeGrammar.{AttributeGrammar}
-use Rattle.ftl_model.specs.Path.{Has, Path, at as tree_at, class_at, down, kids_at}
+use Rattle.ftl_model.specs.Path.{Has, Path, at as tree_at, class_at, kids_at}
 use Rattle.ftl_model.specs.Tree.{Forest, below_of}
 use Rattle.ftl_model.specs.TreeOf.{IsTreeOf}
 use Rattle.ftl_schedule_syntax.specs.declared.kind.PassKind.TheVariants.{InOrder}
@@ -93,7 +93,8 @@ module _ (g : AttributeGrammar) (t : Forest) (attributes : List ℕ) (p : Path) 
       let below = ap length (moves_by_kids g t fits p there) in
       let inner : moves_left g t p 0 (visit_of g InOrder attributes class) ≡ length all + count + suc up =
       ap (moves_left g t p 0) (visit_is g class attributes)
-      ∙ rules_moved 0 (locals g class attributes) (blocks_from g class attributes 0 count) (locals_are g class attributes)
+      ∙ rules_moved 0 (locals g class attributes) (blocks_from g class attributes 0 count)
+      (locals_are g class attributes)
       ∙ blocks_moves 0 count (omega arith)
       ∙ ap (λ n. length (flat_map (child_moves g t p) (range_with_len 0 n)) + n + suc up)
       (let z : count - 0 ≡ count = omega arith in z) in

@@ -3,7 +3,7 @@ use Rattle.std.proofs.Common.{◌≡◌, ℕ, suc, ◌+◌, ◌-◌, ◌<◌, �
 use Rattle.std.specs.List.{range_with_len}
 use Rattle.ftl_lists.proofs.Elements.{in_range_from}
 use Rattle.ftl_model.specs.AttributeGrammar.{AttributeGrammar}
-use Rattle.ftl_model.specs.Path.{Has, Path, at as tree_at, class_at, down, one_more}
+use Rattle.ftl_model.specs.Path.{Has, Path, at as tree_at, class_at, one_more}
 use Rattle.ftl_model.specs.Tree.{Forest, below_of, class_of, count_in, none, tree}
 use Rattle.ftl_model.specs.TreeOf.{FitBelow, IsTreeOf, StartsFrom}
 use Rattle.ftl_model.proofs.Fits.{fits_at}

@@ -1,9 +1,9 @@
 -- Where a cursor stands when it goes on.
-use Rattle.std.proofs.Common.{◌≡◌, ℕ, zero, suc, ◌+◌, ◌-◌, ◌<◌, ◌≤◌, List, [], ◌∷◌, ◌++◌, drop, get_or, length, take, Some, None, Option, refl, sym, ◌∙◌, ap, ap₂, subst, arith}
+use Rattle.std.proofs.Common.{◌≡◌, ℕ, zero, suc, ◌+◌, ◌-◌, ◌<◌, List, [], ◌∷◌, ◌++◌, drop, get_or, length, take, Some, sym, ◌∙◌, ap, subst, arith}
 use Rattle.std.proofs.Math.Seq.{take-length}
 use Rattle.std.proofs.lemmas.List.FromFn.{get_or-map-range_with_len, length-map-range_with_len}
 use Rattle.ftl_model.specs.AttributeGrammar.{AttributeGrammar}
-use Rattle.ftl_model.specs.Path.{Path, class_at, kids_at, node_at, number_of}
+use Rattle.ftl_model.specs.Path.{Path, class_at, kids_at, node_at}
 use Rattle.ftl_model.specs.Tree.{Forest, size}
 use Rattle.ftl_model.specs.TreeOf.{IsTreeOf}
 use Rattle.ftl_order.proofs.Kids.{class_known}
@@ -13,8 +13,7 @@ use Rattle.ftl_visit_list.specs.Visits.{visit_of}
 use Rattle.ftl_visit_list.specs.declared.visit_op.VisitOp.{VisitOp}
 use Rattle.ftl_visit_list.specs.declared.visit_op.VisitOp.TheVariants.{Begin, Rule, Visit}
 use Rattle.ftl_visit_rows.specs.VisitRows.{visits_of}
-use Rattle.ftl_sequence_cursor.specs.BehindOps.{rule_first}
-use Rattle.ftl_sequence_cursor.specs.Places.{FitOps, IsPlace, left}
+use Rattle.ftl_sequence_cursor.specs.Places.{FitOps, IsPlace, left, rule_first}
 use Rattle.ftl_sequence_cursor.specs.declared.place.Place.{Place}
 use Rattle.ftl_sequence_cursor.specs.declared.place.Tables.{Tables}
 use Rattle.ftl_sequence_cursor.proofs.VisitShape.{AreRules, block_of, blocks_from, first_block, inherited_are, locals_are, synthesized_are, visit_is}

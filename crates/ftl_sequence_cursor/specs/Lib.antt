@@ -1,4 +1,5 @@
-pub mod BehindOps
+pub mod BlockPlaces
 pub mod Moves
 pub mod Places
 pub mod SequenceRest
+pub mod WorkedPlaces

@@ -1,5 +1,5 @@
 -- Where a cursor stands: at operations of a node, and at a kid.
-use Rattle.std.specs.Prelude.{◌≡◌, ℕ, suc, ◌<◌, List, [], ◌∷◌}
+use Rattle.std.specs.Prelude.{◌≡◌, ℕ, suc, ◌<◌, List, [], ◌∷◌, Option, Some, None}
 use Rattle.ftl_dep_table.specs.Meant.{meant}
 use Rattle.ftl_model.specs.AttributeGrammar.{AttributeGrammar}
 use Rattle.ftl_model.specs.Path.{Path, class_at, kids_at, node_at}
@@ -9,6 +9,7 @@ use Rattle.ftl_steps.specs.declared.step.Step.{Step}
 use Rattle.ftl_visit_list.specs.declared.visit_op.VisitOp.{VisitOp}
 use Rattle.ftl_visit_list.specs.declared.visit_op.VisitOp.TheVariants.{Begin, Rule, Visit}
 use Rattle.ftl_visit_rows.specs.VisitRows.{visits_of}
+use Rattle.ftl_sequence_cursor.specs.BlockPlaces.{places_of}
 use Rattle.ftl_sequence_cursor.specs.Moves.{moves_from_kid, moves_left, moves_up}
 use Rattle.ftl_sequence_cursor.specs.SequenceRest.{from_kid, rest_of_ops, rest_up}
 use Rattle.ftl_sequence_cursor.specs.declared.place.Place.{Place}
@@ -26,9 +27,17 @@ tree_of x = x.tree.now.tree
 abbrev pub node_of : Tables → (node : ℕ) → Path
 node_of x n = node_at (tree_of x) n
 
--- the visits are those of an inorder pass with these attributes
-abbrev pub AreTables : Tables → Type 0
-AreTables x = x.visits.now ≡ visits_of (grammar_of x) InOrder x.attrs.now
+-- the visits are those of an inorder pass with these attributes, and the places those of their blocks
+pub record AreTables (x : Tables) : Type 0 where
+  pub visits : x.visits.now ≡ visits_of (grammar_of x) InOrder x.attrs.now
+  pub places : x.places.now ≡ places_of x.visits.now
+
+-- the rule that comes first; none where another operation does
+abbrev pub rule_first : List VisitOp → Option ℕ
+rule_first [] = None
+rule_first (Rule r ∷ ops) = Some r
+rule_first (Begin c ∷ ops) = None
+rule_first (Visit c ∷ ops) = None
 
 -- the child at which the operations stand next is there, and so is the kid at hand where it is visited
 abbrev pub FitOps : AttributeGrammar → Forest → Path → (kid : ℕ) → List VisitOp → Type 0

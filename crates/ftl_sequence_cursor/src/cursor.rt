@@ -4,8 +4,10 @@ ghost use Rattle.ftl_dep_table.specs.Meant.{meant};
 ghost use Rattle.ftl_inorder_visits.specs.InorderSteps.{inorder_steps};
 ghost use Rattle.ftl_model.specs.Path.{top};
 ghost use Rattle.ftl_schedule_syntax.specs.declared.kind.PassKind.TheVariants.{InOrder};
+ghost use Rattle.ftl_sequence_cursor.specs.BlockPlaces.{places_of};
 ghost use Rattle.ftl_visit_rows.specs.VisitRows.{visits_of};
 
+use crate::block_places::SequencePlaces;
 use crate::place::{Place, Tables, next_step};
 use ftl_steps::Step;
 use ftl_tree::Tree;
@@ -33,16 +35,25 @@ impl<'a> Model for SequenceCursor<'a> {
 }
 
 impl<'a> SequenceCursor<'a> {
-    /// All steps of a pass with these visits, whose list of attributes is this one.
-    pub fn new(tree: &'a Tree<'a>, visits: &'a PassVisits, attrs: &'a [u32]) -> SequenceCursor<'a>
+    /// All steps of a pass with these visits, where these are the places of its blocks, and its
+    /// list of attributes is this one.
+    pub fn new(
+        tree: &'a Tree<'a>,
+        visits: &'a PassVisits,
+        places: &'a SequencePlaces,
+        attrs: &'a [u32],
+    ) -> SequenceCursor<'a>
         requires visits { visits.now ≡ visits_of (meant tree.now.checked) InOrder attrs.now }
-        ensures steps { result ≡ inorder_steps (meant tree.now.checked) tree.now.tree attrs.now top }
+        requires places { places.now ≡ places_of visits.now }
+        ensures steps { result
+            ≡ inorder_steps (meant tree.now.checked) tree.now.tree attrs.now top }
     {
         let _nodes = tree.node_count();
         let ops = visits.visit(tree.class(0));
         let tables = Tables {
             tree,
             visits,
+            places,
             attrs,
         };
         let at = Place {

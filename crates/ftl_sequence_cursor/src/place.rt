@@ -3,12 +3,11 @@ ghost use Rattle.std.specs.Prelude.{◌≡◌, ◌<◌, [], ◌∷◌, Some, Non
 ghost use Rattle.ftl_model.specs.Path.{kids_at};
 ghost use Rattle.ftl_model.specs.Tree.{size};
 ghost use Rattle.ftl_tree_rows.specs.KidRuns.{IsChildOf};
-ghost use Rattle.ftl_sequence_cursor.specs.BehindOps.{rule_first};
 ghost use Rattle.ftl_sequence_cursor.specs.Places.{AreTables, IsAfter, IsAtKid, IsFirst, IsNext};
 ghost use Rattle.ftl_sequence_cursor.specs.Places.{IsPlace, grammar_of, left, node_of, rest_after};
-ghost use Rattle.ftl_sequence_cursor.specs.Places.{tree_of};
+ghost use Rattle.ftl_sequence_cursor.specs.Places.{rule_first, tree_of};
 
-use crate::behind::{behind_begin, behind_visit};
+use crate::block_places::{SequencePlaces, behind};
 use ftl_steps::Step;
 use ftl_tree::Tree;
 use ftl_visit_list::VisitOp;
@@ -19,6 +18,7 @@ use ftl_visit_rows::PassVisits;
 pub(crate) struct Tables<'a> {
     pub tree: &'a Tree<'a>,
     pub visits: &'a PassVisits,
+    pub places: &'a SequencePlaces,
     pub attrs: &'a [u32],
 }
 
@@ -121,12 +121,14 @@ fn kid_place<'a>(tables: Tables<'a>, node: u32, child: u32, kid: u32) -> Place<'
     ensures kid { IsAtKid tables.entry node child kid result }
 {
     let _nodes = tables.tree.node_count();
-    let visit = tables.visits.visit(tables.tree.class(node));
+    let class = tables.tree.class(node);
+    let visit = tables.visits.visit(class);
+    let block = tables.places.blocks(class)[child as usize];
     if kid < tables.tree.kid_count(node, child) {
-        let ops = behind_begin(visit, child);
+        let ops = behind(visit, block.begin);
         Place { node, kid, ops }
     } else {
-        let ops = behind_visit(visit, child);
+        let ops = behind(visit, block.visit);
         Place { node, kid: 0, ops }
     }
 }

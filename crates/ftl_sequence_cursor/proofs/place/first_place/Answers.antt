@@ -1,6 +1,6 @@
 use Rattle.std.proofs.Common.{◌≡◌, suc, ◌+◌, ◌++◌, ◌<◌, [], get_or, length, List, sym, ◌∙◌, ap, subst, arith}
 use Rattle.ftl_inorder_visits.specs.InorderSteps.{inorder_steps}
-use Rattle.ftl_model.specs.Path.{Has, at as tree_at, class_at, down, number_of}
+use Rattle.ftl_model.specs.Path.{Has, at as tree_at, class_at, down}
 use Rattle.ftl_model.specs.Tree.{below_of, size}
 use Rattle.ftl_model.proofs.Standing.{node_at-number_of, number_of-lt}
 use Rattle.ftl_order.proofs.Kids.{kid_exists}
@@ -40,7 +40,7 @@ visit-ops-requires c =
     let one = size-one g t c.node_count-nodes.ensures.is_tree in
     let within : c.kid-below.result < size t = omega (arith, c.kid-below.ensures.kid) in
     let known = class_within g t c.node_count-nodes.ensures.is_tree c.kid-below.result within in
-    let count = ap length c.requires.tables ∙ visits_count g x.attrs.now in
+    let count = ap length c.requires.tables.visits ∙ visits_count g x.attrs.now in
     record { class = omega (arith, c.class.ensures.class) }
 
 pub returns : goal.returns
@@ -60,10 +60,11 @@ returns c =
     let within : below < size t = omega (arith, c.kid-below.ensures.kid) in
     let q = node_of x below in
     let q_there = has_at g t below fits within in
-    let same : q ≡ down child kid p = ap (node_of x) c.kid-below.ensures.kid ∙ node_at-number_of t (down child kid p) there in
+    let same : q ≡ down child kid p =
+    ap (node_of x) c.kid-below.ensures.kid ∙ node_at-number_of t (down child kid p) there in
     let is =
     c.visit-ops.ensures.visit
-    ∙ ap (λ (vs : List (List VisitOp)). get_or vs c.class.result []) c.requires.tables
+    ∙ ap (λ (vs : List (List VisitOp)). get_or vs c.class.result []) c.requires.tables.visits
     ∙ ap (λ n. get_or (visits_of g InOrder a) n []) c.class.ensures.class
     ∙ visit_in g a (class_at t q) (class_within g t fits below within) in
     record {

@@ -1,28 +1,67 @@
-use Rattle.std.proofs.Common.{◌≡◌, ℕ, ◌+◌, ◌-◌, ◌<◌, ◌≤◌, [], get_or, length, List, sym, ◌∙◌, ap, subst, arith}
+use Rattle.std.proofs.Common.{◌≡◌, ◌+◌, ◌-◌, ◌<◌, ◌≤◌, get_or, sym, ◌∙◌, ap, subst, arith}
 use Rattle.ftl_model.specs.Path.{class_at, kids_at}
-use Rattle.ftl_visit_list.specs.declared.visit_op.VisitOp.{VisitOp}
-use Rattle.ftl_schedule_syntax.specs.declared.kind.PassKind.TheVariants.{InOrder}
-use Rattle.ftl_visit_rows.specs.VisitRows.{visits_of}
-use Rattle.ftl_sequence_cursor.specs.BehindOps.{behind_begin, behind_visit}
+use Rattle.ftl_visit_list.specs.declared.visit_op.VisitOp.TheVariants.{Begin, Visit}
 use Rattle.ftl_sequence_cursor.specs.Moves.{moves_left}
 use Rattle.ftl_sequence_cursor.specs.Places.{FitOps, grammar_of, node_of, tree_of}
 use Rattle.ftl_sequence_cursor.specs.SequenceRest.{rest_of_ops}
+use Rattle.ftl_sequence_cursor.proofs.BlockLemmas.{behind_is, drop_within, nowhere}
 use Rattle.ftl_sequence_cursor.proofs.MoveLemmas.{block_moves, blocks_moves, no_kid_moves}
-use Rattle.ftl_sequence_cursor.proofs.Near.{block_fits, blocks_fit, class_within, visit_in, visits_count}
+use Rattle.ftl_sequence_cursor.proofs.Near.{block_fits, blocks_fit}
 use Rattle.ftl_sequence_cursor.proofs.RestLemmas.{block_left, blocks_left, no_kid_left}
-use Rattle.ftl_sequence_cursor.proofs.VisitShape.{begun_in_visit, visited_in_visit}
+use Rattle.ftl_sequence_cursor.proofs.TableLemmas.{block_there, has_places, has_visit}
+use Rattle.ftl_sequence_cursor.proofs.VisitShape.{block_of, blocks_from}
 use Rattle.ftl_sequence_cursor.proofs.place.kid_place.Goals as goal
 
 pub visit-visit-requires : goal.visit-visit-requires
 visit-visit-requires c =
+    record {
+      class =
+          has_visit c.args.tables c.requires.tables c.node_count-nodes.ensures.is_tree c.args.node
+          c.requires.at.known c.class-class.result c.class-class.ensures.class;
+    }
+
+pub blocks-requires : goal.blocks-requires
+blocks-requires c =
+    record {
+      class =
+          has_places c.args.tables c.requires.tables c.node_count-nodes.ensures.is_tree c.args.node
+          c.requires.at.known c.class-class.result c.class-class.ensures.class;
+    }
+
+pub bounds-blocks-child : goal.bounds-blocks-child
+bounds-blocks-child c =
     let x = c.args.tables in
-    let known = class_within (grammar_of x) (tree_of x) c.node_count-nodes.ensures.is_tree c.args.node c.requires.at.known in
-    let count = ap length c.requires.tables ∙ visits_count (grammar_of x) x.attrs.now in
-    record { class = omega (arith, c.class.ensures.class) }
+    let has =
+    block_there x c.requires.tables c.node_count-nodes.ensures.is_tree c.args.node c.requires.at.known
+    c.class-class.result c.class-class.ensures.class c.visit-visit.result.now c.blocks-2.result.now
+    c.visit-visit.ensures.visit c.blocks-2.ensures.blocks c.args.child c.requires.at.declared in
+    has.known
+
+pub behind-ops-requires : goal.behind-ops-requires
+behind-ops-requires c =
+    let x = c.args.tables in
+    let has =
+    block_there x c.requires.tables c.node_count-nodes.ensures.is_tree c.args.node c.requires.at.known
+    c.class-class.result c.class-class.ensures.class c.visit-visit.result.now c.blocks-2.result.now
+    c.visit-visit.ensures.visit c.blocks-2.ensures.blocks c.args.child c.requires.at.declared in
+    record { place = drop_within _ _ _ _ has.is.begin }
+
+pub behind-ops-requires-else-kid-kid_count : goal.behind-ops-requires-else-kid-kid_count
+behind-ops-requires-else-kid-kid_count c =
+    let x = c.args.tables in
+    let has =
+    block_there x c.requires.tables c.node_count-nodes.ensures.is_tree c.args.node c.requires.at.known
+    c.class-class.result c.class-class.ensures.class c.visit-visit.result.now c.blocks-2.result.now
+    c.visit-visit.ensures.visit c.blocks-2.ensures.blocks c.args.child c.requires.at.declared in
+    record { place = drop_within _ _ _ _ has.is.visit }
 
 pub returns-then-kid-kid_count : goal.returns-then-kid-kid_count
 returns-then-kid-kid_count c =
     let x = c.args.tables in
+    let has =
+    block_there x c.requires.tables c.node_count-nodes.ensures.is_tree c.args.node c.requires.at.known
+    c.class-class.result c.class-class.ensures.class c.visit-visit.result.now c.blocks-2.result.now
+    c.visit-visit.ensures.visit c.blocks-2.ensures.blocks c.args.child c.requires.at.declared in
     let g = grammar_of x in
     let t = tree_of x in
     let p = node_of x c.args.node in
@@ -30,17 +69,12 @@ returns-then-kid-kid_count c =
     let child = c.args.child in
     let kid = c.args.kid in
     let class = class_at t p in
-    let known = class_within g t c.node_count-nodes.ensures.is_tree c.args.node c.requires.at.known in
     let later = g.child_count class - (child + 1) in
     let there : kid < kids_at t p child = omega (arith, c.kid_count.ensures.count) in
     let is =
-    c.behind_begin-ops.ensures.rest
-    ∙ ap (behind_begin child)
-    (c.visit-visit.ensures.visit
-    ∙ ap (λ (vs : List (List VisitOp)). get_or vs c.class.result []) c.requires.tables
-    ∙ ap (λ n. get_or (visits_of g InOrder a) n []) c.class.ensures.class
-    ∙ visit_in g a class known)
-    ∙ begun_in_visit g class a child c.requires.at.declared in
+    c.behind-ops.ensures.rest
+    ∙ behind_is (get_or c.blocks-2.result.now child nowhere).begin c.visit-visit.result.now (Begin child)
+    (block_of g class a child later) has.is.begin in
     record {
       kid = record {
         place = record {
@@ -55,6 +89,10 @@ returns-then-kid-kid_count c =
 pub returns-else-kid-kid_count : goal.returns-else-kid-kid_count
 returns-else-kid-kid_count c =
     let x = c.args.tables in
+    let has =
+    block_there x c.requires.tables c.node_count-nodes.ensures.is_tree c.args.node c.requires.at.known
+    c.class-class.result c.class-class.ensures.class c.visit-visit.result.now c.blocks-2.result.now
+    c.visit-visit.ensures.visit c.blocks-2.ensures.blocks c.args.child c.requires.at.declared in
     let g = grammar_of x in
     let t = tree_of x in
     let p = node_of x c.args.node in
@@ -62,19 +100,14 @@ returns-else-kid-kid_count c =
     let child = c.args.child in
     let kid = c.args.kid in
     let class = class_at t p in
-    let known = class_within g t c.node_count-nodes.ensures.is_tree c.args.node c.requires.at.known in
     let declared = c.requires.at.declared in
     let later = g.child_count class - (child + 1) in
     let past : kids_at t p child ≤ kid = omega (arith, c.kid_count.ensures.count) in
     let all : child + 1 + later ≡ g.child_count class = omega arith in
     let is =
-    c.behind_visit-ops.ensures.rest
-    ∙ ap (behind_visit child)
-    (c.visit-visit.ensures.visit
-    ∙ ap (λ (vs : List (List VisitOp)). get_or vs c.class.result []) c.requires.tables
-    ∙ ap (λ n. get_or (visits_of g InOrder a) n []) c.class.ensures.class
-    ∙ visit_in g a class known)
-    ∙ visited_in_visit g class a child declared in
+    c.behind-ops-else-kid-kid_count.ensures.rest
+    ∙ behind_is (get_or c.blocks-2.result.now child nowhere).visit c.visit-visit.result.now (Visit child)
+    (blocks_from g class a (child + 1) later) has.is.visit in
     record {
       kid = record {
         place = record {

@@ -1,9 +1,9 @@
-use Rattle.std.proofs.Common.{◌≡◌, ◌+◌, ◌<◌, sym, ◌∙◌, ap, arith}
+use Rattle.std.proofs.Common.{sym, ◌∙◌, ap, arith}
 use Rattle.ftl_tree_rows.proofs.Access.{has_at}
-use Rattle.ftl_sequence_cursor.specs.Moves.{moves_from_kid, moves_up}
+use Rattle.ftl_sequence_cursor.specs.Moves.{moves_up}
 use Rattle.ftl_sequence_cursor.specs.Places.{grammar_of, node_of, tree_of}
-use Rattle.ftl_sequence_cursor.specs.SequenceRest.{from_kid, rest_up}
-use Rattle.ftl_sequence_cursor.proofs.Above.{StandsAt, stands_at}
+use Rattle.ftl_sequence_cursor.specs.SequenceRest.{rest_up}
+use Rattle.ftl_sequence_cursor.proofs.Above.{stands_at}
 use Rattle.ftl_sequence_cursor.proofs.place.place_above.Goals as goal
 
 pub overflow_add-place : goal.overflow_add-place

@@ -1,4 +1,4 @@
-use Rattle.std.proofs.Common.{◌≡◌, List, [], ◌∷◌, sym, ◌∙◌, ap, subst}
+use Rattle.std.proofs.Common.{◌∷◌, ◌∙◌, ap, subst}
 use Rattle.ftl_steps.specs.declared.step.Step.{Step}
 use Rattle.ftl_tree_rows.proofs.Access.{number_at}
 use Rattle.ftl_sequence_cursor.specs.Places.{FitOps, grammar_of, node_of, tree_of}

@@ -1,4 +1,4 @@
-use Rattle.std.proofs.Common.{◌≡◌, ℕ, ◌++◌, ◌<◌, [], get_or, length, List, sym, ◌∙◌, ap, subst, arith}
+use Rattle.std.proofs.Common.{◌<◌, [], get_or, length, List, sym, ◌∙◌, ap, subst, arith}
 use Rattle.std.proofs.lemmas.List.{append-nil}
 use Rattle.ftl_dep_table.specs.Meant.{meant}
 use Rattle.ftl_inorder_visits.specs.InorderSteps.{inorder_steps}
@@ -37,7 +37,8 @@ invariant_of-result c =
     ∙ ap (λ (vs : List (List VisitOp)). get_or vs c.class.result []) c.requires.visits
     ∙ ap (λ n. get_or (visits_of g InOrder a) n []) c.class.ensures.class
     ∙ visit_in g a (class_at t top) (class_within g t fits 0 within) in
-    (c.requires.visits, record { node = within; ops = subst (FitOps g t top 0) (sym is) (visit_fits g t top a) })
+    let ops = subst (FitOps g t top 0) (sym is) (visit_fits g t top a) in
+    (record { visits = c.requires.visits; places = c.requires.places }, record { node = within; ops = ops })
 
 pub returns : goal.returns
 returns c =
