@@ -1,6 +1,6 @@
-//! The canonical text of a tree. Goes in: a tree of a checked grammar. Comes out: the text of the
-//! document in the canonical order that `ftl_document_faults/specs/WrittenOf.antt` defines, as
-//! `ftl_document_text` writes it. A law leads back: what is read of the text is the tree.
+//! The canonical text of a tree, that of its document in the canonical order, is read back: a law
+//! takes a checked grammar and a tree of it within the limits of documents, and says that the text
+//! has tokens, and that what is read of them is the tree. `specs/ReadBack.antt` says which trees.
 #![tactic(auto)]
 
 mod laws;
