@@ -5,9 +5,11 @@ use Rattle.ftl_base.specs.Widths.{greatest_of_width}
 use Rattle.ftl_base.specs.declared.width.Width.{Width}
 use Rattle.ftl_base.specs.declared.width.Width.TheVariants.{Narrow, Wide}
 use Rattle.ftl_dep_table.specs.Meant.{meant}
-use Rattle.ftl_document_faults.specs.DocumentLaws.{CountsInstances, IsWrittenRight, IsWrittenWithin, MeansItsTree, OfTrees}
+use Rattle.ftl_document_faults.specs.DocumentLaws.{CountsInstances, IsWrittenRight, IsWrittenWithin, MeansItsTree}
+use Rattle.ftl_document_faults.specs.DocumentLaws.{OfTrees}
 use Rattle.ftl_document_faults.specs.DocumentTree.{tree_of}
-use Rattle.ftl_document_faults.specs.FirstFault.{fault_if, first_fault, first_node_fault, first_there, instance_count_of}
+use Rattle.ftl_document_faults.specs.FirstFault.{fault_if, first_fault, first_node_fault, first_there}
+use Rattle.ftl_document_faults.specs.FirstFault.{instance_count_of}
 use Rattle.ftl_document_faults.specs.FirstFault.{too_many_instances}
 use Rattle.ftl_document_faults.specs.WrittenOf.{written_of}
 use Rattle.ftl_document_syntax.specs.Braces.{braces, deepest, most_nodes}
@@ -61,7 +63,9 @@ read_again laws c t lawful said can =
     let count : instance_count_of g node ≡ instance_count (meant c) t =
     laws.counts g greatest node ∙ ap (instance_count (meant c)) back in
     let few : nat_lt 33554432 (instance_count_of g node) ≡ false =
-    false_from_ne_true _ (λ more. absurd (let over = ltb-true 33554432 (instance_count_of g node) more in omega (arith, over, count, can.instances))) in
+    false_from_ne_true _ (λ more.
+    absurd
+    (let over = ltb-true 33554432 (instance_count_of g node) more in omega (arith, over, count, can.instances))) in
     record {
       tokens = text.tokens;
       scanned = text.scanned;

@@ -63,7 +63,8 @@ module _ (g : Grammar) (said : AreClassesSaid g) (greatest : ℕ) where
       inputs_said (input_names g k) inputs (child_fields (children_of g k) kids) class.inputs
       (children_said 0 (class_at g k).children kids class.children all)
 
-  kids_said : (above : ℕ) (f : Forest) → FitBelow (grammar_of greatest g) above f → AllByRecursion KidSaid (written_kids g f)
+  kids_said : (above : ℕ) (f : Forest) → FitBelow (grammar_of greatest g) above f
+      → AllByRecursion KidSaid (written_kids g f)
   kids_said above none fit = tt
   kids_said above (tree k child inputs below beside) fit = (
     ((said k fit.1.known).name, fields_said k inputs (written_kids g below) fit.1.known (kids_said k below fit.2)),
