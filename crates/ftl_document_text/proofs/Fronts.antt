@@ -1,5 +1,6 @@
 -- Tokens that are read as they were written in front of any others that are.
-use Rattle.std.proofs.Common.{◌≡◌, ℕ, zero, suc, true, List, [], ◌∷◌, ◌++◌, codes, ℤ, pos, negsuc, refl, sym, ◌∙◌, ap, subst, append_assoc, arith, lit<, None}
+use Rattle.std.proofs.Common.{◌≡◌, ℕ, zero, suc, true, List, [], ◌∷◌, ◌++◌, codes, ℤ, pos, negsuc, refl, sym, ◌∙◌, ap}
+use Rattle.std.proofs.Common.{subst, append_assoc, arith, lit<, None}
 use Rattle.std.specs.List.{list_all}
 use Rattle.std.specs.Str.{chars, IsAscii}
 use Rattle.std.proofs.lemmas.Bool.{and_left, and_parts}
@@ -32,7 +33,8 @@ apart token [] rest space = absurd space
 apart token (c ∷ cs) rest space =
     let ascii = white_ascii (c ∷ cs) space in
     let letters : chars ((c ∷ cs) ++ rest) ≡ c ∷ (cs ++ chars rest) =
-    chars-append (c ∷ cs) rest (IsUtf8-from_ascii (c ∷ cs) ascii) ∙ ap (λ l. l ++ chars rest) (chars-IsAscii (c ∷ cs) ascii) in
+    chars-append (c ∷ cs) rest (IsUtf8-from_ascii (c ∷ cs) ascii)
+    ∙ ap (λ l. l ++ chars rest) (chars-IsAscii (c ∷ cs) ascii) in
     subst (StandsApart token) (sym letters) (white_stands_apart token c (and_parts _ _ space).0)
 
 space_is_white : (gap : List ℕ) → IsSpace gap → list_all is_white_space gap ≡ true

@@ -1,5 +1,6 @@
 -- How many braces are open in the tokens of a document.
-use Rattle.std.proofs.Common.{◌≡◌, ℕ, zero, suc, ◌+◌, ◌≤◌, Bool, true, false, cond, [], ◌∷◌, ◌++◌, ℤ, refl, sym, ap, ◌∙◌, subst, append_assoc, arith}
+use Rattle.std.proofs.Common.{◌≡◌, ℕ, zero, suc, ◌+◌, ◌≤◌, Bool, true, false, cond, [], ◌∷◌, ◌++◌, ℤ, refl, sym, ap}
+use Rattle.std.proofs.Common.{◌∙◌, subst, append_assoc, arith}
 use Rattle.std.proofs.lemmas.List.Sums.{sum_by-cons}
 use Rattle.ftl_tokens.specs.declared.kind.Kind.{Kind}
 use Rattle.ftl_tokens.specs.declared.kind.Kind.TheVariants as kind
@@ -39,12 +40,14 @@ before : (t : Symbol) (opens closes : Bool) (n m : ℕ) (ts : Tokens) → is_amo
     → is_among braces.closing t ≡ closes → cond opens 1 0 + m ≤ cond closes 1 0 + n → Low m ts → Low n (t ∷ ts)
 before t opens closes n m ts o c few low = record { within = go }
   where
-    go : (front rest : Tokens) → t ∷ ts ≡ front ++ rest → count_of braces.opening front ≤ count_of braces.closing front + n
+    go : (front rest : Tokens) → t ∷ ts ≡ front ++ rest
+        → count_of braces.opening front ≤ count_of braces.closing front + n
     go [] rest e = omega arith
     go (u ∷ front) rest e =
         let same : u ≡ t = cc in
         let behind : ts ≡ front ++ rest = cc in
-        let seen = counts u front opens closes (ap (is_among braces.opening) same ∙ o) (ap (is_among braces.closing) same ∙ c) in
+        let seen = counts u front opens closes (ap (is_among braces.opening) same ∙ o)
+        (ap (is_among braces.closing) same ∙ c) in
         let few_behind = low.within front rest behind in
         omega (arith, few, few_behind, seen.0, seen.1)
 
@@ -104,7 +107,8 @@ mutual
       (subst (Low n) (sym (append_assoc a b rest)) (low_value s (b ++ rest) (low_fields t n few rest low)))
   low_fields (single_and {x = x} {class = class} {a = a} {b = b} s t) n few rest low =
       low_named x ((name class ∷ fixed kind.LeftBrace ∷ (a ++ (fixed kind.RightBrace ∷ b))) ++ rest)
-      (low_braces class a b rest n (omega (arith, few)) (λ m le more l. low_fields s m le more l) (low_fields t n (omega (arith, few)) rest low))
+      (low_braces class a b rest n (omega (arith, few)) (λ m le more l. low_fields s m le more l)
+      (low_fields t n (omega (arith, few)) rest low))
   low_fields (list_and {x = x} {a = a} {b = b} s t) n few rest low =
       low_named x (fixed kind.LeftBracket ∷ ((a ++ (fixed kind.RightBracket ∷ b)) ++ rest))
       (low_plain kind.LeftBracket ((a ++ (fixed kind.RightBracket ∷ b)) ++ rest) refl
@@ -116,7 +120,8 @@ mutual
       → (rest : Tokens) → Low n rest → Low n (a ++ rest)
   low_list none n few rest low = low
   low_list (node_more {class = class} {a = a} {b = b} s t) n few rest low =
-      low_braces class a b rest n (omega (arith, few)) (λ m le more l. low_fields s m le more l) (low_list t n (omega (arith, few)) rest low)
+      low_braces class a b rest n (omega (arith, few)) (λ m le more l. low_fields s m le more l)
+      (low_list t n (omega (arith, few)) rest low)
 
 pub low_document : (n : ℕ) (ts : Tokens) (node : WrittenNode) → SpellsNode ts node → levels_of node ≤ n → Low n ts
 low_document zero ts node (node_of s) few = absurd (omega (arith, few))

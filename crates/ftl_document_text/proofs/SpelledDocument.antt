@@ -41,7 +41,8 @@ module _ (greatest : ℕ) where
   close_front k is later ok = front-append greatest (mark_written k ∷ []) later (mark_front k is) ok
 
   mutual
-    fields_front : (f : WrittenFields) → AreFieldsSaid f → FieldsAreWithin greatest f → Fronts greatest (fields_written f)
+    fields_front : (f : WrittenFields) → AreFieldsSaid f → FieldsAreWithin greatest f
+        → Fronts greatest (fields_written f)
     fields_front no_fields said within = λ rest ok. ok
     fields_front (number_field x n later) said within =
         front-append greatest (field_opened x) (number_written n ++ fields_written later) (field_front x said.0)
@@ -98,7 +99,9 @@ mutual
       (sym (said-append (number_written n) (fields_written later)))
       (number_and (number_spells n) (fields_spell later))
   fields_spell (node_field x class fields later) =
-      subst (λ ts. SpellsFields (name x ∷ fixed kind.Equals ∷ name class ∷ fixed kind.LeftBrace ∷ ts) (node_field x class fields later))
+      subst
+      (λ ts. SpellsFields (name x ∷ fixed kind.Equals ∷ name class ∷ fixed kind.LeftBrace ∷ ts)
+      (node_field x class fields later))
       (sym (said-append (fields_written fields) (closed_by kind.RightBrace (fields_written later))))
       (single_and (fields_spell fields) (fields_spell later))
   fields_spell (list_field x nodes later) =

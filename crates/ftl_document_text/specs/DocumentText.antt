@@ -1,6 +1,6 @@
 -- The canonical text of a document: its tokens, each with the white space behind it. A node is its class, ` {`, its
--- fields, and ` }`. A field is a space, the name, ` = ` and the value. A list is `[`, for each node a space and the node,
--- and ` ]`. A negative number is `-` and its digits. The text ends with a line feed.
+-- fields, and ` }`. A field is a space, the name, ` = ` and the value. A list is `[`, for each node a space and the
+-- node, and ` ]`. A negative number is `-` and its digits. The text ends with a line feed.
 use Rattle.std.specs.Prelude.{◌≡◌, ℕ, suc, ℤ, pos, negsuc, List, [], ◌∷◌, ◌++◌, codes, Ok}
 use Rattle.ftl_tokens.specs.declared.kind.Kind.{Kind}
 use Rattle.ftl_tokens.specs.declared.kind.Kind.TheVariants as kind

@@ -27,8 +27,8 @@ pub fn write_open(out: &mut String, class: &Name) -> Result<(), AllocError>
     write_fixed(out, Kind::LeftBrace, " ")
 }
 
-/// Writes a mark that closes what was opened.
-pub fn write_close(out: &mut String, mark: Kind) -> Result<(), AllocError>
+/// Writes a mark and a space.
+pub fn write_mark(out: &mut String, mark: Kind) -> Result<(), AllocError>
     ensures text { OnOk result (string_bytes out.new
         ≡ string_bytes out.old ++ text_of (mark_written mark ∷ [])) }
 {

@@ -1,0 +1,3 @@
+mod SaidNames
+mod TreeSizes
+mod ReadAgain
