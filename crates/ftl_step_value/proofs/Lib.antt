@@ -1,0 +1,4 @@
+pub mod SpreadLaws
+pub mod StepRuleValues
+pub mod Folding
+pub mod PartRuns

@@ -1,0 +1,4 @@
+pub mod StepValue
+pub mod Spread
+pub mod SparseReads
+pub mod Sites
