@@ -1,0 +1,2 @@
+pub mod TakenSteps
+pub mod ItemVisits

@@ -1,0 +1,2 @@
+pub mod StageMeanings
+pub mod StageWords

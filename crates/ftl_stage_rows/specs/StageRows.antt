@@ -1,0 +1,20 @@
+-- What the rows of a stage hold.
+use Rattle.std.specs.Prelude.{◌≡◌, ℕ, List, map}
+use Rattle.ftl_item_rows.specs.RowsFit.{AreStarts}
+use Rattle.ftl_model.specs.AttributeGrammar.{AttributeGrammar}
+use Rattle.ftl_model.specs.Tree.{Forest}
+use Rattle.ftl_stages.specs.Stages.{pass_of}
+use Rattle.ftl_stages.specs.declared.types.Pass.{Pass}
+use Rattle.ftl_visit_list.specs.declared.visit_op.VisitOp.{VisitOp}
+use Rattle.ftl_visit_rows.specs.VisitRows.{visits_of}
+use Rattle.ftl_stage_rows.specs.declared.rows.StageRows.{StageRows}
+
+-- the visits of all classes in a pass
+abbrev pub pass_visits : AttributeGrammar → Pass → List (List VisitOp)
+pass_visits g pass = visits_of g pass.kind pass.attrs
+
+-- where the items of the passes begin, and the visits of each
+pub record AreStageRows (g : AttributeGrammar) (t : Forest) (grain : ℕ) (passes : List Pass) (rows : StageRows) :
+    Type 0 where
+  pub starts : AreStarts (map pass_of passes) t grain rows.starts.items
+  pub visits : rows.visits.items ≡ map (pass_visits g) passes
