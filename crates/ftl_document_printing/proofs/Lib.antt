@@ -1,3 +1,6 @@
 mod SaidNames
 mod TreeSizes
 mod ReadAgain
+mod KidLists
+mod InputFields
+mod Spots

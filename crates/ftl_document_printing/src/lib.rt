@@ -3,6 +3,10 @@
 //! `ftl_document_text` writes it. A law leads back: what is read of the text is the tree.
 #![tactic(auto)]
 
+mod inputs;
 mod laws;
+mod print;
+mod spot;
 
 pub use laws::printed_documents;
+pub use print::print_document;
