@@ -4,3 +4,4 @@ mod ReadAgain
 mod KidLists
 mod InputFields
 mod Spots
+mod Turns
