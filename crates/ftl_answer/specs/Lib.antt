@@ -1,0 +1,5 @@
+pub mod Stages
+pub mod Answer
+pub mod Texts
+pub mod Summary
+pub mod Answers

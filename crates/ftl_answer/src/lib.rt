@@ -1,0 +1,8 @@
+//! The answer to words and to the bytes of a page, as a definition without code.
+//! `specs/Answers.antt` builds it of stages, each of which ends with a refusal or hands a value on:
+//! words, page, tokens, grammar, schedule, document, reads, and the text of the command.
+#![tactic(auto)]
+
+mod laws;
+
+pub use laws::one_answer;
