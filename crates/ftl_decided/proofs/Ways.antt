@@ -1,8 +1,8 @@
 -- How the results of calls follow their stages.
-use Rattle.std.proofs.Common.{◌≢◌, inl, inr, refl, sym, subst, Result, Ok, Err}
+use Rattle.std.proofs.Common.{inl, inr, refl, sym, subst, Result, Ok, Err}
 use Rattle.ftl_answer.specs.Answer.{Answer}
 use Rattle.ftl_answer.specs.Stages.{Outcome, Stage, Then, ends, hands_on}
-use Rattle.ftl_decided.specs.Outcomes.{Ends, IsOutcome, Tells, answer_of}
+use Rattle.ftl_decided.specs.Outcomes.{Ends, IsOutcome, answer_of}
 use Rattle.ftl_decided.specs.declared.decision.Undecided.{Undecided}
 use Rattle.ftl_decided.specs.declared.decision.Undecided.TheVariants.{OutOfMemory, Refused}
 
@@ -20,13 +20,6 @@ pub may_end : {X Y : Type 0} (stage : Stage Y) (view : X → Y) (a : Answer) (u 
 may_end {Y = Y} stage view a (Refused d) is may = subst (λ (b : Answer). stage (ended Y b)) (sym is) may
 may_end stage view a OutOfMemory is may = tt
 
--- so where it may end with what is told of a fault
-pub may_tell : {X Y E : Type 0} (stage : Stage Y) (view : X → Y) (memory : E) (tell : E → Answer) (fault : E) (u : Undecided)
-    → Tells memory tell fault u → (fault ≢ memory → stage (ends (tell fault))) → IsOutcome stage view (failed X u)
-may_tell {Y = Y} stage view memory tell fault (Refused d) is may =
-    subst (λ (b : Answer). stage (ended Y b)) (sym is.1) (may is.0)
-may_tell stage view memory tell fault OutOfMemory is may = tt
-
 -- where the first of two stages ends, both end
 pub first_ends : {X Y Z W : Type 0} (first : Stage Y) (second : Y → Stage W) (view : X → Y) (seen : Z → W) (u : Undecided)
     → IsOutcome first view (failed X u) → IsOutcome (Then first second) seen (failed Z u)
@@ -36,6 +29,6 @@ first_ends first second view seen OutOfMemory may = tt
 -- where the first hands on a value, both come to what the second comes to with it
 pub then_second : {Y Z W : Type 0} (first : Stage Y) (second : Y → Stage W) (seen : Z → W) (y : Y) (r : Result Z Undecided)
     → first (hands_on y) → IsOutcome (second y) seen r → IsOutcome (Then first second) seen r
-then_second first second seen y (Ok z) may goes = inr (y, may, goes)
-then_second first second seen y (Err (Refused d)) may goes = inr (y, may, goes)
-then_second first second seen y (Err OutOfMemory) may goes = tt
+then_second first second seen y (Ok z) may then = inr (y, may, then)
+then_second first second seen y (Err (Refused d)) may then = inr (y, may, then)
+then_second first second seen y (Err OutOfMemory) may then = tt

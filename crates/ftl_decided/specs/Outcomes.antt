@@ -1,5 +1,5 @@
 -- When the result of a call is an outcome of a stage.
-use Rattle.std.specs.Prelude.{◌≡◌, ◌≢◌, Result, Ok, Err}
+use Rattle.std.specs.Prelude.{◌≡◌, Result, Ok, Err}
 use Rattle.ftl_answer.specs.Answer.{Answer}
 use Rattle.ftl_answer.specs.Stages.{Stage, ends, hands_on}
 use Rattle.ftl_decided.specs.declared.decision.Decided.{Decided}
@@ -14,11 +14,6 @@ answer_of d = record { status = d.status.0; text = d.text.items }
 abbrev pub Ends : Answer → Undecided → Type 0
 Ends a (Refused d) = answer_of d ≡ a
 Ends a OutOfMemory = Unit {0}
-
--- the end is what is told of the fault, which is another than want of memory, unless memory ran out
-abbrev pub Tells : {E : Type 0} → (memory : E) → (E → Answer) → (fault : E) → Undecided → Type 0
-Tells memory tell fault (Refused d) = (fault ≢ memory) × (answer_of d ≡ tell fault)
-Tells memory tell fault OutOfMemory = Unit {0}
 
 -- the stage may hand the value on, seen through view, or end with the answer, unless memory ran out
 abbrev pub IsOutcome : {X Y : Type 0} → Stage Y → (X → Y) → Result X Undecided → Type 0
