@@ -10,4 +10,4 @@ mod write;
 
 pub use laws::{canonical_documents, shallow_documents};
 pub use worked::canonical_texts_by_hand;
-pub use write::{write_mark, write_field, write_integer, write_open};
+pub use write::{write_field, write_integer, write_mark, write_open};
