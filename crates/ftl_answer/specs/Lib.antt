@@ -3,3 +3,4 @@ pub mod Answer
 pub mod Texts
 pub mod Summary
 pub mod Answers
+pub mod Worked

@@ -1,0 +1,15 @@
+-- The text computes, digits included.
+use Rattle.std.proofs.Common.{refl}
+use Rattle.std.specs.Fmt.{digits}
+use Rattle.ftl_answer.proofs.worked.worked_summaries.Goals as goal
+
+pub returns : goal.returns
+unfolding digits
+returns c = record {
+  two_pieces = refl;
+  overflows = refl;
+  sum = refl;
+  mix = refl;
+  last_place = refl;
+  next_place = refl;
+}
