@@ -18,6 +18,3 @@ pub use chain_item::ChainItem;
 pub use fault::ReadFault;
 pub use input::Input;
 pub use wide::WideInput;
-
-#[cfg(test)]
-mod tests;

@@ -7,8 +7,6 @@ mod fault;
 mod kind;
 mod laws;
 mod read;
-#[cfg(test)]
-mod tests;
 mod types;
 
 pub use fault::WrittenFault;
