@@ -70,7 +70,7 @@ by_length : (need : Need) (bytes : List ℕ) (p : Page) (b : Bool) → nat_lt 67
 by_length need bytes p true e is = absurd (end_is_no_value (refused 4 too_long_line) p (sym is))
 by_length need bytes p false e is = of_result need bytes p (ltb-false 67108864 (length bytes) e) (page_of bytes need) refl is
 
-page_read : (need : Need) (bytes : List ℕ) (p : Page) → page need bytes (hands_on p) → IsRead p
+pub page_read : (need : Need) (bytes : List ℕ) (p : Page) → page need bytes (hands_on p) → IsRead p
 page_read need bytes p is = by_length need bytes p (nat_lt 67108864 (length bytes)) refl is
 
 -- ---- tables

@@ -7,8 +7,12 @@ pub struct Status(pub u8);
 impl Status {
     /// What the command asked for.
     pub const DONE: Status = Status(0);
+    /// Writing failed.
+    pub const WRITE_FAULT: Status = Status(1);
     /// The words are no command.
     pub const BAD_WORDS: Status = Status(2);
+    /// Reading failed.
+    pub const READ_FAULT: Status = Status(3);
     /// The page was refused.
     pub const PAGE_REFUSED: Status = Status(4);
     /// The grammar was refused.
@@ -21,4 +25,6 @@ impl Status {
     pub const EDITS_REFUSED: Status = Status(10);
     /// What the command asked for, with Overflow among the shown values.
     pub const OVERFLOW: Status = Status(8);
+    /// Memory ran out.
+    pub const OUT_OF_MEMORY: Status = Status(9);
 }

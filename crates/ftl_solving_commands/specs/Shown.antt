@@ -1,0 +1,38 @@
+-- What is shown of a table, and when the result of a call is the end of a stage.
+use Rattle.std.specs.Prelude.{◌≡◌, ℕ, List, Result, Ok, Err}
+use Rattle.ftl_grammar_faults.specs.Checked.{CheckedGrammar}
+use Rattle.ftl_dep_table.specs.Meant.{meant}
+use Rattle.ftl_items.specs.WordLaws.{HoldTheSolution}
+use Rattle.ftl_model.specs.Table.{SolvesList}
+use Rattle.ftl_model.specs.Tree.{Forest}
+use Rattle.ftl_model.specs.TreeOf.{IsTreeOf}
+use Rattle.ftl_model.specs.Values.{Value}
+use Rattle.ftl_order.specs.Lawful.{IsLawful}
+use Rattle.ftl_tree.specs.CheckedTree.{CheckedTree}
+use Rattle.ftl_answer.specs.Answers.{boxes_of, summary_of}
+use Rattle.ftl_answer.specs.Stages.{Stage, ends}
+use Rattle.ftl_decided.specs.Outcomes.{answer_of}
+use Rattle.ftl_decided.specs.declared.decision.Decided.{Decided}
+use Rattle.ftl_decided.specs.declared.decision.Undecided.{Undecided}
+use Rattle.ftl_decided.specs.declared.decision.Undecided.TheVariants.{OutOfMemory, Refused}
+use Rattle.ftl_solving_commands.specs.declared.shown.Shown.{Shown}
+use Rattle.ftl_solving_commands.specs.declared.shown.Shown.TheVariants as shown
+
+-- the text of a table
+abbrev pub text_shown : Shown → CheckedGrammar → Forest → List Value → List ℕ
+text_shown shown.Boxes = boxes_of
+text_shown (shown.Summary name) = summary_of name
+
+-- the words are those of values that solve the tree
+pub record IsSolvedBy (t : CheckedTree) (words : List ℕ) : Type 0 where
+  pub law : IsLawful (meant t.checked)
+  pub is_tree : IsTreeOf (meant t.checked) t.tree
+  pub values : List Value
+  pub solves : SolvesList (meant t.checked) t.tree values
+  pub held : HoldTheSolution values words
+
+-- the stage may end with the answer, unless memory ran out
+abbrev pub EndsIn : Stage ⊥ → Result Decided Undecided → Type 0
+EndsIn stage (Ok d) = stage (ends (answer_of d))
+EndsIn stage (Err (Refused d)) = stage (ends (answer_of d))
+EndsIn stage (Err OutOfMemory) = Unit {0}
