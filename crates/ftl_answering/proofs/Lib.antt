@@ -1,3 +1,4 @@
 mod Statuses
 mod Bytes
 mod Tables
+mod Telling

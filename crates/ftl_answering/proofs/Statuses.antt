@@ -1,6 +1,6 @@
 -- No answer has the status of a fault or of want of memory.
 use Rattle.std.proofs.Common.{◌≡◌, inl, inr, sym, subst, ℕ, Bool, true, false, List, length, Option, Some, None, Result, Ok, Err, arith}
-use Rattle.std.specs.Prelude.{nat_lt, if◌then◌else◌}
+use Rattle.std.specs.Prelude.{codes, nat_lt, if◌then◌else◌}
 use Rattle.ftl_base.specs.Widths.{greatest_of_width}
 use Rattle.ftl_base.specs.declared.width.Width.{Width}
 use Rattle.ftl_boxes.specs.SamplePage.{sample_page_of}
@@ -32,7 +32,9 @@ use Rattle.ftl_refusals.specs.ScheduleLines.{schedule_line, stuck_line, verify_l
 use Rattle.ftl_refusals.specs.TextLines.{syntax_line, token_line}
 use Rattle.ftl_schedule_faults.specs.FirstFault as orders
 use Rattle.ftl_schedule_names.specs.declared.fault.ScheduleFault.TheVariants as schedules
+use Rattle.ftl_schedule_printing.specs.WrittenOf.{written_of}
 use Rattle.ftl_schedule_reading.specs.Read.{Answers}
+use Rattle.ftl_schedule_text.specs.ScheduleText.{schedule_text}
 use Rattle.ftl_stages.specs.Stages.{stages_of}
 use Rattle.ftl_stages.specs.declared.types.Schedule.{Schedule}
 use Rattle.ftl_syntax.specs.declared.rules.Grammar.{Grammar}
@@ -60,13 +62,13 @@ ended X a = ends a
 
 -- ---- statuses
 
-done : IsAnswered 0
+pub done : IsAnswered 0
 done = record { no_write_fault = λ e. omega (arith, e); no_read_fault = λ e. omega (arith, e); no_want = λ e. omega (arith, e) }
 
-bad_words : IsAnswered 2
+pub bad_words : IsAnswered 2
 bad_words = record { no_write_fault = λ e. omega (arith, e); no_read_fault = λ e. omega (arith, e); no_want = λ e. omega (arith, e) }
 
-bad_page : IsAnswered 4
+pub bad_page : IsAnswered 4
 bad_page = record { no_write_fault = λ e. omega (arith, e); no_read_fault = λ e. omega (arith, e); no_want = λ e. omega (arith, e) }
 
 bad_grammar : IsAnswered 5
@@ -209,10 +211,14 @@ of_solved bytes text =
 said : (told a : Answer) → Fine told → ended ⊥ a ≡ ends told → Fine a
 said told a fine is = same a told (same_end a told is) fine
 
-of_command : (c : Command) (bytes : List ℕ) (a : Answer) → obeyed c bytes (ends a) → Fine a
+pub of_command : (c : Command) (bytes : List ℕ) (a : Answer) → obeyed c bytes (ends a) → Fine a
 of_command (command.Run how) bytes = of_solved bytes boxes_of
-of_command command.Check bytes = of_rules rules_alone bytes _ (λ c s p a is. said _ a done is)
-of_command command.Schedule bytes = of_rules rules_alone bytes _ (λ c s p a is. said _ a done is)
+of_command command.Check bytes =
+    of_rules rules_alone bytes (λ c s p. Is (ends (answer 0 (codes "accepted\n"))))
+    (λ c s p a is. said (answer 0 (codes "accepted\n")) a done is)
+of_command command.Schedule bytes =
+    of_rules rules_alone bytes (λ c s p. Is (ends (answer 0 (schedule_text (written_of c.grammar s)))))
+    (λ c s p a is. said (answer 0 (schedule_text (written_of c.grammar s))) a done is)
 of_command (command.Sample pieces name how) bytes =
     two (Is (or_told (λ fault. refused 2 words_line) (sample_page_of name pieces))) (λ text. solved text (summary_of name))
     (result_told (λ fault. refused 2 words_line) (λ fault. bad_words) (sample_page_of name pieces))

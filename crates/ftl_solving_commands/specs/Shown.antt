@@ -1,13 +1,11 @@
 -- What is shown of a table, and when the result of a call is the end of a stage.
-use Rattle.std.specs.Prelude.{◌≡◌, ℕ, List, Result, Ok, Err}
+use Rattle.std.specs.Prelude.{ℕ, ◌<◌, List, length, slice_index_or, Result, Ok, Err}
 use Rattle.ftl_grammar_faults.specs.Checked.{CheckedGrammar}
 use Rattle.ftl_dep_table.specs.Meant.{meant}
 use Rattle.ftl_items.specs.WordLaws.{HoldTheSolution}
 use Rattle.ftl_model.specs.Table.{SolvesList}
 use Rattle.ftl_model.specs.Tree.{Forest}
-use Rattle.ftl_model.specs.TreeOf.{IsTreeOf}
-use Rattle.ftl_model.specs.Values.{Value}
-use Rattle.ftl_order.specs.Lawful.{IsLawful}
+use Rattle.ftl_model.specs.Values.{IsValue, Value, overflow}
 use Rattle.ftl_tree.specs.CheckedTree.{CheckedTree}
 use Rattle.ftl_answer.specs.Answers.{boxes_of, summary_of}
 use Rattle.ftl_answer.specs.Stages.{Stage, ends}
@@ -25,10 +23,9 @@ text_shown (shown.Summary name) = summary_of name
 
 -- the words are those of values that solve the tree
 pub record IsSolvedBy (t : CheckedTree) (words : List ℕ) : Type 0 where
-  pub law : IsLawful (meant t.checked)
-  pub is_tree : IsTreeOf (meant t.checked) t.tree
   pub values : List Value
   pub solves : SolvesList (meant t.checked) t.tree values
+  pub in_range : (i : ℕ) → i < length values → IsValue (slice_index_or values i overflow)
   pub held : HoldTheSolution values words
 
 -- the stage may end with the answer, unless memory ran out
