@@ -3,9 +3,10 @@ ghost use Rattle.std.specs.Prelude.{◌≡◌, ◌<◌, length, IfOk};
 ghost use Rattle.ftl_dep_table.specs.Meant.{meant};
 ghost use Rattle.ftl_items.specs.WordLaws.{first_words};
 ghost use Rattle.ftl_model.specs.Outcome.{Gives};
+ghost use Rattle.ftl_stage_laws.specs.StageMeanings.{CanBePlanned};
 ghost use Rattle.ftl_stages.specs.Stages.{stages_of};
 ghost use Rattle.ftl_plan.specs.Planned.{MayBePlanned, planned};
-ghost use Rattle.ftl_plan.specs.StageTables.{AreTablesOf};
+ghost use Rattle.ftl_plan.specs.StageTables.{AreTablesOf, stage_in};
 ghost use Rattle.ftl_plan_limits.specs.declared.fault.PlanFault.TheVariants.{OutOfMemory};
 
 use crate::sound::is_sound;
@@ -16,6 +17,7 @@ use ftl_item_cursor::ItemTables;
 use ftl_item_rows::{ItemRows, StageItems};
 use ftl_plan_limits::{PlanFault, ReadTables, first_fault};
 use ftl_programs::Programs;
+use ftl_stage::{StageParts, StageWork};
 use ftl_stage_rows::StageRows;
 use ftl_tree::Tree;
 use ftl_verify::Accepted;
@@ -108,8 +110,27 @@ impl<'a> Plan<'a> {
     /// How many stages the schedule has.
     pub fn stage_count(&self) -> u32
         ensures count { result ≡ length (stages_of self.now.schedule) }
+        ensures plan { CanBePlanned (meant self.now.checked) (stages_of self.now.schedule)
+            self.now.tree }
     {
+        let _nodes = self.tree.node_count();
+        let _cells = self.tree.instance_count();
         self.accepted.schedule().stages.len() as u32
+    }
+
+    /// The work of a stage. It borrows the plan, and takes no memory.
+    pub fn stage(&self, stage: u32) -> StageWork<'_>
+        requires stage { stage < length (stages_of self.now.schedule) }
+        ensures stage { result ≡ stage_in self.now stage }
+    {
+        let _stages = self.stage_count();
+        StageWork::new(StageParts {
+            accepted: self.accepted,
+            programs: self.programs,
+            read_tables: &self.tables,
+            item_tables: self.item_tables(stage),
+            stage,
+        })
     }
 
     /// The items of a stage, with what their steps are told by.
