@@ -26,7 +26,7 @@ use Rattle.ftl_step_cells.proofs.StepRules.{target_there}
 use Rattle.ftl_step_value.specs.StepValue.{value_of_step}
 use Rattle.ftl_steps.specs.Steps.{IsStepOf, target_of}
 use Rattle.ftl_steps.specs.declared.step.Step.{Step}
-use Rattle.ftl_stage.specs.StageParts.{IsStage, IsStepAt, grain_of, grammar_of, meaning_of, schedule_of, shape_of, steps_of, tree_of}
+use Rattle.ftl_stage.specs.StageParts.{IsStage, IsStepAt, StageView, grain_of, grammar_of, meaning_at, meaning_of, schedule_of, shape_of, steps_of, tree_of}
 use Rattle.ftl_stage.specs.declared.parts.StageParts.{StageParts}
 
 -- a function of the entries of a list
@@ -40,6 +40,15 @@ listed_map f xs d e =
     let within : i < length xs = omega (arith, below, long) in
     get_or-map-range_with_len (λ k. f (get_or xs k d)) 0 (length xs) i i e within (omega arith)
     ∙ sym (get_or-map f xs i d e within))
+
+-- the limits are those that the stage is known by
+pub most_reads : (v : StageView) → (meaning_at v).max_reads ≡ 1048576
+unfolding listed
+most_reads v = refl
+
+pub most_stack : (v : StageView) → (meaning_at v).max_stack ≡ v.max_stack
+unfolding listed
+most_stack v = refl
 
 module _ (w : StageParts) (fit : IsStage w) where
   abbrev g : AttributeGrammar
@@ -174,18 +183,14 @@ module _ (w : StageParts) (fit : IsStage w) where
       ]
       refl
 
-  module _ (solves : SolvesList g t (solution g t)) (i j : ℕ) (x : Step) (is : IsStepOfItem m i j)
-      (at : IsStepAt w i j x) where
-    pub values_are : solved_reads m i j ≡ map (value_in g t (solution g t)) (reads_of g t (target_of g t x))
+  module _ (solves : SolvesList g t (solution g t)) (x : Step) (is : IsStepOf g t x) where
+    pub values_are :
+        map (solution_at m) (read_cells g t x) ≡ map (value_in g t (solution g t)) (reads_of g t (target_of g t x))
     values_are =
-        ap (map (solution_at m)) (sym (reads_are i j x is at))
-        ∙ ap (λ f. map f (read_cells g t x)) (fun_ext (solution_is solves))
+        ap (λ f. map f (read_cells g t x)) (fun_ext (solution_is solves))
         ∙ map-map (λ c. get_or (solution g t) c overflow) (instance_number g t) (reads_of g t (target_of g t x))
 
-    pub value_is : value_of_step g t (value_in g t (solution g t)) x ≡ solution_at m (cell_of m i j)
+    pub value_is : value_of_step g t (value_in g t (solution g t)) x ≡ solution_at m (filled_cell g t x)
     value_is =
-        sym
-        (solves.solves (target_of g t x)
-        (target_there g fit.sound.law t fit.can.is_tree x at.is_step))
+        sym (solves.solves (target_of g t x) (target_there g fit.sound.law t fit.can.is_tree x is))
         ∙ sym (solution_is solves (filled_cell g t x))
-        ∙ ap (solution_at m) (target_is i j x is at)

@@ -5,7 +5,10 @@
 #![tactic(auto)]
 
 mod items;
+mod meant;
 mod parts;
 mod steps;
+mod work;
 
 pub use parts::StageParts;
+pub use work::StageWork;

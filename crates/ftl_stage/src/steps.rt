@@ -1,14 +1,17 @@
 //! The steps of a stage.
-ghost use Rattle.std.specs.Prelude.{◌≡◌, ◌<◌, ◌≤◌, length};
+ghost use Rattle.std.specs.Prelude.{◌≡◌, ◌<◌, ◌≤◌, length, map};
 ghost use Rattle.ftl_cells.specs.Work.{IsStepOfItem, read_of, read_total, solution_at};
 ghost use Rattle.ftl_cells.specs.Work.{solved_reads, target_of};
-ghost use Rattle.ftl_stage.specs.StageParts.{IsStage, meaning_of};
+ghost use Rattle.ftl_step_cells.specs.ReadCells.{filled_cell, read_cells};
+ghost use Rattle.ftl_steps.specs.Steps.{IsStepOf};
+ghost use Rattle.ftl_stage.specs.StageParts.{IsStage, grammar_of, meaning_of, tree_of};
 
 use crate::parts::StageParts;
 use ftl_base::{CodeStack, Val};
 use ftl_solution::solution_solves;
 use ftl_step_cells::{read_at, read_count, target_cell};
 use ftl_step_value::step_value;
+use ftl_steps::Step;
 
 impl<'a> StageParts<'a> {
     pub(crate) fn target(&self, item: u32, step: u32) -> u32
@@ -46,8 +49,23 @@ impl<'a> StageParts<'a> {
             (target_of (meaning_of self.now) item step) }
         ensures room { stack.new.room ≡ stack.old.room }
     {
+        self.value(self.step(item, step), reads, stack)
+    }
+
+    /// The value that a step gives, from those of the cells that it reads.
+    pub(crate) fn value(&self, step: Step, reads: &[Val], stack: &mut CodeStack) -> Val
+        requires fit { IsStage self.now }
+        requires step { IsStepOf (grammar_of self.now) (tree_of self.now) step }
+        requires reads { length reads.now
+            ≡ length (read_cells (grammar_of self.now) (tree_of self.now) step) }
+        requires room { self.now.programs.now.max_stack ≤ stack.old.room }
+        ensures value { reads.now ≡ map (solution_at (meaning_of self.now))
+            (read_cells (grammar_of self.now) (tree_of self.now) step)
+            → result ≡ solution_at (meaning_of self.now)
+            (filled_cell (grammar_of self.now) (tree_of self.now) step) }
+        ensures room { stack.new.room ≡ stack.old.room }
+    {
         solution_solves();
-        let step = self.step(item, step);
         step_value(
             self.programs,
             self.read_tables,
