@@ -1,4 +1,4 @@
-use Rattle.std.proofs.Common.{◌≡◌, ◌<◌, ◌∙◌, ap, get_or, length, subst, sym}
+use Rattle.std.proofs.Common.{◌<◌, ◌∙◌, ap, get_or, length, subst, sym}
 use Rattle.ftl_dep_table.specs.Meant.{meant}
 use Rattle.ftl_instance_reads.specs.ReadTables.{AreTables, IsSound}
 use Rattle.ftl_step_cells.specs.ReadCells.{read_cells}

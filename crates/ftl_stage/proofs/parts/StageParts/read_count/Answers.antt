@@ -1,4 +1,4 @@
-use Rattle.std.proofs.Common.{◌≡◌, ◌∙◌, ap, length, subst, sym}
+use Rattle.std.proofs.Common.{◌∙◌, ap, length, subst, sym}
 use Rattle.ftl_dep_table.specs.Meant.{meant}
 use Rattle.ftl_instance_reads.specs.ReadTables.{AreTables, IsSound}
 use Rattle.ftl_order.specs.Reads.{reads_of}

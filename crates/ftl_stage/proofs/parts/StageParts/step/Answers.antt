@@ -1,4 +1,4 @@
-use Rattle.std.proofs.Common.{◌≡◌, subst, sym}
+use Rattle.std.proofs.Common.{subst, sym}
 use Rattle.ftl_item_cursor.specs.ItemSteps.{steps_left}
 use Rattle.ftl_stage.specs.StageParts.{IsStepAt}
 use Rattle.ftl_stage.proofs.Bridge.{step_is, step_known}

@@ -10,7 +10,7 @@ step_count-requires c = record {
       (sym
       (count_is c.args.self.now c.requires.fit c.args.item (steps_left c.cursor.result) c.requires.item
       c.cursor.ensures.steps))
-      (c.items-_items.ensures.lawful.counted c.args.item c.requires.item).1;
+      (c.items-items.ensures.lawful.counted c.args.item c.requires.item).1;
 }
 
 pub returns : goal.returns

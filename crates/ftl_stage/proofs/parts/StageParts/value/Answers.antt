@@ -1,4 +1,5 @@
-use Rattle.std.proofs.Common.{◌≡◌, ◌∙◌, ap, length, length-map, map, subst, sym}
+use Rattle.std.proofs.Common.{◌≡◌, ◌∙◌, length, map, subst, sym}
+use Rattle.std.proofs.lemmas.List.{length-map}
 use Rattle.ftl_dep_table.specs.Meant.{meant}
 use Rattle.ftl_instance_reads.specs.ReadTables.{AreTables, IsSound}
 use Rattle.ftl_model.specs.Table.{instance_number, value_in}

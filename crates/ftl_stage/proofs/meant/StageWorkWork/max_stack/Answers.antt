@@ -1,7 +1,7 @@
 use Rattle.std.proofs.Common.{◌∙◌, ap, sym}
 use Rattle.ftl_stage.specs.StageParts.{StageView}
 use Rattle.ftl_stage.proofs.Bridge.{most_stack}
-use Rattle.ftl_stage.proofs.work.StageWorkWork.max_stack.Goals as goal
+use Rattle.ftl_stage.proofs.meant.StageWorkWork.max_stack.Goals as goal
 
 pub returns : goal.returns
 returns c = record {

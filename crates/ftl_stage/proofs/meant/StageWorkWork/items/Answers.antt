@@ -1,7 +1,7 @@
-use Rattle.std.proofs.Common.{◌≡◌, ◌∙◌, ap, subst}
+use Rattle.std.proofs.Common.{◌∙◌, ap, subst}
 use Rattle.ftl_cells.specs.Work.{IsLawfulWork, item_total}
 use Rattle.ftl_stage.specs.StageParts.{StageView, meaning_at}
-use Rattle.ftl_stage.proofs.work.StageWorkWork.items.Goals as goal
+use Rattle.ftl_stage.proofs.meant.StageWorkWork.items.Goals as goal
 
 pub returns : goal.returns
 returns c = record {

@@ -1,7 +1,7 @@
-use Rattle.std.proofs.Common.{◌≡◌, ◌<◌, ◌∙◌, ap, subst, sym}
+use Rattle.std.proofs.Common.{◌<◌, ◌∙◌, ap, subst, sym}
 use Rattle.ftl_cells.specs.Work.{cell_total, kind_at}
 use Rattle.ftl_stage.specs.StageParts.{StageView, meaning_at}
-use Rattle.ftl_stage.proofs.work.StageWorkWork.cell_kind.Goals as goal
+use Rattle.ftl_stage.proofs.meant.StageWorkWork.cell_kind.Goals as goal
 
 pub kind-requires-clause-cell : goal.kind-requires-clause-cell
 kind-requires-clause-cell c = subst (λ (v : StageView). c.args.cell < cell_total (meaning_at v)) (sym c.self.view_is) c.requires.cell

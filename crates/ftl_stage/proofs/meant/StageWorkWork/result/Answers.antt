@@ -2,7 +2,7 @@ use Rattle.std.proofs.Common.{◌≡◌, ◌≤◌, ◌∙◌, ap, length, subst
 use Rattle.ftl_cells.specs.Work.{IsStepOfItem, read_total, solution_at, solved_reads, target_of}
 use Rattle.ftl_stage.proofs.Bridge.{most_stack}
 use Rattle.ftl_stage.specs.StageParts.{StageView, meaning_at}
-use Rattle.ftl_stage.proofs.work.StageWorkWork.result.Goals as goal
+use Rattle.ftl_stage.proofs.meant.StageWorkWork.result.Goals as goal
 
 pub result-requires-clause-step : goal.result-requires-clause-step
 result-requires-clause-step c = subst (λ (v : StageView). IsStepOfItem (meaning_at v) c.args.item c.args.step) (sym c.self.view_is) c.requires.step

@@ -1,7 +1,7 @@
-use Rattle.std.proofs.Common.{◌≡◌, ◌∙◌, ap}
+use Rattle.std.proofs.Common.{◌∙◌, ap}
 use Rattle.ftl_cells.specs.Work.{cell_total}
 use Rattle.ftl_stage.specs.StageParts.{StageView, meaning_at}
-use Rattle.ftl_stage.proofs.work.StageWorkWork.cells.Goals as goal
+use Rattle.ftl_stage.proofs.meant.StageWorkWork.cells.Goals as goal
 
 pub returns : goal.returns
 returns c = record {

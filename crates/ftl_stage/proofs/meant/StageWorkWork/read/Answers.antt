@@ -1,7 +1,7 @@
-use Rattle.std.proofs.Common.{◌≡◌, ◌<◌, ◌∙◌, ap, subst, sym}
+use Rattle.std.proofs.Common.{◌<◌, ◌∙◌, ap, subst, sym}
 use Rattle.ftl_cells.specs.Work.{IsStepOfItem, read_of, read_total}
 use Rattle.ftl_stage.specs.StageParts.{StageView, meaning_at}
-use Rattle.ftl_stage.proofs.work.StageWorkWork.read.Goals as goal
+use Rattle.ftl_stage.proofs.meant.StageWorkWork.read.Goals as goal
 
 pub read-requires-clause-step : goal.read-requires-clause-step
 read-requires-clause-step c = subst (λ (v : StageView). IsStepOfItem (meaning_at v) c.args.item c.args.step) (sym c.self.view_is) c.requires.step
