@@ -1,7 +1,6 @@
 //! A stage of a plan as lawful work. Goes in: what a plan keeps for a stage, `StageParts`. Comes
 //! out: `StageWork`, which means what `ftl_stage_laws` says that the stage means;
-//! `specs/StageParts.antt` says what it is made of. Stages with an inorder pass are not among them
-//! yet.
+//! `specs/StageParts.antt` says what it is made of.
 #![tactic(auto)]
 
 mod items;
