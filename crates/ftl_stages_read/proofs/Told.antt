@@ -1,9 +1,10 @@
 -- What is handed on, and what is told of faults.
-use Rattle.std.proofs.Common.{◌≡◌, ◌≢◌, sym, ap, subst, Option, Some, None, Result, Ok, Err}
+use Rattle.std.proofs.Common.{◌≡◌, ◌≢◌, refl, sym, ◌∙◌, ap, subst, Option, Some, None, Result, Ok, Err}
 use Rattle.ftl_base.specs.declared.width.Width.{Width}
 use Rattle.ftl_syntax.specs.declared.rules.Grammar.{Grammar}
 use Rattle.ftl_grammar_faults.specs.Checked.{CheckedGrammar, answer_by}
 use Rattle.ftl_grammar_faults.specs.declared.fault.GrammarFault.{GrammarFault}
+use Rattle.ftl_programs.specs.Compilable.{HasCode}
 use Rattle.ftl_answer.specs.Answer.{Answer}
 use Rattle.ftl_answer.specs.Stages.{Outcome, Stage, ends, hands_on, unless}
 use Rattle.ftl_answer.specs.Texts.{checked_grammar}
@@ -32,6 +33,19 @@ pub grammar_handed : (tell : GrammarFault → Answer) (o : Option GrammarFault) 
     → answer_by o g w ≡ Ok c → hands_on c ≡ unless tell o (checked_grammar w g)
 grammar_handed tell None w g c e = ap hands_on cc
 grammar_handed tell (Some x) w g c e = absurd cc
+
+-- its code is kept
+abbrev grammar_or : Grammar → Result CheckedGrammar GrammarFault → Grammar
+grammar_or g (Ok c) = c.grammar
+grammar_or g (Err x) = g
+
+same_grammar : (o : Option GrammarFault) (w : Width) (g : Grammar) → grammar_or g (answer_by o g w) ≡ g
+same_grammar None w g = refl
+same_grammar (Some x) w g = refl
+
+pub code_kept : (o : Option GrammarFault) (w : Width) (g : Grammar) (c : CheckedGrammar)
+    → answer_by o g w ≡ Ok c → HasCode g → HasCode c.grammar
+code_kept o w g c is code = subst HasCode (sym (same_grammar o w g) ∙ ap (grammar_or g) is) code
 
 -- its fault is told
 pub grammar_told : (tell : GrammarFault → Answer) (o : Option GrammarFault) (w : Width) (g : Grammar) (x : GrammarFault)

@@ -28,7 +28,8 @@ pub(crate) fn within_limits<'a>(
 ) -> Result<Tree<'a>, Undecided>
     requires few { length (stages_of accepted.now) ≤ 2048 }
     requires grammar { tree.checked ≡ checked.now }
-    ensures outcome { IsOutcome (planned_tree checked.now accepted.now tree.tree) (λ t. t.tree) result }
+    ensures outcome { IsOutcome (planned_tree checked.now accepted.now tree.entry.tree)
+        (λ t. t.tree) result }
     ensures grammar { IfOk result (λ t. t.checked ≡ checked.now) }
 {
     match fault_of(alloc, checked, accepted, &tree)? {
