@@ -1,11 +1,11 @@
 //! The stages of a page that is solved.
 
-ghost use Rattle.std.specs.Prelude.{◌≡◌, ◌≢◌, ◌≤◌, length, None, string_bytes, string_len, IfOk, IfSome};
+ghost use Rattle.std.specs.Prelude.{◌≡◌, ◌≤◌, length, None, string_bytes, string_len, IfOk, IfSome};
 ghost use Rattle.ftl_answer.specs.Answer as answer;
-ghost use Rattle.ftl_answer.specs.Answers.{shown_by, solved, text_or_none};
-ghost use Rattle.ftl_answer.specs.Stages.{Then, ends};
-ghost use Rattle.ftl_answer.specs.Texts.{schedule, tree};
-ghost use Rattle.ftl_decided.specs.Outcomes.{answer_of};
+ghost use Rattle.ftl_answer.specs.Answers.{shown_by, solved, text_or_none, whole_page};
+ghost use Rattle.ftl_answer.specs.Stages.{ends};
+ghost use Rattle.ftl_answer.specs.Texts.{page};
+ghost use Rattle.ftl_decided.specs.Outcomes.{IsOutcome, answer_of};
 ghost use Rattle.ftl_dep_table.specs.Meant.{meant};
 ghost use Rattle.ftl_order.specs.Ordered.{IsOrdered};
 ghost use Rattle.ftl_page.specs.Texts.{HasTextsUpTo};
@@ -20,9 +20,11 @@ ghost use Rattle.ftl_solving_commands.specs.Told.{told_of_grammar, told_of_page,
 use crate::shown::{Shown, shown};
 use ftl_checked::Checked;
 use ftl_decided::{Decided, Status, Undecided, read_page};
+use ftl_order::{reads_end_by_rank, values_are_in_range};
 use ftl_page::{Need, Page, Text};
 use ftl_plan::{Plan, PlanFault};
 use ftl_schedule_stage::schedule_of;
+use ftl_solution::solution_solves;
 use ftl_solve::solve_alone;
 use ftl_stages_read::{grammar_of, tree_of};
 use ftl_tree::Tree;
@@ -199,8 +201,21 @@ fn words_of(
     let programs = compile(alloc, checked)?;
     let grain = grain.clamp(1, 1_048_576);
     match Plan::new(alloc, checked, accepted, &programs, tree, grain) {
-        Ok(plan) => solve_alone(alloc, &plan),
+        Ok(plan) => solved_words(alloc, &plan, tree),
         Err(PlanFault::OutOfMemory) => Err(AllocError),
         Err(_) => unreachable!(),
     }
+}
+
+/// The words of the values that solve the tree of a plan.
+fn solved_words(alloc: Global, plan: &Plan<'_>, tree: &Tree<'_>) -> Result<Vec<u64>, AllocError>
+    requires grammar { tree.now.checked ≡ plan.now.checked }
+    requires tree { tree.now.tree ≡ plan.now.tree }
+    ensures solved { IfOk result (λ v. IsSolvedBy tree.now v.items) }
+{
+    solution_solves();
+    values_are_in_range();
+    reads_end_by_rank();
+    let _can_be_planned = plan.stage_count();
+    solve_alone(alloc, plan)
 }

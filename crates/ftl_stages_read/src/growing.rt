@@ -1,14 +1,16 @@
 //! The tree of a text.
 
-ghost use Rattle.std.specs.Prelude.{◌≡◌, ◌≤◌, length, string_bytes, string_len, IfOk};
+ghost use Rattle.std.specs.Prelude.{◌≡◌, ◌≤◌, length, None, string_bytes, string_len, IfOk};
 ghost use Rattle.ftl_answer.specs.Answer as answer;
 ghost use Rattle.ftl_answer.specs.Stages.{Then};
 ghost use Rattle.ftl_answer.specs.Texts.{planned_tree, spelled_tree, tokens, tree};
 ghost use Rattle.ftl_base.specs.Widths.{greatest_of_width};
 ghost use Rattle.ftl_decided.specs.Outcomes.{IsOutcome};
 ghost use Rattle.ftl_stages_read.specs.Telling.{Tells};
+ghost use Rattle.ftl_dep_table.specs.Meant.{meant};
 ghost use Rattle.ftl_document_faults.specs.declared.fault.DocFault.TheVariants as faults;
 ghost use Rattle.ftl_page.specs.declared.fault.Section.TheVariants as section;
+ghost use Rattle.ftl_plan_limits.specs.PlanFaults.{first_fault};
 ghost use Rattle.ftl_refusals.specs.DocumentLines.{document_line};
 ghost use Rattle.ftl_stages.specs.Stages.{stages_of};
 
@@ -18,7 +20,7 @@ use ftl_checked::Checked;
 use ftl_decided::{Status, Undecided, refused, tokens_refused};
 use ftl_document::read_document;
 use ftl_document_faults::DocFault;
-use ftl_page::{Section, Text};
+use ftl_page::Section;
 use ftl_refusals::write_document_fault;
 use ftl_tokens::{TokenFault, WideScanned, document_tokens};
 use ftl_tree::Tree;
@@ -30,14 +32,18 @@ pub fn tree_of<'a>(
     alloc: Global,
     checked: &'a Checked,
     accepted: &Accepted,
-    text: Text,
+    text: String,
 ) -> Result<Tree<'a>, Undecided>
-    requires short { length text ≤ 67108864 }
+    requires short { string_len text ≤ 67108864 }
     requires few { length (stages_of accepted.now) ≤ 2048 }
-    ensures outcome { IsOutcome (tree checked.now accepted.now text) (λ t. t.tree) result }
+    ensures outcome { IsOutcome (tree checked.now accepted.now (string_bytes text))
+        (λ t. t.tree) result }
     ensures grammar { IfOk result (λ t. t.checked ≡ checked.now) }
+    // what a plan of it asks for
+    ensures fits { IfOk result (λ t. first_fault (meant checked.now) (stages_of accepted.now)
+        t.tree ≡ None) }
 {
-    match scanned_document(alloc, checked.width(), text.into_string()) {
+    match scanned_document(alloc, checked.width(), text) {
         Ok(scanned) => tree_of_tokens(alloc, checked, accepted, &scanned),
         Err(end) => Err(end),
     }
@@ -79,6 +85,8 @@ fn tree_of_tokens<'a>(
     ensures outcome { IsOutcome (Then (spelled_tree checked.now scanned.now)
         (λ t. planned_tree checked.now accepted.now t.tree)) (λ t. t.tree) result }
     ensures grammar { IfOk result (λ t. t.checked ≡ checked.now) }
+    ensures fits { IfOk result (λ t. first_fault (meant checked.now) (stages_of accepted.now)
+        t.tree ≡ None) }
 {
     match read_document(alloc, checked, scanned) {
         Ok(tree) => within_limits(alloc, checked, accepted, tree),

@@ -1,6 +1,6 @@
 //! How much the stages of a tree read.
 
-ghost use Rattle.std.specs.Prelude.{◌≡◌, ◌≤◌, length, IfOk};
+ghost use Rattle.std.specs.Prelude.{◌≡◌, ◌≤◌, length, None, IfOk};
 ghost use Rattle.ftl_answer.specs.Answer as answer;
 ghost use Rattle.ftl_answer.specs.Texts.{planned_tree};
 ghost use Rattle.ftl_decided.specs.Outcomes.{Ends, IsOutcome};
@@ -31,6 +31,8 @@ pub(crate) fn within_limits<'a>(
     ensures outcome { IsOutcome (planned_tree checked.now accepted.now tree.entry.tree)
         (λ t. t.tree) result }
     ensures grammar { IfOk result (λ t. t.checked ≡ checked.now) }
+    ensures fits { IfOk result (λ t. first_fault (meant checked.now) (stages_of accepted.now)
+        t.tree ≡ None) }
 {
     match fault_of(alloc, checked, accepted, &tree)? {
         Some(fault) => Err(plan_refused(alloc, fault)),
