@@ -1,5 +1,5 @@
 -- What is handed on, and what is told of faults.
-use Rattle.std.proofs.Common.{◌≡◌, ◌≢◌, sym, ap, subst, Option, Some, None, Result, Ok, Err}
+use Rattle.std.proofs.Common.{◌≡◌, ◌≢◌, refl, sym, ap, subst, Option, Some, None, Result, Ok, Err}
 use Rattle.ftl_schedule_faults.specs.declared.fault.VerifyFault.{VerifyFault}
 use Rattle.ftl_stages.specs.declared.types.Schedule.{Schedule}
 use Rattle.ftl_spots.specs.Placed.{verdict}
@@ -35,6 +35,11 @@ schedule_handed tell (Some x) s t e = absurd cc
 pub same_schedule : (o : Option VerifyFault) (s t : Schedule) → verdict o s ≡ Ok t → s ≡ t
 same_schedule None s t e = cc
 same_schedule (Some x) s t e = absurd cc
+
+-- it has no fault
+pub no_fault : (o : Option VerifyFault) (s t : Schedule) → verdict o s ≡ Ok t → o ≡ None
+no_fault None s t e = refl
+no_fault (Some x) s t e = absurd cc
 
 -- its fault is told
 pub schedule_told : (tell : VerifyFault → Answer) (o : Option VerifyFault) (s : Schedule) (x : VerifyFault)

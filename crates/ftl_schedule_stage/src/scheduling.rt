@@ -4,7 +4,9 @@ ghost use Rattle.std.specs.Prelude.{◌≤◌, length, IfOk, IfSome};
 ghost use Rattle.ftl_answer.specs.Texts.{schedule};
 ghost use Rattle.ftl_decided.specs.Outcomes.{IsOutcome};
 ghost use Rattle.ftl_dep_table.specs.Meant.{meant};
+ghost use Rattle.ftl_order.specs.Ordered.{IsOrdered};
 ghost use Rattle.ftl_schedule_faults.specs.FaultLaws.{AreComputed};
+ghost use Rattle.ftl_schedule_stage.specs.Small.{IsSmall};
 ghost use Rattle.ftl_stages.specs.Stages.{stages_of};
 
 use crate::automatic::automatic_schedule;
@@ -26,6 +28,9 @@ pub fn schedule_of(
 
     // what printing it asks for
     ensures computed { IfOk result (λ s. AreComputed (meant checked.now) (stages_of s)) }
+    // what a plan of it asks for
+    ensures ordered { IfOk result (λ s. IsOrdered (meant checked.now) (stages_of s)) }
+    ensures small { IfOk result (λ s. IsSmall (stages_of s)) }
 {
     match text {
         None => automatic_schedule(alloc, checked),
