@@ -1,5 +1,5 @@
 -- What is shown of a table, and when the result of a call is the end of a stage.
-use Rattle.std.specs.Prelude.{ℕ, ◌<◌, List, length, slice_index_or, Result, Ok, Err}
+use Rattle.std.specs.Prelude.{ℕ, ◌<◌, List, length, slice_index_or}
 use Rattle.ftl_grammar_faults.specs.Checked.{CheckedGrammar}
 use Rattle.ftl_dep_table.specs.Meant.{meant}
 use Rattle.ftl_items.specs.WordLaws.{HoldTheSolution}
@@ -8,11 +8,6 @@ use Rattle.ftl_model.specs.Tree.{Forest}
 use Rattle.ftl_model.specs.Values.{IsValue, Value, overflow}
 use Rattle.ftl_tree.specs.CheckedTree.{CheckedTree}
 use Rattle.ftl_answer.specs.Answers.{boxes_of, summary_of}
-use Rattle.ftl_answer.specs.Stages.{Stage, ends}
-use Rattle.ftl_decided.specs.Outcomes.{answer_of}
-use Rattle.ftl_decided.specs.declared.decision.Decided.{Decided}
-use Rattle.ftl_decided.specs.declared.decision.Undecided.{Undecided}
-use Rattle.ftl_decided.specs.declared.decision.Undecided.TheVariants.{OutOfMemory, Refused}
 use Rattle.ftl_solving_commands.specs.declared.shown.Shown.{Shown}
 use Rattle.ftl_solving_commands.specs.declared.shown.Shown.TheVariants as shown
 
@@ -27,9 +22,3 @@ pub record IsSolvedBy (t : CheckedTree) (words : List ℕ) : Type 0 where
   pub solves : SolvesList (meant t.checked) t.tree values
   pub in_range : (i : ℕ) → i < length values → IsValue (slice_index_or values i overflow)
   pub held : HoldTheSolution values words
-
--- the stage may end with the answer, unless memory ran out
-abbrev pub EndsIn : Stage ⊥ → Result Decided Undecided → Type 0
-EndsIn stage (Ok d) = stage (ends (answer_of d))
-EndsIn stage (Err (Refused d)) = stage (ends (answer_of d))
-EndsIn stage (Err OutOfMemory) = Unit {0}

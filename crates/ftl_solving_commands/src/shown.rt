@@ -2,13 +2,11 @@
 
 ghost use Rattle.std.specs.Prelude.{◌≡◌, IfOk, if◌then◌else◌};
 ghost use Rattle.ftl_answer.specs.Answers.{shown_by};
+ghost use Rattle.ftl_answer.specs.Stages.{ends};
 ghost use Rattle.ftl_decided.specs.Outcomes.{answer_of};
-ghost use Rattle.ftl_dep_table.specs.Meant.{meant};
-ghost use Rattle.ftl_items.specs.WordLaws.{HoldTheSolution};
-ghost use Rattle.ftl_model.specs.Table.{SolvesList};
-ghost use Rattle.ftl_solving_commands.specs.Shown.{EndsIn, IsSolvedBy, text_shown};
+ghost use Rattle.ftl_solving_commands.specs.Shown.{IsSolvedBy, text_shown};
 
-use ftl_box_text::{print_boxes, shows_overflow};
+use ftl_box_text::{print_boxes, shows_overflow, words_are_undone};
 use ftl_decided::{Decided, Status};
 use ftl_summary_text::print_summary;
 use ftl_tokens::Name;
@@ -35,10 +33,11 @@ pub(crate) fn shown(
     ensures outcome { IfOk result (λ d. shown_by (text_shown shown.now) tree.now.checked
         tree.now.tree (ends (answer_of d))) }
 {
+    words_are_undone();
     let status = status_by(shows_overflow(alloc, tree, words)?);
     let text = match shown {
         Shown::Boxes => print_boxes(alloc, tree, words)?,
-        Shown::Summary(name) => print_summary(alloc, name.text(), tree, words)?,
+        Shown::Summary(name) => print_summary(alloc, name.text().as_bytes(), tree, words)?,
     };
     Ok(Decided { status, text })
 }

@@ -12,9 +12,10 @@ ghost use Rattle.ftl_page.specs.Texts.{HasTextsUpTo};
 ghost use Rattle.ftl_plan_limits.specs.PlanFaults.{first_fault};
 ghost use Rattle.ftl_programs.specs.Compilable.{HasCode};
 ghost use Rattle.ftl_refusals.specs.PageLines.{words_line};
+ghost use Rattle.ftl_rules_commands.specs.Asked.{EndsIn};
 ghost use Rattle.ftl_schedule_stage.specs.Small.{IsSmall};
 ghost use Rattle.ftl_stages.specs.Stages.{stages_of};
-ghost use Rattle.ftl_solving_commands.specs.Shown.{EndsIn, IsSolvedBy, text_shown};
+ghost use Rattle.ftl_solving_commands.specs.Shown.{IsSolvedBy, text_shown};
 ghost use Rattle.ftl_solving_commands.specs.Told.{told_of_grammar, told_of_page, told_of_schedule};
 
 use crate::shown::{Shown, shown};

@@ -1,4 +1,4 @@
-use Rattle.std.proofs.Common.{◌≡◌, ℕ, List, string_bytes, ◌∙◌, ap, subst}
+use Rattle.std.proofs.Common.{◌≡◌, ℕ, string_bytes, ◌∙◌, ap, subst}
 use Rattle.ftl_base.specs.Widths.{greatest_of_width}
 use Rattle.ftl_base.specs.declared.width.Width.{Width}
 use Rattle.ftl_model.specs.Tree.{Forest}
@@ -19,12 +19,10 @@ returns-in-Ok-clause-outcome c =
     λ greatest scanned. Then (spelled_tree k (wide greatest scanned)) (λ t. planned_tree k s t.tree) in
     let width : greatest_of_width c.width.result ≡ greatest_of_width k.width =
     ap (λ (w : Width). greatest_of_width w) c.width.ensures.width in
-    let first : tokens section.Document (greatest_of_width k.width) c.args.text (hands_on y) =
-    subst (λ (text : List ℕ). tokens section.Document (greatest_of_width k.width) text (hands_on y))
-    c.into_string.ensures.text
-    (subst (λ n. tokens section.Document n (string_bytes c.into_string.result) (hands_on y)) width
-    c.in-Ok.ensures.outcome) in
-    then_second (tokens section.Document (greatest_of_width k.width) c.args.text) (after (greatest_of_width k.width))
+    let text = string_bytes c.args.text in
+    let first : tokens section.Document (greatest_of_width k.width) text (hands_on y) =
+    subst (λ n. tokens section.Document n text (hands_on y)) width c.in-Ok.ensures.outcome in
+    then_second (tokens section.Document (greatest_of_width k.width) text) (after (greatest_of_width k.width))
     (λ t. t.tree) y c.tree_of_tokens.result first
     (subst (λ n. IsOutcome (after n y) (λ t. t.tree) c.tree_of_tokens.result) (c.in-Ok.ensures.greatest ∙ width)
     c.tree_of_tokens.ensures.outcome)
