@@ -5,3 +5,4 @@ pub mod Changed
 pub mod SameRows
 pub mod InputSet
 pub mod OneInput
+pub mod BareInputs

@@ -12,7 +12,9 @@ mod laws;
 mod runs;
 mod tree;
 mod widths;
+mod zeroed;
 
 pub use ftl_tree_rows::{NodeRow, Place};
-pub use laws::{one_input_changes, second_word_is_wider};
+pub use laws::{one_input_changes, second_word_is_wider, two_bare_words};
 pub use tree::Tree;
+pub use zeroed::bare_tree;
