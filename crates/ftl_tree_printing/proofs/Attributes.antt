@@ -1,5 +1,6 @@
 -- The attributes of a class by number, and the field of one of them.
-use Rattle.std.proofs.Common.{◌≡◌, ℕ, suc, ◌+◌, ◌<◌, Bool, true, false, if◌then◌else◌, List, [], ◌∷◌, ◌++◌, length, get_or, map, flat_map, Contains, ℤ, refl, sym, ◌∙◌, ap, ap₂, ⊎_elim, arith}
+use Rattle.std.proofs.Common.{◌≡◌, ℕ, suc, ◌+◌, ◌<◌, Bool, true, false, if◌then◌else◌, List, [], ◌∷◌, ◌++◌, length}
+use Rattle.std.proofs.Common.{get_or, map, flat_map, Contains, ℤ, refl, sym, ◌∙◌, ap, ap₂, ⊎_elim, arith}
 use Rattle.std.specs.Prelude.{Err, Ok, OnOk, Result}
 use Rattle.std.specs.List.{range_with_len}
 use Rattle.std.proofs.lemmas.List.{append-nil, get_or-map, length-map, map-append}
@@ -9,7 +10,8 @@ use Rattle.std.proofs.lemmas.Grind.{flat_map-append}
 use Rattle.ftl_dep_table.specs.Meant.{meant}
 use Rattle.ftl_document_syntax.specs.Written.{NameText}
 use Rattle.ftl_document_text.specs.DocumentText.{field_opened, number_written}
-use Rattle.ftl_grammar_faults.specs.Checked.{CheckedGrammar, Declared, all_attributes, attribute_at, attribute_info, declared}
+use Rattle.ftl_grammar_faults.specs.Checked.{CheckedGrammar, Declared, all_attributes, attribute_at, attribute_info}
+use Rattle.ftl_grammar_faults.specs.Checked.{declared}
 use Rattle.ftl_grammar_faults.specs.declared.info.AttrInfo.{AttrInfo}
 use Rattle.ftl_grammar_faults.specs.Numbering.{numbered}
 use Rattle.ftl_grammar_tables.proofs.AttrInfos.{attribute_count_is}
@@ -132,7 +134,8 @@ pub attributes_at : (t : CheckedTree) (attrs : List (List ℕ)) (k : ℕ) (d : L
     → k < length t.checked.grammar.classes → get_or attrs k d ≡ attributes_of (meant t.checked) k
 attributes_at t attrs k d are known =
     let m = meant t.checked in
-    let within : k < length (range_with_len 0 m.class_count) = omega (arith, known, length-range_with_len 0 m.class_count) in
+    let within : k < length (range_with_len 0 m.class_count) = omega
+    (arith, known, length-range_with_len 0 m.class_count) in
     ap (λ xs. get_or xs k d) are
     ∙ get_or-map (attributes_of m) (range_with_len 0 m.class_count) k 0 d within
     ∙ ap (attributes_of m) (get_or-range_with_len 0 m.class_count k 0 known ∙ (let z : 0 + k ≡ k = omega arith in z))
@@ -141,4 +144,5 @@ pub table_length : (t : CheckedTree) (attrs : List (List ℕ)) → IsAttributeTa
     → length attrs ≡ length t.checked.grammar.classes
 table_length t attrs are =
     let m = meant t.checked in
-    ap length are ∙ length-map (range_with_len 0 m.class_count) (attributes_of m) ∙ length-range_with_len 0 m.class_count
+    ap length are ∙ length-map (range_with_len 0 m.class_count) (attributes_of m)
+    ∙ length-range_with_len 0 m.class_count

@@ -1,5 +1,6 @@
 -- The fields of a node's inputs, attribute by attribute.
-use Rattle.std.proofs.Common.{◌≡◌, ℕ, Bool, true, false, if◌then◌else◌, List, [], ◌∷◌, ◌++◌, length, map, filter, flat_map, get_or, Contains, ℤ, pos, refl, sym, ◌∙◌, ap, ap₂, append_assoc, ⊎_elim, arith}
+use Rattle.std.proofs.Common.{◌≡◌, ℕ, Bool, true, false, if◌then◌else◌, List, [], ◌∷◌, ◌++◌, length, map, filter}
+use Rattle.std.proofs.Common.{flat_map, get_or, Contains, ℤ, pos, refl, sym, ◌∙◌, ap, ap₂, append_assoc, ⊎_elim, arith}
 use Rattle.std.proofs.lemmas.List.{ext_get_or, get_or-map, length-map, map-append}
 use Rattle.std.proofs.lemmas.List.Elements.{Contains-append_cases}
 use Rattle.ftl_lists.specs.Lists.{AreDistinct, place_in}
@@ -65,7 +66,8 @@ input_sort kinds.Local = refl
 names_by : (g : Grammar) (xs : List (ℕ × AttrDecl))
     → ((x : ℕ × AttrDecl) → Contains xs x → declaration_at g x.0 ≡ x.1)
     → map (λ (x : ℕ × AttrDecl). x.1.name) (filter (λ x. is_input x.1.kind) xs)
-    ≡ map (λ a. (declaration_at g a).name) (filter (λ a. model.is_input (sort_of (declaration_at g a).kind)) (map (λ x. x.0) xs))
+    ≡ map (λ a. (declaration_at g a).name) (filter (λ a. model.is_input (sort_of (declaration_at g a).kind)) (map
+    (λ x. x.0) xs))
 names_by g [] at = refl
 names_by g (x ∷ xs) at =
     by (is_input x.1.kind) (model.is_input (sort_of (declaration_at g x.0).kind))
@@ -78,15 +80,20 @@ names_by g (x ∷ xs) at =
 
     by : (b b' : Bool) → b ≡ b' → x.1.name ≡ (declaration_at g x.0).name
         → map (λ (x : ℕ × AttrDecl). x.1.name) (filter (λ x. is_input x.1.kind) xs)
-        ≡ map (λ a. (declaration_at g a).name) (filter (λ a. model.is_input (sort_of (declaration_at g a).kind)) (map (λ x. x.0) xs))
-        → map (λ (x : ℕ × AttrDecl). x.1.name) (if b then x ∷ filter (λ x. is_input x.1.kind) xs else filter (λ x. is_input x.1.kind) xs)
-        ≡ map (λ a. (declaration_at g a).name) (if b' then x.0 ∷ filter (λ a. model.is_input (sort_of (declaration_at g a).kind)) (map (λ x. x.0) xs) else filter (λ a. model.is_input (sort_of (declaration_at g a).kind)) (map (λ x. x.0) xs))
+        ≡ map (λ a. (declaration_at g a).name) (filter (λ a. model.is_input (sort_of (declaration_at g a).kind)) (map
+        (λ x. x.0) xs))
+        → map (λ (x : ℕ × AttrDecl). x.1.name) (if b then x ∷ filter (λ x. is_input x.1.kind) xs else filter
+        (λ x. is_input x.1.kind) xs)
+        ≡ map (λ a. (declaration_at g a).name) (if b' then x.0 ∷ filter (λ a. model.is_input (sort_of
+        (declaration_at g a).kind)) (map (λ x. x.0) xs) else filter (λ a. model.is_input (sort_of
+        (declaration_at g a).kind)) (map (λ x. x.0) xs))
     by true true same name rest = ap₂ (λ (n : NameText) ns. n ∷ ns) name rest
     by true false same name rest = absurd cc
     by false true same name rest = absurd cc
     by false false same name rest = rest
 
-attributes_at : (g : Grammar) (k : ℕ) (x : ℕ × AttrDecl) → Contains (class_attributes g k) x → declaration_at g x.0 ≡ x.1
+attributes_at : (g : Grammar) (k : ℕ) (x : ℕ × AttrDecl) → Contains (class_attributes g k) x
+    → declaration_at g x.0 ≡ x.1
 attributes_at g k x there =
     ⊎_elim (λ shared. (shared_at g (interface_of g k) x shared).1) (λ own. (own_at g k x own).1)
     (Contains-append_cases (shared_attributes g (interface_of g k)) (own_attributes g k) x there)
@@ -95,7 +102,8 @@ pub names_are : (greatest : ℕ) (g : Grammar) (k : ℕ)
     → input_names g k ≡ map (λ a. (declaration_at g a).name) (class_inputs (grammar_of greatest g) k)
 names_are greatest g k =
     names_by g (class_attributes g k) (attributes_at g k)
-    ∙ ap (λ ns. map (λ a. (declaration_at g a).name) (filter (λ a. model.is_input (sort_of (declaration_at g a).kind)) ns))
+    ∙ ap (λ ns. map (λ a. (declaration_at g a).name) (filter (λ a. model.is_input (sort_of
+    (declaration_at g a).kind)) ns))
     (map-append (λ (x : ℕ × AttrDecl). x.0) (shared_attributes g (interface_of g k)) (own_attributes g k))
 
 -- the fields of a node's inputs, where it has ns many ns its class
@@ -104,13 +112,16 @@ pub inputs_are : (greatest : ℕ) (g : Grammar) (k : ℕ) (numbers : List ℤ) (
     → length numbers ≡ length (class_inputs (grammar_of greatest g) k)
     → fields_written (input_fields (input_names g k) numbers later)
     ≡ flat_map (λ a. if model.is_input ((grammar_of greatest g).sort a)
-    then field_opened (declaration_at g a).name ++ number_written (get_or numbers (place_in (class_inputs (grammar_of greatest g) k) a) (pos 0))
+    then field_opened (declaration_at g a).name ++ number_written (get_or numbers (place_in (class_inputs
+    (grammar_of greatest g) k) a) (pos 0))
     else []) (attributes_of (grammar_of greatest g) k) ++ fields_written later
 inputs_are greatest g k numbers later distinct long =
     let ns = class_inputs (grammar_of greatest g) k in
     let name : ℕ → NameText = λ a. (declaration_at g a).name in
     let value : ℕ → ℤ = λ a. get_or numbers (place_in ns a) (pos 0) in
-    ap₂ (λ ns zs. fields_written (input_fields ns zs later)) (names_are greatest g k) (by_places ns numbers distinct long)
+    ap₂ (λ ns zs. fields_written (input_fields ns zs later)) (names_are greatest g k)
+    (by_places ns numbers distinct long)
     ∙ fields_of name value ns later
     ∙ ap (λ l. l ++ fields_written later)
-    (sym (only_passing (λ a. model.is_input ((grammar_of greatest g).sort a)) (λ a. field_opened (name a) ++ number_written (value a)) (attributes_of (grammar_of greatest g) k)))
+    (sym (only_passing (λ a. model.is_input ((grammar_of greatest g).sort a)) (λ a. field_opened
+    (name a) ++ number_written (value a)) (attributes_of (grammar_of greatest g) k)))

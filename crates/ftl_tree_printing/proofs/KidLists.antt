@@ -1,5 +1,6 @@
 -- The kids of a node in a child as they are written, one after another.
-use Rattle.std.proofs.Common.{◌≡◌, ℕ, zero, suc, ◌<◌, ◌≤◌, Bool, true, false, eqb, if◌then◌else◌, List, [], ◌∷◌, refl, sym, ap₂, arith}
+use Rattle.std.proofs.Common.{◌≡◌, ℕ, zero, suc, ◌<◌, ◌≤◌, Bool, true, false, eqb, if◌then◌else◌, List, [], ◌∷◌, refl}
+use Rattle.std.proofs.Common.{sym, ap₂, arith}
 use Rattle.std.proofs.lemmas.Bool.{eqb-true}
 use Rattle.ftl_model.specs.Tree.{Forest, below_of, class_of, count_in, from_kid, inputs_of, none, tree}
 use Rattle.ftl_syntax.specs.declared.rules.Grammar.{Grammar}
@@ -37,9 +38,15 @@ module _ (g : Grammar) (c : ℕ) where
     where
       go : (same : Bool) → eqb d c ≡ same → zero < (if same then suc (count_in c s) else count_in c s)
           → (zero < count_in c s → these (from_kid c 0 s) ≡ kid_of g c (from_kid c 0 s) ∷ these (from_kid c 1 s))
-          → these (from_kid c 0 (tree k d i b s)) ≡ kid_of g c (from_kid c 0 (tree k d i b s)) ∷ these (from_kid c 1 (tree k d i b s))
+          → these (from_kid c 0 (tree k d i b s))
+          ≡ kid_of g c (from_kid c 0 (tree k d i b s)) ∷ these (from_kid c 1 (tree k d i b s))
       go true e few later =
-          rw e (rw e (ap₂ (λ n l. record { child = n; class = (class_at g k).name; fields = fields_from g k i (written_kids g b) } ∷ l) (eqb-true d c e) (sym (all_kids s))))
+          rw e (rw e (ap₂ (λ n l. record {
+            child = n;
+            class = (class_at g k).name;
+            fields = fields_from g k i
+                (written_kids g b);
+          } ∷ l) (eqb-true d c e) (sym (all_kids s))))
       go false e few later = rw e (later few)
   next_kid (suc n) (tree k d i b s) few =
       go (eqb d c) refl few (λ less. next_kid n s less) (λ less. next_kid (suc n) s less)
@@ -48,7 +55,8 @@ module _ (g : Grammar) (c : ℕ) where
           → (n < count_in c s → these (from_kid c n s) ≡ kid_of g c (from_kid c n s) ∷ these (from_kid c (suc n) s))
           → (suc n < count_in c s
           → these (from_kid c (suc n) s) ≡ kid_of g c (from_kid c (suc n) s) ∷ these (from_kid c (suc (suc n)) s))
-          → these (from_kid c (suc n) (tree k d i b s)) ≡ kid_of g c (from_kid c (suc n) (tree k d i b s)) ∷ these (from_kid c (suc (suc n)) (tree k d i b s))
+          → these (from_kid c (suc n) (tree k d i b s))
+          ≡ kid_of g c (from_kid c (suc n) (tree k d i b s)) ∷ these (from_kid c (suc (suc n)) (tree k d i b s))
       go true e few one later = rw e (one (omega (arith, few)))
       go false e few one later = rw e (later few)
 
@@ -66,7 +74,8 @@ module _ (g : Grammar) (c : ℕ) where
       go (eqb d c) refl past (λ less. no_kid n s less) (λ less. no_kid (suc n) s less)
     where
       go : (same : Bool) → eqb d c ≡ same → (if same then suc (count_in c s) else count_in c s) ≤ suc n
-          → (count_in c s ≤ n → these (from_kid c n s) ≡ []) → (count_in c s ≤ suc n → these (from_kid c (suc n) s) ≡ [])
+          → (count_in c s ≤ n → these (from_kid c n s) ≡ []) → (count_in c s ≤ suc n
+          → these (from_kid c (suc n) s) ≡ [])
           → these (from_kid c (suc n) (tree k d i b s)) ≡ []
       go true e past one later = rw e (one (omega (arith, past)))
       go false e past one later = rw e (later past)

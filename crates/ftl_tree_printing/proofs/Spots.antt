@@ -1,11 +1,14 @@
 -- What is left from spot to spot.
-use Rattle.std.proofs.Common.{◌≡◌, ℕ, suc, ◌<◌, ◌≤◌, true, false, if◌then◌else◌, List, [], ◌∷◌, ◌++◌, length, drop, refl, sym, ◌∙◌, ap, append_assoc, add-one, arith}
+use Rattle.std.proofs.Common.{◌≡◌, ℕ, suc, ◌<◌, ◌≤◌, true, false, if◌then◌else◌, List, [], ◌∷◌, ◌++◌, length, drop}
+use Rattle.std.proofs.Common.{refl, sym, ◌∙◌, ap, append_assoc, add-one, arith}
 use Rattle.std.proofs.lemmas.List.{drop_all, drop_more}
 use Rattle.ftl_base.specs.Widths.{greatest_of_width}
 use Rattle.ftl_dep_table.specs.Meant.{meant}
-use Rattle.ftl_document_faults.specs.WrittenOf.{WrittenKid, child_field, child_fields, fields_from, kids_in, nodes_from, single_field, written_kids, written_of}
+use Rattle.ftl_document_faults.specs.WrittenOf.{WrittenKid, child_field, child_fields, fields_from, kids_in, nodes_from}
+use Rattle.ftl_document_faults.specs.WrittenOf.{single_field, written_kids, written_of}
 use Rattle.ftl_document_syntax.specs.Written.{WrittenFields, list_field}
-use Rattle.ftl_document_text.specs.DocumentText.{closed_by, document_written, field_opened, fields_written, mark_written, node_opened, nodes_written}
+use Rattle.ftl_document_text.specs.DocumentText.{closed_by, document_written, field_opened, fields_written}
+use Rattle.ftl_document_text.specs.DocumentText.{mark_written, node_opened, nodes_written}
 use Rattle.ftl_grammar_faults.specs.Numbering.{child_at, class_at, numbered}
 use Rattle.ftl_syntax.specs.Trees as trees
 use Rattle.ftl_syntax.specs.declared.rules.Grammar.{Grammar}
@@ -24,7 +27,8 @@ use Rattle.ftl_order.proofs.Owners.{class_distinct}
 use Rattle.ftl_tokens.specs.declared.kind.Kind.TheVariants as kind
 use Rattle.ftl_tree.specs.CheckedTree.{CheckedTree}
 use Rattle.ftl_tree_rows.proofs.Access.{has_at, size-one}
-use Rattle.ftl_tree_printing.specs.Left.{after, class_in, entered, fields_from_child, from_child, from_kid_on, inputs_written, is_many, kids_from, node_of}
+use Rattle.ftl_tree_printing.specs.Left.{after, class_in, entered, fields_from_child, from_child, from_kid_on}
+use Rattle.ftl_tree_printing.specs.Left.{inputs_written, is_many, kids_from, node_of}
 use Rattle.ftl_tree_printing.proofs.InputFields.{inputs_are}
 use Rattle.ftl_tree_printing.proofs.KidLists.{all_kids, kid_of, next_kid, no_kid}
 
@@ -70,7 +74,8 @@ module _ (t : CheckedTree) (is : IsTreeOf (meant t.checked) t.tree) where
     abbrev fields_at : Path → WrittenFields
     fields_at p = fields_from g (class_in t p) (inputs_at t.tree p) (written_kids g (below_of (at t.tree p)))
 
-    whole_fields : (p : Path) → Has t.tree p → fields_written (fields_at p) ≡ inputs_written t p ++ fields_from_child t p 0
+    whole_fields : (p : Path) → Has t.tree p
+        → fields_written (fields_at p) ≡ inputs_written t p ++ fields_from_child t p 0
     whole_fields p has =
         inputs_are (greatest_of_width t.checked.width) g (class_in t p) (inputs_at t.tree p)
         (child_fields (numbered 0 (class_at g (class_in t p)).children) (written_kids g (below_of (at t.tree p))))
@@ -107,13 +112,15 @@ module _ (t : CheckedTree) (is : IsTreeOf (meant t.checked) t.tree) where
     -- the field of a child
     abbrev later_fields : Path → ℕ → WrittenFields
     later_fields p c =
-        child_fields (numbered (suc c) (drop (suc c) (class_at g (class_in t p)).children)) (written_kids g (below_of (at t.tree p)))
+        child_fields (numbered (suc c) (drop (suc c) (class_at g (class_in t p)).children)) (written_kids g (below_of
+        (at t.tree p)))
 
     abbrev kids_there : Path → ℕ → List WrittenKid
     kids_there p c = kids_in c (written_kids g (below_of (at t.tree p)))
 
     this_child : (p : Path) (c : ℕ) → c < length (class_at g (class_in t p)).children
-        → from_child t p c ≡ fields_written (child_field (child_at g (class_in t p) c) (kids_there p c) (later_fields p c)) ++ after t p
+        → from_child t p c ≡ fields_written (child_field (child_at g (class_in t p) c) (kids_there p c)
+        (later_fields p c)) ++ after t p
     this_child p c known =
         let children = (class_at g (class_in t p)).children in
         let kids = written_kids g (below_of (at t.tree p)) in
@@ -129,9 +136,11 @@ module _ (t : CheckedTree) (is : IsTreeOf (meant t.checked) t.tree) where
         let name = (child_at g (class_in t p) c).name in
         let rest = later_fields p c in
         this_child p c known
-        ∙ ap (λ b. fields_written (if b then list_field name (nodes_from (kids_there p c)) rest else single_field name (kids_there p c) rest) ++ after t p) many
+        ∙ ap (λ b. fields_written (if b then list_field name (nodes_from (kids_there p c)) rest else single_field name
+        (kids_there p c) rest) ++ after t p) many
         ∙ ap (λ l. field_opened name ++ (mark_written kind.LeftBracket ∷ l))
-        (append_assoc (nodes_written (nodes_from (kids_there p c))) (closed_by kind.RightBracket (fields_written rest)) (after t p))
+        (append_assoc (nodes_written (nodes_from (kids_there p c))) (closed_by kind.RightBracket
+        (fields_written rest)) (after t p))
         ∙ ap (λ kids. field_opened name ++ (mark_written kind.LeftBracket ∷ (nodes_written (nodes_from kids)
         ++ closed_by kind.RightBracket (from_child t p (suc c))))) (sym (all_kids g c (below_of (at t.tree p))))
 
@@ -148,17 +157,20 @@ module _ (t : CheckedTree) (is : IsTreeOf (meant t.checked) t.tree) where
         sym (all_kids g c below) ∙ next_kid g c 0 below (omega (arith, one))
         ∙ ap (λ l. kid_of g c (from_kid c 0 below) ∷ l) (no_kid g c 1 below (omega (arith, one))) in
         this_child p c known
-        ∙ ap (λ b. fields_written (if b then list_field name (nodes_from (kids_there p c)) rest else single_field name (kids_there p c) rest) ++ after t p) single
+        ∙ ap (λ b. fields_written (if b then list_field name (nodes_from (kids_there p c)) rest else single_field name
+        (kids_there p c) rest) ++ after t p) single
         ∙ ap (λ l. fields_written (single_field name l rest) ++ after t p) kids
         ∙ ap (λ l. field_opened name ++ (node_opened (class_at g (class_in t q)).name ++ l))
         (append_assoc (fields_written (fields_at q)) (closed_by kind.RightBrace (fields_written rest)) (after t p))
         ∙ ap (λ b. field_opened name ++ (node_opened (class_at g (class_in t q)).name ++ (fields_written (fields_at q)
-        ++ (mark_written kind.RightBrace ∷ (if b then nodes_written (nodes_from (kids_from t p c 1)) ++ closed_by kind.RightBracket (from_child t p (suc c))
+        ++ (mark_written kind.RightBrace ∷ (if b then nodes_written (nodes_from
+        (kids_from t p c 1)) ++ closed_by kind.RightBracket (from_child t p (suc c))
         else from_child t p (suc c)))))) (sym single)
         ∙ ap (λ l. field_opened name ++ l) (node_entered q (kid_there p c 0 (omega (arith, one))))
 
     -- no child is left
-    pub fields_ended : (p : Path) (c : ℕ) → length (class_at g (class_in t p)).children ≤ c → from_child t p c ≡ after t p
+    pub fields_ended : (p : Path) (c : ℕ) → length (class_at g (class_in t p)).children ≤ c
+        → from_child t p c ≡ after t p
     fields_ended p c past =
         ap (λ cs. fields_written (child_fields (numbered c cs) (written_kids g (below_of (at t.tree p)))) ++ after t p)
         (drop_all c (class_at g (class_in t p)).children past)

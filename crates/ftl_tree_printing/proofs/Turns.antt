@@ -1,5 +1,6 @@
 -- What one turn of the printer leaves.
-use Rattle.std.proofs.Common.{◌≡◌, ℕ, suc, ◌<◌, ◌≤◌, true, false, if◌then◌else◌, List, [], ◌∷◌, ◌++◌, length, refl, sym, ◌∙◌, ap, ap₂, append_assoc, length-append, subst, arith}
+use Rattle.std.proofs.Common.{◌≡◌, ℕ, suc, ◌<◌, ◌≤◌, true, false, if◌then◌else◌, List, [], ◌∷◌, ◌++◌, length, refl, sym}
+use Rattle.std.proofs.Common.{◌∙◌, ap, ap₂, append_assoc, length-append, subst, arith}
 use Rattle.std.specs.Prelude.{Err, IfOk, None, Ok, Option, Result, Some, codes}
 use Rattle.std.specs.Option.{option_map}
 use Rattle.std.proofs.lemmas.List.{append-nil}
@@ -20,8 +21,10 @@ use Rattle.ftl_tree_rows.specs.KidRuns.{IsChildOf}
 use Rattle.ftl_written.specs.Written.{Written, text_of, written, written_bytes}
 use Rattle.ftl_tree_printing.specs.declared.spot.Spot.{Spot}
 use Rattle.ftl_tree_printing.specs.declared.spot.Spot.TheVariants as spots
-use Rattle.ftl_tree_printing.specs.Left.{Goes, HasParent, IsBehind, IsSpot, after, class_in, entered, from_child, from_kid_on, inputs_written, is_many, left, left_from, node_of}
-use Rattle.ftl_tree_printing.proofs.Spots.{child_known, fields_ended, has_node, kid_entered, kid_few, kid_there, list_ended, list_opened, node_again, number_within, one_kid, single_entered}
+use Rattle.ftl_tree_printing.specs.Left.{Goes, HasParent, IsBehind, IsSpot, after, class_in, entered, from_child}
+use Rattle.ftl_tree_printing.specs.Left.{from_kid_on, inputs_written, is_many, left, left_from, node_of}
+use Rattle.ftl_tree_printing.proofs.Spots.{child_known, fields_ended, has_node, kid_entered, kid_few, kid_there}
+use Rattle.ftl_tree_printing.proofs.Spots.{list_ended, list_opened, node_again, number_within, one_kid, single_entered}
 
 -- two texts, one after the other
 pub two_texts : (out mid new : List ℕ) (xs ys : List Written) → mid ≡ out ++ text_of xs → new ≡ mid ++ text_of ys
@@ -64,7 +67,12 @@ above_has t is n parent small h = subst (λ p. Has t.tree p) h.is (has_node t is
 pub parent_within : (t : CheckedTree) → IsTreeOf (meant t.checked) t.tree → (n parent : ℕ) → n < size t.tree
     → HasParent t n parent → parent < size t.tree
 parent_within t is n parent small h =
-    omega (arith, h.number, number_within t is h.above (has_parent t.tree h.child h.kid h.above (above_has t is n parent small h)))
+    omega (
+      arith,
+      h.number,
+      number_within t is h.above (has_parent t.tree h.child h.kid h.above
+          (above_has t is n parent small h)),
+    )
 
 pub facts : (t : CheckedTree) → IsTreeOf (meant t.checked) t.tree → (n parent : ℕ) → n < size t.tree
     → HasParent t n parent → Facts t (node_of t n) (node_of t parent)
@@ -88,7 +96,8 @@ entering t n name out mid new within named first later =
     record {
       tokens = opened ++ inputs_written t p;
       some = omega arith;
-      text = two_texts out mid new opened (inputs_written t p) (first ∙ ap (λ x. out ++ text_of (node_opened x)) named) later;
+      text = two_texts out mid new opened (inputs_written t p) (first
+          ∙ ap (λ x. out ++ text_of (node_opened x)) named) later;
       rest = sym (append_assoc opened (inputs_written t p) (from_child t p 0));
       spot = within;
     }
@@ -136,7 +145,13 @@ parent_there t n parent is = go (node_of t n) refl is
   where
     go : (p : Path) → node_of t n ≡ p → Some parent ≡ option_map (number_of t.tree) (parent_of p) → HasParent t n parent
     go top e is = absurd (let z : ⊥ = cc in z)
-    go (down c k q) e is = record { child = c; kid = k; above = q; is = e; number = let z : parent ≡ number_of t.tree q = cc in z }
+    go (down c k q) e is = record {
+      child = c;
+      kid = k;
+      above = q;
+      is = e;
+      number = let z : parent ≡ number_of t.tree q = cc in z;
+    }
 
 -- a list that is opened
 pub opening_list : (t : CheckedTree) → IsTreeOf (meant t.checked) t.tree → IsFaultless t.checked.grammar
@@ -185,7 +200,8 @@ pub kid_entering : (t : CheckedTree) → IsTreeOf (meant t.checked) t.tree → I
     → Goes t out new (entered t (node_of t kid)) next → Goes t out new (from_kid_on t (node_of t n) c k) next
 kid_entering t is faultless n c k kid out new next many few number goes =
     let p = node_of t n in
-    let same : node_of t kid ≡ down c k p = ap (node_of t) number ∙ node_again t is (down c k p) (kid_there t is p c k few) in
+    let same : node_of t kid ≡ down c k p = ap (node_of t) number
+    ∙ node_again t is (down c k p) (kid_there t is p c k few) in
     subst (λ l. Goes t out new l next)
     (ap (entered t) same ∙ sym (kid_entered t is faultless p c k many few)) goes
 

@@ -16,5 +16,6 @@ pub write_attributes-requires-clause-attrs : goal.write_attributes-requires-clau
 write_attributes-requires-clause-attrs c =
     let t = c.args.tree.now in
     let known = class_within t c.tree_is_lawful.ensures.is_tree c.args.node c.requires.node in
-    let at = attributes_at t c.args.attrs.now (class_in t (node_of t c.args.node)) c.index-attrs-row.result c.requires.attrs known in
+    let at = attributes_at t c.args.attrs.now (class_in t
+    (node_of t c.args.node)) c.index-attrs-row.result c.requires.attrs known in
     grind (arith, common_steps)

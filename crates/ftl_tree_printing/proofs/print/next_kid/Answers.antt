@@ -10,7 +10,8 @@ enter-requires-clause-node c =
     let t = c.args.tree.now in
     let is = c.tree_is_lawful.ensures.is_tree in
     let p = node_of t c.args.node in
-    let few : c.args.kid < kids_at t.tree p c.args.child = omega (arith, c.if-kid-kid_count.true, c.kid_count.ensures.count) in
+    let few : c.args.kid < kids_at t.tree p c.args.child = omega
+    (arith, c.if-kid-kid_count.true, c.kid_count.ensures.count) in
     let small = number_within t is (down c.args.child c.args.kid p) (kid_there t is p c.args.child c.args.kid few) in
     omega (arith, c.kid.ensures.kid, small)
 
@@ -22,7 +23,8 @@ returns-then-kid-kid_count c =
     omega (arith, c.if-kid-kid_count.true, c.kid_count.ensures.count) in
     record {
       goes = on_ok _ _ _
-          (λ next goes. kid_entering t is c.tree_is_lawful.ensures.faultless c.args.node c.args.child c.args.kid c.kid.result _ _ next
+          (λ next goes. kid_entering t is c.tree_is_lawful.ensures.faultless c.args.node c.args.child c.args.kid
+          c.kid.result _ _ next
           c.requires.many few c.kid.ensures.kid goes)
           c.enter.ensures.goes;
     }
@@ -34,6 +36,7 @@ returns-in_ok-write_mark c =
     omega (arith, c.if-kid-kid_count.false, c.kid_count.ensures.count) in
     record {
       goes = list_closing t c.tree_is_lawful.ensures.is_tree c.tree_is_lawful.ensures.faultless c.args.node c.args.child
-          (c.args.child + 1) c.args.kid _ _ c.requires.at.known (let z : c.args.child + 1 ≡ suc c.args.child = omega arith in z) past
+          (c.args.child + 1) c.args.kid _ _ c.requires.at.known (let z : c.args.child + 1
+          ≡ suc c.args.child = omega arith in z) past
           c.in_ok-write_mark.ensures.text;
     }

@@ -13,7 +13,8 @@ kid-requires-clause-k c =
     let is = c.tree_is_lawful.ensures.is_tree in
     let p = node_of t c.args.node in
     let single : is_many t p c.args.child ≡ false = grind (arith, common_steps) in
-    let one = one_kid t is p c.args.child (has_node t is c.args.node c.requires.at.known) c.requires.at.declared single in
+    let one = one_kid t is p c.args.child
+    (has_node t is c.args.node c.requires.at.known) c.requires.at.declared single in
     omega (arith, one)
 
 pub enter-requires-clause-node : goal.enter-requires-clause-node
@@ -22,7 +23,8 @@ enter-requires-clause-node c =
     let is = c.tree_is_lawful.ensures.is_tree in
     let p = node_of t c.args.node in
     let single : is_many t p c.args.child ≡ false = grind (arith, common_steps) in
-    let one = one_kid t is p c.args.child (has_node t is c.args.node c.requires.at.known) c.requires.at.declared single in
+    let one = one_kid t is p c.args.child
+    (has_node t is c.args.node c.requires.at.known) c.requires.at.declared single in
     let few : 0 < kids_at t.tree p c.args.child = omega (arith, one) in
     let small = number_within t is (down c.args.child 0 p) (kid_there t is p c.args.child 0 few) in
     omega (arith, c.kid.ensures.kid, small)

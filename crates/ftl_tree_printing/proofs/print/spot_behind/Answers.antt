@@ -9,43 +9,60 @@ use Rattle.ftl_tree_printing.proofs.print.spot_behind.Goals as goal
 
 pub row-class-requires-2 : goal.row-class-requires-2
 row-class-requires-2 c =
-    let within = parent_within c.args.tree.now c.tree_is_lawful.ensures.is_tree c.args.node c.args.parent c.requires.node c.requires.parent in
+    let within = parent_within c.args.tree.now c.tree_is_lawful.ensures.is_tree c.args.node c.args.parent
+    c.requires.node c.requires.parent in
     grind (arith, common_steps)
 
 pub child-requires-clause-within : goal.child-requires-clause-within
 child-requires-clause-within c =
-    let within = parent_within c.args.tree.now c.tree_is_lawful.ensures.is_tree c.args.node c.args.parent c.requires.node c.requires.parent in
+    let within = parent_within c.args.tree.now c.tree_is_lawful.ensures.is_tree c.args.node c.args.parent
+    c.requires.node c.requires.parent in
     let class = class_within c.args.tree.now c.tree_is_lawful.ensures.is_tree c.args.parent within in
     grind (arith, common_steps)
 
 pub child-requires-clause-child : goal.child-requires-clause-child
 child-requires-clause-child c =
-    let known = (facts c.args.tree.now c.tree_is_lawful.ensures.is_tree c.args.node c.args.parent c.requires.node c.requires.parent).known in
+    let known = (facts c.args.tree.now c.tree_is_lawful.ensures.is_tree c.args.node c.args.parent c.requires.node
+    c.requires.parent).known in
     grind (arith, common_steps)
 
 pub kid_count-requires : goal.kid_count-requires
 kid_count-requires c =
-    record { at = record { known = parent_within c.args.tree.now c.tree_is_lawful.ensures.is_tree c.args.node c.args.parent c.requires.node c.requires.parent; declared = subst (λ x. x < length (class_at c.args.tree.now.checked.grammar (class_in c.args.tree.now (node_of c.args.tree.now c.args.parent))).children) (sym (ap (λ r. r.place.child) c.row-class.ensures.row)) (facts c.args.tree.now c.tree_is_lawful.ensures.is_tree c.args.node c.args.parent c.requires.node c.requires.parent).known } }
+    record {
+      at = record {
+        known = parent_within c.args.tree.now c.tree_is_lawful.ensures.is_tree c.args.node
+            c.args.parent c.requires.node c.requires.parent;
+        declared = subst (λ x. x < length
+            (class_at c.args.tree.now.checked.grammar (class_in c.args.tree.now
+            (node_of c.args.tree.now c.args.parent))).children) (sym (ap (λ r. r.place.child) c.row-class.ensures.row))
+            (facts c.args.tree.now c.tree_is_lawful.ensures.is_tree c.args.node c.args.parent c.requires.node
+            c.requires.parent).known;
+      };
+    }
 
 pub child_count-requires : goal.child_count-requires
 child_count-requires c =
-    let within = parent_within c.args.tree.now c.tree_is_lawful.ensures.is_tree c.args.node c.args.parent c.requires.node c.requires.parent in
+    let within = parent_within c.args.tree.now c.tree_is_lawful.ensures.is_tree c.args.node c.args.parent
+    c.requires.node c.requires.parent in
     grind (arith, common_steps)
 
 pub returns-else-child-clause-spot : goal.returns-else-child-clause-spot
 returns-else-child-clause-spot c =
-    parent_within c.args.tree.now c.tree_is_lawful.ensures.is_tree c.args.node c.args.parent c.requires.node c.requires.parent
+    parent_within c.args.tree.now c.tree_is_lawful.ensures.is_tree c.args.node c.args.parent c.requires.node
+    c.requires.parent
 
 pub overflow_add-result : goal.overflow_add-result
 overflow_add-result c =
-    let few = (facts c.args.tree.now c.tree_is_lawful.ensures.is_tree c.args.node c.args.parent c.requires.node c.requires.parent).few in
+    let few = (facts c.args.tree.now c.tree_is_lawful.ensures.is_tree c.args.node c.args.parent c.requires.node
+    c.requires.parent).few in
     let kid = ap (λ r. r.place.kid) c.row-class.ensures.row in
     let child = ap (λ r. r.place.child) c.row-class.ensures.row in
     grind (arith, few, kid, child, c.kid_count.ensures.count)
 
 pub overflow_add-result-else-child : goal.overflow_add-result-else-child
 overflow_add-result-else-child c =
-    let known = (facts c.args.tree.now c.tree_is_lawful.ensures.is_tree c.args.node c.args.parent c.requires.node c.requires.parent).known in
+    let known = (facts c.args.tree.now c.tree_is_lawful.ensures.is_tree c.args.node c.args.parent c.requires.node
+    c.requires.parent).known in
     let child = ap (λ r. r.place.child) c.row-class.ensures.row in
     grind (arith, known, child, c.child_count.ensures.count)
 
@@ -59,7 +76,8 @@ returns-then-child-clause-left c =
     let child = ap (λ r. r.place.child) c.row-class.ensures.row in
     let many : is_many t q (child_at p) ≡ true = grind (arith, common_steps) in
     subst (λ l. IsBehind t p l)
-    (ap₂ (from_kid_on t q) (sym child) (let z : suc (kid_at p) ≡ c.row-class.result.place.kid + 1 = omega (arith, kid) in z))
+    (ap₂ (from_kid_on t q) (sym child) (let z : suc (kid_at p)
+    ≡ c.row-class.result.place.kid + 1 = omega (arith, kid) in z))
     (f.many many)
 
 pub returns-then-child-clause-spot : goal.returns-then-child-clause-spot

@@ -15,6 +15,10 @@ loop-next-init c =
     record {
       rest = goes_on t _ _ (entered t top) c.in_ok-next.next c.in_ok-next.ensures.goes
           ∙ ap (λ l. string_bytes c.args.out.now ++ text_of l)
-          (sym (whole t is c.tree_is_lawful.ensures.faultless (has_node t is 0 (omega (arith, size-one (meant t.checked) t.tree is)))));
+          (sym (whole t is c.tree_is_lawful.ensures.faultless (has_node t is 0 (omega (
+            arith,
+            size-one
+                (meant t.checked) t.tree is,
+          )))));
       spot = c.in_ok-next.ensures.goes.spot;
     }

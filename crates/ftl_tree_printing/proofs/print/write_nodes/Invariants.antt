@@ -8,7 +8,8 @@ use Rattle.ftl_tree_printing.proofs.print.write_nodes.Given as goal
 
 abbrev pub invariant-loop-next : goal.invariant-loop-next
 invariant-loop-next l = record {
-  rest : string_bytes l.out ++ text_of (left l.tree l.next) ≡ string_bytes l.fn.out ++ document_text (written_of l.tree.checked.grammar l.tree.tree);
+  rest : string_bytes l.out ++ text_of (left l.tree l.next)
+      ≡ string_bytes l.fn.out ++ document_text (written_of l.tree.checked.grammar l.tree.tree);
   spot : IfSome l.next (IsSpot l.tree);
 }
 
