@@ -7,6 +7,7 @@
 mod items;
 mod meant;
 mod parts;
+mod running;
 mod steps;
 mod work;
 
