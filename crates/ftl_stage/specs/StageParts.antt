@@ -5,7 +5,7 @@ use Rattle.ftl_cells.specs.Work.{Meaning}
 use Rattle.ftl_dep_table.specs.Meant.{meant}
 use Rattle.ftl_grammar_faults.specs.Checked.{CheckedGrammar}
 use Rattle.ftl_instance_reads.specs.ReadTables.{AreTables, IsSound}
-use Rattle.ftl_item_cursor.specs.ItemSteps.{AreItemTables, HasNoInorderPass, forest_in, grammar_in}
+use Rattle.ftl_item_cursor.specs.ItemSteps.{AreItemTables, forest_in, grammar_in}
 use Rattle.ftl_item_rows.specs.StageItems.{passes_in}
 use Rattle.ftl_items.specs.Items.{passes_of}
 use Rattle.ftl_items.specs.StageWork.{stage_work, step_at, steps_in}
@@ -46,7 +46,6 @@ pub record IsStage (w : StageParts) : Type 0 where
   pub code : IsCodeFor w.item_tables.items.rows.now.tree.now.checked w.programs.now
   pub passes : passes_of (schedule_of w) w.stage ≡ passes_in w.item_tables.items
   pub items : AreItemTables w.item_tables
-  pub visits : HasNoInorderPass w.item_tables
 
 -- ---- what it means
 

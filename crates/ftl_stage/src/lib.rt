@@ -1,7 +1,7 @@
 //! A stage of a plan as lawful work. Goes in: what a plan keeps for a stage, `StageParts`. Comes
-//! out: `StageWork`, which means what `ftl_stage_laws` says that the stage means;
-//! `specs/StageParts.antt` says what it is made of. Stages with an inorder pass are not among them
-//! yet.
+//! out: `StageWork`, which means what `ftl_stage_laws` says that the stage means, and drives a
+//! filler through an item with each step made once. `specs/StageParts.antt` says what a stage is
+//! made of, `specs/Driving.antt` where a filler stands around a step.
 #![tactic(auto)]
 
 mod items;

@@ -10,9 +10,6 @@ item_steps-requires-clause-tables c = c.requires.fit.items
 pub item_steps-requires-clause-item : goal.item_steps-requires-clause-item
 item_steps-requires-clause-item c = item_known c.args.self.now c.requires.fit c.args.item c.requires.item
 
-pub item_steps-requires-clause-visits : goal.item_steps-requires-clause-visits
-item_steps-requires-clause-visits c = c.requires.fit.visits
-
 pub returns : goal.returns
 returns c = record {
   steps = steps_are c.args.self.now c.requires.fit c.args.item c.item_steps.result c.item_steps.ensures.steps;
