@@ -1,7 +1,7 @@
--- The pass of an item with its visits, its nodes, and what their steps compute.
+-- The pass of an item with its visits, its nodes, and what its steps compute.
 use Rattle.std.proofs.Common.{◌≡◌, ◌≢◌, ℕ, suc, ◌+◌, ◌<◌, ◌≤◌, true, false, if◌then◌else◌, refl, sym, ◌∙◌, ap, subst, arith, List, [], ◌∷◌, get_or, length, map, Contains}
 use Rattle.std.specs.List.{range_with_len}
-use Rattle.std.proofs.lemmas.List.{get_or-map, length-map}
+use Rattle.std.proofs.lemmas.List.{get_or-map, get_or_default, length-map}
 use Rattle.std.proofs.lemmas.List.Elements.{Contains-get_or}
 use Rattle.ftl_lists.proofs.Elements.{in_flat_map, in_range_from}
 use Rattle.ftl_lists.proofs.Rising.{in_map}
@@ -10,17 +10,21 @@ use Rattle.ftl_item_rows.specs.declared.view.FoundItem.{FoundItem}
 use Rattle.ftl_items.specs.Cut.{is_small, nodes_of, subtree, tops}
 use Rattle.ftl_items.specs.Items.{Item, item, items_of_pass, no_item, pass_in, passes_of, steps_by, steps_of_item}
 use Rattle.ftl_items.proofs.Reverses.{in_reverse}
+use Rattle.ftl_inorder_visits.specs.InorderSteps.{StepsComputeTheSequence, inorder_steps}
 use Rattle.ftl_model.specs.AttributeGrammar.{AttributeGrammar}
-use Rattle.ftl_model.specs.Path.{Has, Path, at, node_at, number_of, size_at}
+use Rattle.ftl_model.specs.Path.{Has, Path, at, node_at, number_of, size_at, top}
 use Rattle.ftl_model.specs.Tree.{Forest, below_of, size}
 use Rattle.ftl_model.proofs.Numbering.{has-node_at, length-nodes_below, number_of-node_at}
 use Rattle.ftl_order.specs.Lawful.{IsLawful}
+use Rattle.ftl_order.specs.Ordered.{IsOrdered}
 use Rattle.ftl_order.specs.Schedule as order
-use Rattle.ftl_order.specs.Schedule.{Schedule, empty_pass}
+use Rattle.ftl_order.specs.Schedule.{Schedule, empty_pass, pass_at}
 use Rattle.ftl_order.proofs.Kids.{root_there}
 use Rattle.ftl_schedule_syntax.specs.declared.kind.PassKind.{PassKind}
 use Rattle.ftl_schedule_syntax.specs.declared.kind.PassKind.TheVariants.{BottomUp, InOrder, TopDown}
-use Rattle.ftl_stage_rows.specs.StageRows.{pass_visits}
+use Rattle.ftl_sequence_cursor.specs.BlockPlaces.{places_of}
+use Rattle.ftl_sequence_cursor.specs.declared.block_places.BlockPlaces.{BlockPlaces}
+use Rattle.ftl_stage_rows.specs.StageRows.{pass_places, pass_visits}
 use Rattle.ftl_stages.specs.Stages.{kind_of, pass_of}
 use Rattle.ftl_stages.specs.declared.types.Pass.{Pass}
 use Rattle.ftl_steps.specs.Steps.{target_of}
@@ -33,7 +37,7 @@ use Rattle.ftl_visit_cursor.specs.declared.nodes.NodeOrder.TheVariants.{Preorder
 use Rattle.ftl_visit_cursor.proofs.ItemLemmas.{bottomup_targets, nodes_within, topdown_targets}
 use Rattle.ftl_visit_list.specs.declared.visit_op.VisitOp.{VisitOp}
 use Rattle.ftl_visit_rows.specs.VisitRows.{visits_of}
-use Rattle.ftl_item_cursor.specs.ItemSteps.{AreItemTables, HasNoInorderPass, forest_in, grammar_in, order_of}
+use Rattle.ftl_item_cursor.specs.ItemSteps.{AreItemTables, forest_in, grammar_in, order_of}
 use Rattle.ftl_item_cursor.specs.declared.item.ItemTables.{ItemTables}
 
 abbrev pub no_pass : Pass
@@ -99,21 +103,38 @@ module _ (x : ItemTables) (i : ℕ) (found : FoundItem) (known : i < length (ite
   pub kind_is : found.kind ≡ pass.kind
   kind_is = same_kind found.kind pass.kind (is.kind_is ∙ ap (λ (p : order.Pass). p.kind) pass_is)
 
-  pub not_inorder : HasNoInorderPass x → found.kind ≢ InOrder
-  not_inorder none e = none pass (Contains-get_or x.items.passes.now found.pass no_pass pass_known) (sym kind_is ∙ e)
+  -- the entry of a table of the passes
+  by_pass : {X : Type 0} (f : Pass → X) (xs : List X) (d : X) → xs ≡ map f x.items.passes.now
+      → get_or xs found.pass d ≡ f pass
+  by_pass f xs d are =
+      ap (λ ys. get_or ys found.pass d) are ∙ get_or-map f x.items.passes.now found.pass no_pass d pass_known
+
+  table_known : {X : Type 0} (f : Pass → X) (xs : List X) → xs ≡ map f x.items.passes.now → found.pass < length xs
+  table_known f xs are =
+      let long = ap length are ∙ length-map x.items.passes.now f in
+      let below = pass_known in
+      omega (arith, long, below)
+
+  pub pass_listed : (d : Pass) → get_or x.items.passes.now found.pass d ≡ pass
+  pass_listed d = get_or_default x.items.passes.now found.pass d no_pass pass_known
 
   pub visits_are : AreItemTables x → (d : List (List VisitOp))
       → get_or x.visits.now found.pass d ≡ visits_of (grammar_in x) found.kind pass.attrs
   visits_are tables d =
-      ap (λ vs. get_or vs found.pass d) tables.visits
-      ∙ get_or-map (pass_visits (grammar_in x)) x.items.passes.now found.pass no_pass d pass_known
+      by_pass (pass_visits (grammar_in x)) x.visits.now d tables.visits
       ∙ ap (λ k. visits_of (grammar_in x) k pass.attrs) (sym kind_is)
 
   pub visit_known : AreItemTables x → found.pass < length x.visits.now
-  visit_known tables =
-      let long = ap length tables.visits ∙ length-map x.items.passes.now (pass_visits (grammar_in x)) in
-      let below = pass_known in
-      omega (arith, long, below)
+  visit_known tables = table_known (pass_visits (grammar_in x)) x.visits.now tables.visits
+
+  pub places_are : AreItemTables x → (d : List (List BlockPlaces))
+      → get_or x.places.now found.pass d ≡ places_of (visits_of (grammar_in x) found.kind pass.attrs)
+  places_are tables d =
+      by_pass (pass_places (grammar_in x)) x.places.now d tables.places
+      ∙ ap (λ k. places_of (visits_of (grammar_in x) k pass.attrs)) (sym kind_is)
+
+  pub places_known : AreItemTables x → found.pass < length x.places.now
+  places_known tables = table_known (pass_places (grammar_in x)) x.places.now tables.places
 
   number_is : number_of (forest_in x) this.first ≡ found.node
   number_is =
@@ -159,19 +180,40 @@ module _ (x : ItemTables) (i : ℕ) (found : FoundItem) (known : i < length (ite
         bottomup_targets g t is.is_tree x.items.rows.now.grain this.first node_there law pass.attrs
     by_kind InOrder ne = absurd (ne refl)
 
-    -- what the steps compute is what the item has
-    pub targets_are : HasNoInorderPass x → passes_of s stage ≡ passes_in x.items
+    -- the pass in the schedule
+    pass_there : passes_of s stage ≡ passes_in x.items → pass_of pass ≡ pass_at s stage this.pass
+    pass_there passes = sym pass_is ∙ ap (λ (ps : List order.Pass). pass_in ps this.pass) (sym passes)
+
+    -- what the item has, by its pass
+    has : passes_of s stage ≡ passes_in x.items
+        → steps_by g s stage t x.items.rows.now.grain (kind_of found.kind) pass.attrs this
+        ≡ steps_of_item g s stage t x.items.rows.now.grain this
+    has passes =
+        ap (λ k. steps_by g s stage t x.items.rows.now.grain (kind_of k) pass.attrs this) kind_is
+        ∙ ap (λ (p : order.Pass). steps_by g s stage t x.items.rows.now.grain p.kind p.attributes this)
+        (pass_there passes)
+
+    -- what the steps of its visits compute is what the item has
+    pub targets_are : found.kind ≢ InOrder → passes_of s stage ≡ passes_in x.items
         → map (target_of g t)
         (steps_of_nodes g t (visits_of g found.kind pass.attrs)
         (nodes_in (order_of found.kind) found.node (node_count t x.items.rows.now.grain this.first)))
         ≡ steps_of_item g s stage t x.items.rows.now.grain this
-    targets_are none passes =
+    targets_are other passes =
         ap
         (λ n. map (target_of g t)
         (steps_of_nodes g t (visits_of g found.kind pass.attrs)
         (nodes_in (order_of found.kind) n (node_count t x.items.rows.now.grain this.first))))
         (sym number_is)
-        ∙ by_kind found.kind (not_inorder none)
-        ∙ ap (λ k. steps_by g s stage t x.items.rows.now.grain (kind_of k) pass.attrs this) kind_is
-        ∙ ap (λ (p : order.Pass). steps_by g s stage t x.items.rows.now.grain p.kind p.attributes this)
-        (sym pass_is ∙ ap (λ (ps : List order.Pass). pass_in ps this.pass) (sym passes))
+        ∙ by_kind found.kind other
+        ∙ has passes
+
+    -- and so is what the steps of an inorder pass compute
+    pub sequence_is : StepsComputeTheSequence → found.kind ≡ InOrder → IsOrdered g s
+        → passes_of s stage ≡ passes_in x.items
+        → map (target_of g t) (inorder_steps g t pass.attrs top) ≡ steps_of_item g s stage t x.items.rows.now.grain this
+    sequence_is computes kind ordered passes =
+        ap (λ (p : order.Pass). map (target_of g t) (inorder_steps g t p.attributes top)) (pass_there passes)
+        ∙ computes g s t law ordered is.is_tree stage this.pass
+        ∙ ap (λ k. steps_by g s stage t x.items.rows.now.grain (kind_of k) pass.attrs this) (sym kind)
+        ∙ has passes

@@ -1,28 +1,29 @@
 -- The steps of an item of a stage: steps of the tree, which compute what the item has.
-use Rattle.std.specs.Prelude.{◌≡◌, ◌≢◌, ℕ, List, map, Contains}
+use Rattle.std.specs.Prelude.{◌≡◌, ℕ, List, map, Contains}
 use Rattle.ftl_dep_table.specs.Meant.{meant}
 use Rattle.ftl_item_rows.specs.StageItems.{item_in, passes_in, tree_in}
 use Rattle.ftl_items.specs.Items.{passes_of, steps_of_item}
 use Rattle.ftl_model.specs.AttributeGrammar.{AttributeGrammar}
 use Rattle.ftl_model.specs.Solves.{Instance}
 use Rattle.ftl_model.specs.Tree.{Forest}
+use Rattle.ftl_order.specs.Ordered.{IsOrdered}
 use Rattle.ftl_order.specs.Schedule.{Schedule}
 use Rattle.ftl_schedule_syntax.specs.declared.kind.PassKind.{PassKind}
 use Rattle.ftl_schedule_syntax.specs.declared.kind.PassKind.TheVariants.{BottomUp, InOrder, TopDown}
-use Rattle.ftl_stage_rows.specs.StageRows.{pass_visits}
-use Rattle.ftl_stages.specs.declared.types.Pass.{Pass}
+use Rattle.ftl_stage_rows.specs.StageRows.{pass_places, pass_visits}
 use Rattle.ftl_steps.specs.Steps.{IsStepOf, target_of}
 use Rattle.ftl_steps.specs.declared.step.Step.{Step}
 use Rattle.ftl_visit_cursor.specs.declared.nodes.NodeOrder.{NodeOrder}
 use Rattle.ftl_visit_cursor.specs.declared.nodes.NodeOrder.TheVariants.{Preorder, Reverse}
 use Rattle.ftl_visit_rows.specs.VisitRows as rows
 use Rattle.ftl_item_cursor.specs.declared.cursor.ItemCursor.{ItemCursor}
-use Rattle.ftl_item_cursor.specs.declared.cursor.ItemCursor.TheVariants.{Visits}
+use Rattle.ftl_item_cursor.specs.declared.cursor.ItemCursor.TheVariants.{Sequence, Visits}
 use Rattle.ftl_item_cursor.specs.declared.item.ItemTables.{ItemTables}
 
 -- the steps that are left
 abbrev pub steps_left : ItemCursor → List Step
 steps_left (Visits steps) = steps
+steps_left (Sequence steps) = steps
 
 -- no step of a tree
 abbrev pub no_step : Step
@@ -43,24 +44,21 @@ grammar_in x = meant x.items.rows.now.tree.now.checked
 abbrev pub forest_in : ItemTables → Forest
 forest_in x = tree_in x.items.rows.now
 
--- the visits are those of the passes, and the targets those of the rules
+-- the visits are those of the passes, with the places of their blocks, and the targets those of the rules
 pub record AreItemTables (x : ItemTables) : Type 0 where
   pub visits : x.visits.now ≡ map (pass_visits (grammar_in x)) x.items.passes.now
+  pub places : x.places.now ≡ map (pass_places (grammar_in x)) x.items.passes.now
   pub targets : x.targets.now ≡ map rows.target_of (grammar_in x).rules
 
--- no pass of the stage is inorder
-abbrev pub HasNoInorderPass : ItemTables → Type 0
-HasNoInorderPass x = (pass : Pass) → Contains x.items.passes.now pass → pass.kind ≢ InOrder
-
--- topdown passes visit nodes in preorder, and bottomup passes the other way round
+-- topdown passes visit the nodes of an item in preorder, and bottomup passes the other way round
 abbrev pub order_of : PassKind → NodeOrder
 order_of TopDown = Preorder
 order_of BottomUp = Reverse
 order_of InOrder = Preorder
 
--- what is left are the steps of the item of this number, in a stage that has these passes
+-- what is left are the steps of the item of this number, in a stage of an ordered schedule that has these passes
 abbrev pub IsCursorOf : ItemTables → (item : ℕ) → ItemCursor → Type 0
 IsCursorOf x i cursor =
-    (s : Schedule) (stage : ℕ) → passes_of s stage ≡ passes_in x.items
+    (s : Schedule) (stage : ℕ) → IsOrdered (grammar_in x) s → passes_of s stage ≡ passes_in x.items
     → AreStepsOf (grammar_in x) (forest_in x)
     (steps_of_item (grammar_in x) s stage (forest_in x) x.items.rows.now.grain (item_in x.items i)) (steps_left cursor)

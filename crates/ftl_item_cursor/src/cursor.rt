@@ -2,13 +2,17 @@
 ghost use Rattle.std.specs.Prelude.{◌≡◌, [], ◌∷◌, MatchOption};
 ghost use Rattle.ftl_item_cursor.specs.ItemSteps.{steps_left};
 
+use ftl_sequence_cursor::SequenceCursor;
 use ftl_steps::Step;
 use ftl_visit_cursor::VisitCursor;
 
-/// Goes through the steps of an item, by the visits of its nodes.
+/// Goes through the steps of an item.
 #[derive(Drop)]
 pub enum ItemCursor<'a> {
+    /// By the visits of its nodes.
     Visits(VisitCursor<'a>),
+    /// In an inorder pass, which is one item.
+    Sequence(SequenceCursor<'a>),
 }
 
 impl<'a> ItemCursor<'a> {
@@ -20,6 +24,7 @@ impl<'a> ItemCursor<'a> {
     {
         match self {
             ItemCursor::Visits(visits) => visits.next(),
+            ItemCursor::Sequence(sequence) => sequence.next(),
         }
     }
 }

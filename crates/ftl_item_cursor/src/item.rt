@@ -1,23 +1,27 @@
 //! The steps of an item of a stage.
 ghost use Rattle.std.specs.Prelude.{◌≡◌, ◌≢◌, ◌<◌, length};
-ghost use Rattle.ftl_item_rows.specs.StageItems.{items_in};
+ghost use Rattle.ftl_item_rows.specs.StageItems.{IsFound, items_in};
 ghost use Rattle.ftl_order.specs.Lawful.{IsLawful};
-ghost use Rattle.ftl_item_cursor.specs.ItemSteps.{AreItemTables, HasNoInorderPass, IsCursorOf};
+ghost use Rattle.ftl_item_cursor.specs.ItemSteps.{AreItemTables, IsCursorOf};
 ghost use Rattle.ftl_item_cursor.specs.ItemSteps.{grammar_in, order_of};
+ghost use Rattle.ftl_item_cursor.specs.declared.cursor.ItemCursor.TheVariants.{Sequence, Visits};
 ghost use Rattle.ftl_schedule_syntax.specs.declared.kind.PassKind.TheVariants.{InOrder};
 
 use crate::cursor::ItemCursor;
-use ftl_item_rows::StageItems;
+use ftl_inorder_visits::inorder_steps_make_sequences;
+use ftl_item_rows::{FoundItem, StageItems};
+use ftl_sequence_cursor::{SequenceCursor, SequencePlaces};
 use ftl_stages::PassKind;
 use ftl_visit_cursor::{NodeOrder, VisitCursor, items_by_ranges, visits_make_steps};
 use ftl_visit_rows::{PassVisits, RuleTarget};
 
-/// What the steps of the items of a stage are told by: its items, the visits of each pass, and for
-/// whom each rule is.
+/// What the steps of the items of a stage are told by: its items, the visits of each pass with the
+/// places of blocks in them, and for whom each rule is.
 #[derive(Clone, Copy)]
 pub struct ItemTables<'a> {
     pub items: StageItems<'a>,
     pub visits: &'a [PassVisits],
+    pub places: &'a [SequencePlaces],
     pub targets: &'a [RuleTarget],
 }
 
@@ -26,19 +30,48 @@ pub fn item_steps<'a>(tables: ItemTables<'a>, item: u32) -> ItemCursor<'a>
     requires law { IsLawful (grammar_in tables) }
     requires tables { AreItemTables tables }
     requires item { item < length (items_in tables.items) }
-    requires visits { HasNoInorderPass tables }
     ensures steps { IsCursorOf tables.entry item result }
+{
+    let found = tables.items.find(item);
+    match found.kind {
+        PassKind::InOrder => ItemCursor::Sequence(sequence_steps(tables, item, found)),
+        _ => ItemCursor::Visits(visit_steps(tables, item, found)),
+    }
+}
+
+/// The steps of an item of a topdown or bottomup pass: those of the visits of its nodes.
+fn visit_steps<'a>(tables: ItemTables<'a>, item: u32, found: FoundItem) -> VisitCursor<'a>
+    requires law { IsLawful (grammar_in tables) }
+    requires tables { AreItemTables tables }
+    requires item { item < length (items_in tables.items) }
+    requires found { IsFound tables.items item found }
+    requires kind { found.kind ≢ InOrder }
+    ensures steps { IsCursorOf tables.entry item (Visits result) }
 {
     visits_make_steps();
     items_by_ranges();
     let rows = tables.items.rows;
     let _nodes = rows.tree.node_count();
-    let found = tables.items.find(item);
     let count = rows.node_count(found.node);
     let visits = &tables.visits[found.pass as usize];
     let order = node_order(found.kind);
-    let steps = VisitCursor::new(rows.tree, visits, tables.targets, order, found.node, count);
-    ItemCursor::Visits(steps)
+    VisitCursor::new(rows.tree, visits, tables.targets, order, found.node, count)
+}
+
+/// The steps of the item of an inorder pass: all of the pass.
+fn sequence_steps<'a>(tables: ItemTables<'a>, item: u32, found: FoundItem) -> SequenceCursor<'a>
+    requires law { IsLawful (grammar_in tables) }
+    requires tables { AreItemTables tables }
+    requires item { item < length (items_in tables.items) }
+    requires found { IsFound tables.items item found }
+    requires kind { found.kind ≡ InOrder }
+    ensures steps { IsCursorOf tables.entry item (Sequence result) }
+{
+    inorder_steps_make_sequences();
+    let visits = &tables.visits[found.pass as usize];
+    let places = &tables.places[found.pass as usize];
+    let attrs = tables.items.passes[found.pass as usize].attrs.as_slice();
+    SequenceCursor::new(tables.items.rows.tree, visits, places, attrs)
 }
 
 /// In which order a pass visits the nodes of an item.

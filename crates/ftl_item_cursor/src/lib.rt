@@ -1,7 +1,7 @@
 //! The steps of an item, one after another. Goes in: a tree, the items of a stage, and the visits
 //! of its passes. Comes out: `ItemCursor`, a cursor over the steps of an item, which compute what
 //! the items of `ftl_items` have; how many steps are left, and each by its place.
-//! `specs/ItemSteps.antt` has the words. Items of inorder passes are not among them yet.
+//! `specs/ItemSteps.antt` has the words.
 #![tactic(auto)]
 
 mod count;

@@ -1,13 +1,13 @@
 -- The inputs of a tree are values.
-use Rattle.std.proofs.Common.{◌≡◌, ℕ, zero, suc, ◌<◌, ◌≤◌, Bool, true, false, ◌&&◌, if◌then◌else◌, refl, sym, ◌∙◌, ap, ap₂, subst, ⊎_elim, arith, List, [], ◌∷◌, filter, get_or, map, Contains, ℤ, pos, negsuc, ◌≤ℤ◌, int_le, to_z, of_z, w64, SFits}
+use Rattle.std.proofs.Common.{◌≡◌, ℕ, zero, suc, ◌≤◌, true, ◌∙◌, ap, subst, ⊎_elim, arith, List, [], ◌∷◌, get_or, Contains, ℤ, pos, to_z, of_z, w64, SFits}
 use Rattle.std.proofs.lemmas.Int.{ints, to_z-of_z}
 use Rattle.ftl_lists.specs.Lists.{place_in}
 use Rattle.ftl_lists.proofs.Elements.{filter_has}
-use Rattle.ftl_model.specs.AttributeGrammar.{AttributeGrammar, attributes_of, class_inputs, input, input_value, is_input}
-use Rattle.ftl_model.specs.Path.{Has, Path, class_at, inputs_at, node_at}
-use Rattle.ftl_model.specs.Tree.{Forest, size}
+use Rattle.ftl_model.specs.AttributeGrammar.{AttributeGrammar, attributes_of, class_inputs, input_value, is_input}
+use Rattle.ftl_model.specs.Path.{Has, Path, class_at, inputs_at}
+use Rattle.ftl_model.specs.Tree.{Forest}
 use Rattle.ftl_model.specs.TreeOf.{AreInputs, IsInput, IsTreeOf}
-use Rattle.ftl_model.specs.Values.{IsValueIn, Value, in_range, narrow, number, overflow, value_of, wide}
+use Rattle.ftl_model.specs.Values.{IsValueIn, number, value_of, wide}
 use Rattle.ftl_model.proofs.Fits.{fits_at}
 use Rattle.ftl_order.specs.Lawful.{IsLawful, OfClass}
 

@@ -1,2 +1,4 @@
 pub mod Inputs
+pub mod RowsByStage
+pub mod StagesOfPlans
 pub mod WordRows

@@ -1,12 +1,11 @@
 -- The words of all instances, node by node.
-use Rattle.std.proofs.Common.{◌≡◌, ℕ, zero, suc, ◌+◌, ◌<◌, ◌≤◌, true, false, List, [], ◌∷◌, ◌++◌, flat_map, get_or, length, map, take, refl, sym, ◌∙◌, ap, ap₂, arith}
+use Rattle.std.proofs.Common.{◌≡◌, ℕ, ◌+◌, ◌<◌, true, false, List, [], ◌∷◌, ◌++◌, flat_map, length, map, take, refl, ◌∙◌, ap, arith}
 use Rattle.std.proofs.lemmas.List.{map-append, take_all}
 use Rattle.std.proofs.lemmas.Grind.{flat_map-append}
 use Rattle.ftl_items.specs.WordLaws.{first_word, first_words}
 use Rattle.ftl_model.specs.AttributeGrammar.{AttributeGrammar, Sort, attributes_of, inherited, input, is_input, local, synthesized}
 use Rattle.ftl_model.specs.Path.{Path, class_at, node_at, preorder, top}
 use Rattle.ftl_model.specs.Solves.{Instance, instance_of}
-use Rattle.ftl_model.specs.Table.{instances}
 use Rattle.ftl_model.specs.Tree.{Forest, size}
 use Rattle.ftl_model.specs.TreeOf.{IsTreeOf}
 use Rattle.ftl_model.proofs.Numbering.{length-preorder}

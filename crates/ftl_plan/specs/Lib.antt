@@ -1,4 +1,6 @@
 pub mod Planned
+pub mod PlannedStages
 pub mod PlanInside
 pub mod NodeWords
+pub mod StageTables
 pub use Rattle.ftl_plan_limits.specs.PlanFaults

@@ -1,10 +1,13 @@
 -- The fields of a plan.
-use Rattle.std.specs.Prelude.{◌≡◌, None}
+use Rattle.std.specs.Prelude.{◌≡◌, None, map}
 use Rattle.ftl_dep_table.specs.Meant.{meant}
 use Rattle.ftl_instance_reads.specs.ReadTables.{AreTables, IsSound}
+use Rattle.ftl_item_rows.specs.StageItems.{tree_in}
 use Rattle.ftl_stages.specs.Stages.{stages_of}
 use Rattle.ftl_plan_limits.specs.PlanFaults.{first_fault}
+use Rattle.ftl_visit_rows.specs.VisitRows.{target_of}
 use Rattle.ftl_plan.specs.Planned.{MayBePlanned, PlanMeaning}
+use Rattle.ftl_plan.specs.PlannedStages.{HaveRows}
 use Rattle.ftl_plan.specs.declared.plan.Plan.TheInside.{Inside}
 
 abbrev pub plan_inside : Inside → PlanMeaning
@@ -14,13 +17,16 @@ plan_inside p =
       schedule = p.accepted.now;
       programs = p.programs.now;
       tree = p.tree.now.tree;
-      grain = p.grain;
+      grain = p.items.grain;
     }
 
--- all belong to one grammar, and there is no fault
+-- all belong to one grammar, each stage has its rows, and there is no fault
 pub record IsPlan (p : Inside) : Type 0 where
   pub tree : p.tree.now.checked ≡ p.checked.now
   pub may : MayBePlanned (plan_inside p)
   pub sound : IsSound (meant p.checked.now)
   pub tables : AreTables (meant p.checked.now) p.tables
+  pub items : p.items.tree.now ≡ p.tree.now
+  pub targets : p.targets.items ≡ map target_of (meant p.checked.now).rules
+  pub rows : HaveRows (meant p.checked.now) (tree_in p.items) p.items.grain p.accepted.now.stages p.stages.items
   pub no_fault : first_fault (meant p.checked.now) (stages_of p.accepted.now) p.tree.now.tree ≡ None

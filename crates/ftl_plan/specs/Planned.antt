@@ -4,9 +4,11 @@ use Rattle.ftl_model.specs.Tree.{Forest}
 use Rattle.ftl_order.specs.Ordered.{IsOrdered}
 use Rattle.ftl_grammar_faults.specs.Checked.{CheckedGrammar}
 use Rattle.ftl_dep_table.specs.Meant.{meant}
+use Rattle.ftl_programs.specs.Compilable.{HasCode}
 use Rattle.ftl_programs.specs.RuleCode.{Compiled, rule_codes}
 use Rattle.ftl_stages.specs.Stages.{stages_of}
 use Rattle.ftl_stages.specs.declared.types.Schedule.{Schedule}
+use Rattle.ftl_plan.specs.PlannedStages.{HaveFewPasses}
 use Rattle.ftl_plan_limits.specs.PlanFaults.{first_fault}
 use Rattle.ftl_plan_limits.specs.declared.fault.PlanFault.{PlanFault}
 
@@ -18,11 +20,13 @@ pub record PlanMeaning : Type 0 where
   pub tree : Forest
   pub grain : ℕ
 
--- the schedule is ordered, and the code is that of the grammar; there are at most so many stages, and the grain is in
--- range
+-- the schedule is ordered, and the code is that of the grammar, which has some; there are at most so many stages with at
+-- most so many passes each, and the grain is in range
 pub record MayBePlanned (p : PlanMeaning) : Type 0 where
   pub ordered : IsOrdered (meant p.checked) (stages_of p.schedule)
   pub stages : length (stages_of p.schedule) ≤ 2048
+  pub passes : HaveFewPasses p.schedule.stages
+  pub code : HasCode p.checked.grammar
   pub rules : p.programs.rules ≡ rule_codes p.checked.grammar
   pub width : p.programs.width ≡ p.checked.width
   pub some_nodes : 1 ≤ p.grain

@@ -5,6 +5,7 @@
 
 mod plan;
 mod sound;
+mod stages;
 mod words;
 
 pub use ftl_plan_limits::PlanFault;

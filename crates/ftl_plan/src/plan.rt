@@ -1,23 +1,32 @@
 //! Plans.
-ghost use Rattle.std.specs.Prelude.{◌≡◌, length, IfOk};
+ghost use Rattle.std.specs.Prelude.{◌≡◌, ◌<◌, length, IfOk};
 ghost use Rattle.ftl_dep_table.specs.Meant.{meant};
 ghost use Rattle.ftl_items.specs.WordLaws.{first_words};
 ghost use Rattle.ftl_model.specs.Outcome.{Gives};
+ghost use Rattle.ftl_stage_laws.specs.StageMeanings.{CanBePlanned};
 ghost use Rattle.ftl_stages.specs.Stages.{stages_of};
 ghost use Rattle.ftl_plan.specs.Planned.{MayBePlanned, planned};
+ghost use Rattle.ftl_plan.specs.StageTables.{AreTablesOf, stage_in};
 ghost use Rattle.ftl_plan_limits.specs.declared.fault.PlanFault.TheVariants.{OutOfMemory};
 
 use crate::sound::is_sound;
+use crate::stages::rows_of_stages;
 use crate::words::node_words;
 use ftl_checked::Checked;
+use ftl_item_cursor::ItemTables;
+use ftl_item_rows::{ItemRows, StageItems};
 use ftl_plan_limits::{PlanFault, ReadTables, first_fault};
 use ftl_programs::Programs;
+use ftl_stage::{StageParts, StageWork};
+use ftl_stage_rows::StageRows;
 use ftl_tree::Tree;
 use ftl_verify::Accepted;
+use ftl_visit_rows::{RuleTarget, rule_targets};
 use std::alloc::{AllocError, Global};
 use std::marker::Model;
 
-/// The stages of a tree. It borrows what it is made of.
+/// The stages of a tree. It borrows what it is made of, and keeps no list of steps: for each class
+/// and pass what a visit does, and for each node where items begin.
 #[derive(Drop)]
 pub struct Plan<'a> {
     checked: &'a Checked,
@@ -25,7 +34,9 @@ pub struct Plan<'a> {
     programs: &'a Programs,
     tree: &'a Tree<'a>,
     tables: ReadTables,
-    grain: u32,
+    items: ItemRows<'a>,
+    targets: Vec<RuleTarget>,
+    stages: Vec<StageRows>,
 }
 
 impl<'a> Model for Plan<'a> {
@@ -73,24 +84,71 @@ impl<'a> Plan<'a> {
     {
         is_sound(checked);
         let tables = ReadTables::new(alloc, checked)?;
-        match first_fault(alloc, &tables, accepted, tree)? {
-            Some(fault) => Err(fault),
-            None => Ok(Plan {
-                checked,
-                accepted,
-                programs,
-                tree,
-                tables,
-                grain,
-            }),
+        if let Some(fault) = first_fault(alloc, &tables, accepted, tree)? {
+            return Err(fault);
         }
+        let items = ItemRows::new(alloc, tree, grain)?;
+        let targets = rule_targets(alloc, checked)?;
+        let stages = rows_of_stages(
+            alloc,
+            checked,
+            &items,
+            accepted.schedule().stages.as_slice(),
+        )?;
+        Ok(Plan {
+            checked,
+            accepted,
+            programs,
+            tree,
+            tables,
+            items,
+            targets,
+            stages,
+        })
     }
 
     /// How many stages the schedule has.
     pub fn stage_count(&self) -> u32
         ensures count { result ≡ length (stages_of self.now.schedule) }
+        ensures plan { CanBePlanned (meant self.now.checked) (stages_of self.now.schedule)
+            self.now.tree }
     {
+        let _nodes = self.tree.node_count();
+        let _cells = self.tree.instance_count();
         self.accepted.schedule().stages.len() as u32
+    }
+
+    /// The work of a stage. It borrows the plan, and takes no memory.
+    pub fn stage(&self, stage: u32) -> StageWork<'_>
+        requires stage { stage < length (stages_of self.now.schedule) }
+        ensures stage { result ≡ stage_in self.now stage }
+    {
+        let _stages = self.stage_count();
+        StageWork::new(StageParts {
+            accepted: self.accepted,
+            programs: self.programs,
+            read_tables: &self.tables,
+            item_tables: self.item_tables(stage),
+            stage,
+        })
+    }
+
+    /// The items of a stage, with what their steps are told by.
+    fn item_tables(&self, stage: u32) -> ItemTables<'_>
+        requires stage { stage < length (stages_of self.now.schedule) }
+        ensures tables { AreTablesOf self.now stage result }
+    {
+        let stages = self.stages.as_slice();
+        let rows = &stages[stage as usize];
+        let passes = self.accepted.schedule().stages.as_slice()[stage as usize]
+            .passes
+            .as_slice();
+        ItemTables {
+            items: StageItems::new(&self.items, passes, rows.starts.as_slice()),
+            visits: rows.visits.as_slice(),
+            places: rows.places.as_slice(),
+            targets: self.targets.as_slice(),
+        }
     }
 
     /// The words of all cells before the first stage: those of the inputs, and 0 elsewhere.

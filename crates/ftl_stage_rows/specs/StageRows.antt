@@ -3,6 +3,8 @@ use Rattle.std.specs.Prelude.{◌≡◌, ℕ, List, map}
 use Rattle.ftl_item_rows.specs.RowsFit.{AreStarts}
 use Rattle.ftl_model.specs.AttributeGrammar.{AttributeGrammar}
 use Rattle.ftl_model.specs.Tree.{Forest}
+use Rattle.ftl_sequence_cursor.specs.BlockPlaces.{places_of}
+use Rattle.ftl_sequence_cursor.specs.declared.block_places.BlockPlaces.{BlockPlaces}
 use Rattle.ftl_stages.specs.Stages.{pass_of}
 use Rattle.ftl_stages.specs.declared.types.Pass.{Pass}
 use Rattle.ftl_visit_list.specs.declared.visit_op.VisitOp.{VisitOp}
@@ -13,8 +15,13 @@ use Rattle.ftl_stage_rows.specs.declared.rows.StageRows.{StageRows}
 abbrev pub pass_visits : AttributeGrammar → Pass → List (List VisitOp)
 pass_visits g pass = visits_of g pass.kind pass.attrs
 
--- where the items of the passes begin, and the visits of each
+-- where the blocks of children stand in them
+abbrev pub pass_places : AttributeGrammar → Pass → List (List BlockPlaces)
+pass_places g pass = places_of (pass_visits g pass)
+
+-- where the items of the passes begin, and of each pass the visits and where the blocks of children stand in them
 pub record AreStageRows (g : AttributeGrammar) (t : Forest) (grain : ℕ) (passes : List Pass) (rows : StageRows) :
     Type 0 where
   pub starts : AreStarts (map pass_of passes) t grain rows.starts.items
   pub visits : rows.visits.items ≡ map (pass_visits g) passes
+  pub places : rows.places.items ≡ map (pass_places g) passes

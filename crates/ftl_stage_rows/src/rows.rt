@@ -1,20 +1,23 @@
 //! The rows of a stage.
-ghost use Rattle.std.specs.Prelude.{◌≡◌, ◌≤◌, length, map, IfOk};
+ghost use Rattle.std.specs.Prelude.{◌≤◌, length, IfOk};
 ghost use Rattle.ftl_dep_table.specs.Meant.{meant};
 ghost use Rattle.ftl_item_rows.specs.StageItems.{tree_in};
-ghost use Rattle.ftl_stage_rows.specs.StageRows.{AreStageRows, pass_visits};
+ghost use Rattle.ftl_stage_rows.specs.StageRows.{AreStageRows};
 
 use ftl_item_rows::{ItemRows, pass_starts};
+use ftl_sequence_cursor::SequencePlaces;
 use ftl_stages::Pass;
 use ftl_visit_list::RuleIndex;
 use ftl_visit_rows::PassVisits;
 use std::alloc::{AllocError, Global};
 
-/// How many items come before each pass of a stage, and the visits of each pass.
+/// How many items come before each pass of a stage, the visits of each pass, and the places of
+/// blocks in them, of which only inorder passes have any.
 #[derive(Drop)]
 pub struct StageRows {
     pub starts: Vec<u32>,
     pub visits: Vec<PassVisits>,
+    pub places: Vec<SequencePlaces>,
 }
 
 impl StageRows {
@@ -30,22 +33,17 @@ impl StageRows {
             items.now.grain passes.now) }
     {
         let starts = pass_starts(alloc, items, passes)?;
-        let visits = visits_of_passes(alloc, index, passes)?;
-        Ok(StageRows { starts, visits })
+        let mut visits = Vec::with_capacity(alloc, passes.len())?;
+        let mut places = Vec::with_capacity(alloc, passes.len())?;
+        for pass in passes {
+            let of_pass = PassVisits::new(alloc, index, pass.kind, pass.attrs.as_slice())?;
+            places.push(SequencePlaces::new(alloc, &of_pass, index.checked())?)?;
+            visits.push(of_pass)?;
+        }
+        Ok(StageRows {
+            starts,
+            visits,
+            places,
+        })
     }
-}
-
-/// The visits of each pass.
-fn visits_of_passes(
-    alloc: Global,
-    index: &RuleIndex<'_>,
-    passes: &[Pass],
-) -> Result<Vec<PassVisits>, AllocError>
-    ensures visits { IfOk result (λ v. v.items ≡ map (pass_visits (meant index.now)) passes.now) }
-{
-    let mut visits = Vec::with_capacity(alloc, passes.len())?;
-    for pass in passes {
-        visits.push(PassVisits::new(alloc, index, pass.kind, pass.attrs.as_slice())?)?;
-    }
-    Ok(visits)
 }

@@ -8,7 +8,7 @@ use Rattle.ftl_items.specs.WordLaws.{first_word}
 use Rattle.ftl_instance_reads.specs.ReadTables.{class_in, instance_in}
 use Rattle.ftl_instance_reads.proofs.Entries.{there}
 use Rattle.ftl_plan.proofs.Inputs.{input_kept, input_listed}
-use Rattle.ftl_plan.proofs.WordRows.{input_sort, none_yet}
+use Rattle.ftl_plan.proofs.WordRows.{input_sort}
 use Rattle.ftl_plan.proofs.words.first_word.Goals as goal
 
 pub input-requires-clause-attr : goal.input-requires-clause-attr

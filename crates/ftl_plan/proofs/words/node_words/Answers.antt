@@ -1,10 +1,9 @@
-use Rattle.std.proofs.Common.{◌≡◌, ◌<◌, ◌≤◌, ◌+◌, ◌++◌, ℕ, List, length, get_or, map, take, ap, ◌∙◌, subst, sym, arith, Contains}
+use Rattle.std.proofs.Common.{◌≡◌, ◌<◌, ◌++◌, ℕ, List, get_or, map, ap, ◌∙◌, subst, arith, Contains}
 use Rattle.ftl_model.specs.AttributeGrammar.{attributes_of}
 use Rattle.ftl_dep_table.specs.Meant.{meant}
 use Rattle.ftl_instance_reads.proofs.Entries.{class_in_range, entry}
 use Rattle.std.proofs.lemmas.List.{take_all}
 use Rattle.std.proofs.lemmas.List.Elements.{Contains-get_or}
-use Rattle.ftl_order.specs.Lawful.{OfClass}
 use Rattle.ftl_instance_reads.specs.ReadTables.{class_in, instance_in}
 use Rattle.ftl_plan.specs.NodeWords.{word_before}
 use Rattle.ftl_plan.proofs.words.node_words.Goals as goal

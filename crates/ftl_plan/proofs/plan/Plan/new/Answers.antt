@@ -1,4 +1,4 @@
-use Rattle.std.proofs.Common.{◌≡◌, ap, ◌∙◌, sym, Option, Some, None, subst}
+use Rattle.std.proofs.Common.{◌≡◌, ap, ◌∙◌, sym, Option, Some, None, refl}
 use Rattle.ftl_grammar_faults.specs.Checked.{CheckedGrammar}
 use Rattle.ftl_dep_table.specs.Meant.{meant}
 use Rattle.ftl_stages.specs.Stages.{stages_of}
@@ -23,6 +23,11 @@ returns-in-Some c =
     ∙ ap (λ (x : CheckedGrammar). first_fault (meant x) (stages_of p.schedule) p.tree) c.requires.tree) in
     record { exact = λ other. ap (λ (o : Option PlanFault). unless_fault o p) found }
 
+-- none of the faults is none
+none_is : (o : Option PlanFault) → ((fault : PlanFault) → o ≡ Some fault → ⊥) → o ≡ None
+none_is None h = refl
+none_is (Some fault) h = absurd (h fault refl)
+
 pub returns : goal.returns
 returns c =
     let p : PlanMeaning = record {
@@ -34,7 +39,19 @@ returns c =
     } in
     let none : first_fault (meant p.checked) (stages_of p.schedule) p.tree ≡ None =
     sym
-    (sym c.in-None.is
+    (sym (none_is c.in_ok-fault.field-0 c.in_default.not-Some)
     ∙ c.in_ok-fault.ensures.fault
     ∙ ap (λ (x : CheckedGrammar). first_fault (meant x) (stages_of p.schedule) p.tree) c.requires.tree) in
-    record { exact = ap (λ (o : Option PlanFault). unless_fault o p) none }
+    record {
+      exact =
+          ap (λ (o : Option PlanFault). unless_fault o p) none
+          ∙ ap
+          (λ n. unless_fault None (record {
+            checked = p.checked;
+            schedule = p.schedule;
+            programs = p.programs;
+            tree = p.tree;
+            grain = n;
+          }))
+          (sym c.in_ok-items.ensures.made.grain_is);
+    }

@@ -1,0 +1,29 @@
+use Rattle.std.proofs.Common.{◌≡◌, ap, ◌∙◌, refl, sym, subst}
+use Rattle.ftl_dep_table.specs.Meant.{meant}
+use Rattle.ftl_plan.specs.Planned.{PlanMeaning}
+use Rattle.ftl_plan.specs.StageTables.{AreTablesOf, stage_in}
+use Rattle.ftl_plan.proofs.StagesOfPlans.{stage_fits, stage_view}
+use Rattle.ftl_stage_laws.specs.StageMeanings.{CanBePlanned}
+use Rattle.ftl_stages.specs.Stages.{stages_of}
+use Rattle.ftl_plan.proofs.plan.Plan.stage.Goals as goal
+
+pub new-requires : goal.new-requires
+new-requires c =
+    let p = c.self.inside in
+    let at = subst (λ (q : PlanMeaning). AreTablesOf q c.args.stage c.item_tables.result) (sym c.self.view_is)
+    c.item_tables.ensures.tables in
+    let can = subst (λ (q : PlanMeaning). CanBePlanned (meant q.checked) (stages_of q.schedule) q.tree)
+    (sym c.self.view_is) c.stage_count-stages.ensures.plan in
+    record { fit = stage_fits p c.self.invariant _ at refl refl refl can }
+
+pub returns : goal.returns
+returns c =
+    let p = c.self.inside in
+    let at = subst (λ (q : PlanMeaning). AreTablesOf q c.args.stage c.item_tables.result) (sym c.self.view_is)
+    c.item_tables.ensures.tables in
+    record {
+      stage =
+          c.new.ensures.stage
+          ∙ stage_view p c.self.invariant c.args.stage c.item_tables.result at
+          ∙ ap (λ (q : PlanMeaning). stage_in q c.args.stage) c.self.view_is;
+    }

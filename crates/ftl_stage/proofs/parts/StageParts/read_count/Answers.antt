@@ -1,0 +1,35 @@
+use Rattle.std.proofs.Common.{◌∙◌, ap, length, subst, sym}
+use Rattle.ftl_dep_table.specs.Meant.{meant}
+use Rattle.ftl_instance_reads.specs.ReadTables.{AreTables, IsSound}
+use Rattle.ftl_order.specs.Reads.{reads_of}
+use Rattle.ftl_steps.specs.Steps.{IsStepOf, target_of}
+use Rattle.ftl_tree.specs.CheckedTree.{CheckedTree}
+use Rattle.ftl_stage.proofs.Bridge.{read_total_is}
+use Rattle.ftl_stage.proofs.parts.StageParts.read_count.Goals as goal
+
+pub read_count-requires-clause-sound : goal.read_count-requires-clause-sound
+read_count-requires-clause-sound c =
+    subst (λ (t : CheckedTree). IsSound (meant t.checked)) (sym c.tree.ensures.tree) c.requires.fit.sound
+
+pub read_count-requires-clause-tables : goal.read_count-requires-clause-tables
+read_count-requires-clause-tables c =
+    subst (λ (t : CheckedTree). AreTables (meant t.checked) c.args.self.now.read_tables.now) (sym c.tree.ensures.tree)
+    c.requires.fit.tables_are
+
+pub read_count-requires-clause-step : goal.read_count-requires-clause-step
+read_count-requires-clause-step c =
+    subst (λ (t : CheckedTree). IsStepOf (meant t.checked) t.tree c.step.result) (sym c.tree.ensures.tree)
+    c.step.ensures.step.is_step
+
+pub returns : goal.returns
+returns c =
+    let w = c.args.self.now in
+    record {
+      count =
+          c.read_count.ensures.count
+          ∙ ap
+          (λ (t : CheckedTree). length
+          (reads_of (meant t.checked) t.tree (target_of (meant t.checked) t.tree c.step.result)))
+          c.tree.ensures.tree
+          ∙ read_total_is w c.requires.fit c.args.item c.args.step c.step.result c.requires.step c.step.ensures.step;
+    }
