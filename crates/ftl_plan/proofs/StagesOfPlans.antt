@@ -13,8 +13,7 @@ use Rattle.ftl_model.specs.Table.{instance_count}
 use Rattle.ftl_model.specs.Tree.{Forest, size}
 use Rattle.ftl_model.specs.TreeOf.{IsTreeOf}
 use Rattle.ftl_order.specs.Schedule as order
-use Rattle.ftl_programs.specs.RuleCode.{Compiled}
-use Rattle.ftl_stage.specs.StageParts.{IsStage, StageView, view_of}
+use Rattle.ftl_stage.specs.StageParts.{IsStage, StageView}
 use Rattle.ftl_stage.specs.declared.parts.StageParts.{StageParts}
 use Rattle.ftl_stage_laws.specs.StageMeanings.{CanBePlanned}
 use Rattle.ftl_step_value.specs.StepValue.{IsCodeFor}
@@ -112,28 +111,28 @@ module _ (p : Inside) (is : IsPlan p) where
       → w.accepted.now ≡ p.accepted.now → w.programs.now ≡ p.programs.now → w.read_tables.now ≡ p.tables
       → CanBePlanned (meant p.checked.now) (stages_of p.accepted.now) p.tree.now.tree → IsStage w
   stage_fits w at accepted programs tables can =
-        let back : p.checked.now ≡ w.item_tables.items.rows.now.tree.now.checked = sym at.checked in
-        record {
-          sound = subst (λ (c : CheckedGrammar). IsSound (meant c)) back is.sound;
-          can =
-              subst
-              (λ (c : CheckedGrammar). CanBePlanned (meant c) (stages_of w.accepted.now) (forest_in w.item_tables)) back
-              (subst (CanBePlanned (meant p.checked.now) (stages_of w.accepted.now)) (sym at.tree)
-              (subst (λ (s : Schedule). CanBePlanned (meant p.checked.now) (stages_of s) p.tree.now.tree)
-              (sym accepted) can));
-          tables_are =
-              subst (λ (c : CheckedGrammar). AreTables (meant c) w.read_tables.now) back
-              (subst (AreTables (meant p.checked.now)) (sym tables) is.tables);
-          code =
-              subst (λ (c : CheckedGrammar). IsCodeFor c w.programs.now) back
-              (subst (IsCodeFor p.checked.now) (sym programs) (record {
-                rules = is.may.rules;
-                width = is.may.width;
-                compilable = is.may.code;
-              }));
-          passes = ap (λ (s : Schedule). passes_of (stages_of s) w.stage) accepted ∙ at.passes;
-          items = at.tables;
-        }
+      let back : p.checked.now ≡ w.item_tables.items.rows.now.tree.now.checked = sym at.checked in
+      record {
+        sound = subst (λ (c : CheckedGrammar). IsSound (meant c)) back is.sound;
+        can =
+            subst
+            (λ (c : CheckedGrammar). CanBePlanned (meant c) (stages_of w.accepted.now) (forest_in w.item_tables)) back
+            (subst (CanBePlanned (meant p.checked.now) (stages_of w.accepted.now)) (sym at.tree)
+            (subst (λ (s : Schedule). CanBePlanned (meant p.checked.now) (stages_of s) p.tree.now.tree)
+            (sym accepted) can));
+        tables_are =
+            subst (λ (c : CheckedGrammar). AreTables (meant c) w.read_tables.now) back
+            (subst (AreTables (meant p.checked.now)) (sym tables) is.tables);
+        code =
+            subst (λ (c : CheckedGrammar). IsCodeFor c w.programs.now) back
+            (subst (IsCodeFor p.checked.now) (sym programs) (record {
+              rules = is.may.rules;
+              width = is.may.width;
+              compilable = is.may.code;
+            }));
+        passes = ap (λ (s : Schedule). passes_of (stages_of s) w.stage) accepted ∙ at.passes;
+        items = at.tables;
+      }
 
   -- and are known by what the plan means
   pub stage_view : (n : ℕ) (x : ItemTables) → AreTablesOf (plan_inside p) n x

@@ -1,4 +1,4 @@
-use Rattle.std.proofs.Common.{◌≡◌, ap, ◌∙◌, refl, sym, subst}
+use Rattle.std.proofs.Common.{ap, ◌∙◌, refl, sym, subst}
 use Rattle.ftl_dep_table.specs.Meant.{meant}
 use Rattle.ftl_plan.specs.Planned.{PlanMeaning}
 use Rattle.ftl_plan.specs.StageTables.{AreTablesOf, stage_in}

@@ -1,4 +1,4 @@
-use Rattle.std.proofs.Common.{◌≤◌, ap, subst, arith}
+use Rattle.std.proofs.Common.{◌≤◌, subst, arith}
 use Rattle.ftl_dep_table.specs.Meant.{meant}
 use Rattle.ftl_model.specs.Table.{instance_count}
 use Rattle.ftl_model.specs.Tree.{size}
