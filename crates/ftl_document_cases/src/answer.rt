@@ -4,7 +4,8 @@ ghost use Rattle.std.specs.Prelude.{◌≡◌};
 ghost use Rattle.ftl_base.specs.Widths.{greatest_of_width};
 ghost use Rattle.ftl_tokens.specs.Tokenized.{IsGreatestNumber};
 
-use crate::nodes::write_nodes;
+use crate::nodes::{write_counts, write_nodes};
+use crate::way::{Way, built};
 use ftl_base::Width;
 use ftl_checked::Checked;
 use ftl_document::read_document;
@@ -14,33 +15,84 @@ use ftl_page::Section;
 use ftl_refusals::{write_document_fault, write_token_fault};
 use ftl_tokens::{TokenFault, WideScanned, document_tokens};
 use std::alloc::{AllocError, Global};
+use std::fmt::Write;
 
-/// The refusal line of a document, or its nodes.
-pub fn answer(alloc: Global, grammar: &str, document: &str) -> Result<String, AllocError> {
-    match grammar_of_text(alloc, grammar, Width::Narrow)? {
-        Some(checked) => of_text(alloc, &checked, document),
+/// The refusal line of a document, or its nodes, in the way that is asked for.
+pub(crate) fn answer(
+    alloc: Global,
+    way: Way,
+    grammar: &str,
+    document: &str,
+) -> Result<String, AllocError> {
+    match grammar_of_text(alloc, grammar, width_of(way))? {
+        Some(checked) => in_way(alloc, way, &checked, document),
         None => String::from_str(alloc, "no grammar\n"),
     }
 }
 
-fn of_text(alloc: Global, checked: &Checked, document: &str) -> Result<String, AllocError> {
+fn in_way(
+    alloc: Global,
+    way: Way,
+    checked: &Checked,
+    document: &str,
+) -> Result<String, AllocError> {
+    match way {
+        Way::Plain | Way::Wide => of_text(alloc, way, checked, document),
+        Way::Cut => of_fronts(alloc, checked, document.trim()),
+        Way::Built => {
+            let document = built(alloc, document)?;
+            of_text(alloc, way, checked, document.as_str())
+        }
+    }
+}
+
+/// A line for each front of the document, with its length before it, and what the whole gives.
+fn of_fronts(alloc: Global, checked: &Checked, document: &str) -> Result<String, AllocError> {
+    let mut out = String::new(alloc);
+    let mut front = String::new(alloc);
+    for letter in document.chars() {
+        let line = of_text(alloc, Way::Cut, checked, front.as_str())?;
+        write!(out, "{} {line}", front.len())?;
+        front.push(letter)?;
+    }
+    let whole = of_text(alloc, Way::Cut, checked, front.as_str())?;
+    out.push_str(whole.as_str())?;
+    Ok(out)
+}
+
+fn of_text(
+    alloc: Global,
+    way: Way,
+    checked: &Checked,
+    document: &str,
+) -> Result<String, AllocError> {
     if document.len() > 67108864 {
         return String::from_str(alloc, "too long\n");
     }
     let text = String::from_str(alloc, document)?;
     match document_tokens(alloc, text, greatest_number(checked.width())) {
-        Ok(scanned) => of_tokens(alloc, checked, &scanned),
+        Ok(scanned) => of_tokens(alloc, way, checked, &scanned),
         Err(fault) => token_line(alloc, fault),
     }
 }
 
-fn of_tokens(alloc: Global, checked: &Checked, scanned: &WideScanned) -> Result<String, AllocError>
+fn of_tokens(
+    alloc: Global,
+    way: Way,
+    checked: &Checked,
+    scanned: &WideScanned,
+) -> Result<String, AllocError>
     requires width { scanned.now.greatest ≡ greatest_of_width checked.now.width }
 {
     match read_document(alloc, checked, scanned) {
         Ok(tree) => {
             let mut out = String::new(alloc);
-            write_nodes(alloc, &mut out, &tree, scanned)?;
+            match way {
+                Way::Plain | Way::Wide | Way::Cut => {
+                    write_nodes(alloc, &mut out, &tree, scanned)?;
+                }
+                Way::Built => write_counts(&mut out, &tree)?,
+            }
             Ok(out)
         }
         Err(fault) => fault_line(alloc, checked, &fault),
@@ -62,6 +114,14 @@ fn fault_line(alloc: Global, checked: &Checked, fault: &DocFault) -> Result<Stri
 fn ended(alloc: Global, mut line: Vec<u8>) -> Result<String, AllocError> {
     line.push(b'\n')?;
     Ok(String::from_utf8(line).unwrap_or(String::new(alloc)))
+}
+
+/// Only where the way says so, numbers are wide.
+fn width_of(way: Way) -> Width {
+    match way {
+        Way::Plain | Way::Cut | Way::Built => Width::Narrow,
+        Way::Wide => Width::Wide,
+    }
 }
 
 /// The greatest number of a width.

@@ -1,17 +1,22 @@
 //! Prints what the reader of documents answers to those on standard input. Each case begins by a
 //! line with `%` and a title. The title's first word names a shipped grammar, or is `own`, where
 //! the grammar's text stands before `==`. Then stands the document. Printed is its refusal line, or
-//! where it has none, a line for each node of the tree and one with the inputs of all nodes.
+//! where it has none, a line for each node of the tree, one with the inputs of all nodes, and the
+//! tree's canonical text. The second word of the title may ask for another way: `wide` for numbers
+//! of the wide width, `cut` for each front of the document, and `built` for a document whose lines
+//! say how often a piece of it comes, of which only the counts are printed.
 #![tactic(auto)]
 
 mod answer;
 mod nodes;
+mod way;
 
 use answer::answer;
 use ftl_boxes::shipped;
 use ftl_edge::{StdSource, read_all};
 use std::alloc::{AllocError, Global};
 use std::io;
+use way::way_of;
 
 /// The most bytes of all cases.
 const MAX_TEXT: usize = 1048576;
@@ -25,12 +30,14 @@ fn read_text(rt: &impl Input, alloc: Global) -> Option<String> {
 
 /// The answer to the document of a case.
 fn case_answer(alloc: Global, title: &str, body: &str) -> Result<String, AllocError> {
-    let (name, _title) = title.split_once(' ').unwrap_or((title, ""));
+    let (name, rest) = title.split_once(' ').unwrap_or((title, ""));
+    let (word, _title) = rest.split_once(' ').unwrap_or((rest, ""));
+    let way = way_of(word);
     if name == "own" {
         let (grammar, document) = body.split_once("==").unwrap_or((body, ""));
-        return answer(alloc, grammar, document);
+        return answer(alloc, way, grammar, document);
     }
-    answer(alloc, shipped(name).unwrap_or(""), body)
+    answer(alloc, way, shipped(name).unwrap_or(""), body)
 }
 
 fn main(rt: HostRuntime) -> io::Result<()> {

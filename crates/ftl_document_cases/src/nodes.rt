@@ -7,10 +7,11 @@ use ftl_document_syntax::read_written_document;
 use ftl_document_walk::document_nodes;
 use ftl_tokens::WideScanned;
 use ftl_tree::Tree;
+use ftl_tree_printing::print_document;
 use std::alloc::{AllocError, Global};
 use std::fmt::Write;
 
-/// A line for each node, and one with the inputs of all.
+/// A line for each node, one with the inputs of all, and the tree's canonical text.
 pub(crate) fn write_nodes(
     alloc: Global,
     out: &mut String,
@@ -20,13 +21,23 @@ pub(crate) fn write_nodes(
     for node in 0..tree.node_count() {
         write_node(out, tree, node)?;
     }
-    match read_written_document(alloc, scanned) {
-        Ok(document) => match document_nodes(alloc, tree.checked(), &document) {
-            Ok(nodes) => write_inputs(out, nodes.inputs.as_slice()),
-            Err(_fault) => Ok(()),
-        },
-        Err(_fault) => Ok(()),
+    if let Ok(document) = read_written_document(alloc, scanned) {
+        if let Ok(nodes) = document_nodes(alloc, tree.checked(), &document) {
+            write_inputs(out, nodes.inputs.as_slice())?;
+        }
     }
+    let text = print_document(alloc, tree)?;
+    write!(out, "text {text}")
+}
+
+/// How many nodes and instances there are.
+pub(crate) fn write_counts(out: &mut String, tree: &Tree) -> Result<(), AllocError> {
+    write!(
+        out,
+        "{} nodes, {} instances\n",
+        tree.node_count(),
+        tree.instance_count()
+    )
 }
 
 fn write_node(out: &mut String, tree: &Tree, node: u32) -> Result<(), AllocError>

@@ -6,18 +6,17 @@ use Rattle.std.proofs.lemmas.List.FromFn.{get_or-map-range_with_len, length-map-
 use Rattle.std.proofs.lemmas.Simd.{map-map}
 use mathlib.Core.Path.{fun_ext}
 use Rattle.ftl_cells.specs.Shape.{HasStep, listed, listing}
-use Rattle.ftl_cells.specs.Work.{Meaning, IsStepOfItem, cell_total, item_total, kind_at, next_at, next_total, pred_total, read_total, reads_of_step, solution_at, solved_reads, step_total, target_of as cell_of}
+use Rattle.ftl_cells.specs.Work.{Meaning, IsStepOfItem, cell_total, item_total, kind_at, next_at, next_total, pred_total, read_total, reads_of_step, solution_at, step_total, target_of as cell_of}
 use Rattle.ftl_cells.proofs.Shapes.{cell_total-listed, has_step, item_below, item_total-listed, kind_at-listed, next_at-listed, next_total-listed, pred_total-listed, read_total-listed, reads_of_step-listed, solution_at-listed, step_total-listed, target_of-listed}
 use Rattle.ftl_item_cursor.specs.ItemSteps.{AreStepsOf, IsCursorOf, no_step, steps_left}
 use Rattle.ftl_item_cursor.specs.declared.cursor.ItemCursor.{ItemCursor}
 use Rattle.ftl_item_rows.specs.StageItems.{items_in, passes_in}
 use Rattle.ftl_items.specs.Items.{items, nexts, no_item, passes_of, predecessors, steps_of_item}
-use Rattle.ftl_items.specs.StageWork.{kind_of, no_instance, reads_at, stage_items, step_at, steps_in}
+use Rattle.ftl_items.specs.StageWork.{kind_of, no_instance, reads_at}
 use Rattle.ftl_model.specs.AttributeGrammar.{AttributeGrammar}
-use Rattle.ftl_model.specs.Solves.{Instance, IsInstance}
 use Rattle.ftl_model.specs.Table.{SolvesList, instance_count, instance_number, instances, value_in}
 use Rattle.ftl_model.specs.Tree.{Forest}
-use Rattle.ftl_model.specs.Values.{Value, overflow}
+use Rattle.ftl_model.specs.Values.{overflow}
 use Rattle.ftl_order.specs.Reads.{reads_of}
 use Rattle.ftl_order.specs.Schedule.{Pass, Schedule}
 use Rattle.ftl_solution.specs.Solution.{solution}

@@ -1,1 +1,2 @@
 pub mod StageParts
+pub mod Driving

@@ -1,7 +1,10 @@
 //! What the work of a stage means, and its answers.
 use crate::work::StageWork;
 use ftl_base::{CodeStack, Val};
-use ftl_cells::{CellKind, Meant, Work};
+use ftl_cells::{CellKind, Filler, Meant, Work};
+
+// No step of a tree that has a plan reads more cells.
+const MAX_READS: u32 = 1048576;
 
 impl<'a> Meant for StageWork<'a> {
     ghost use Rattle.ftl_stage.specs.StageParts.{meaning_at};
@@ -51,7 +54,7 @@ impl<'a> Work for StageWork<'a> {
     }
 
     fn max_reads(&self) -> u32 {
-        1048576
+        MAX_READS
     }
 
     fn max_stack(&self) -> u32 {
@@ -60,5 +63,15 @@ impl<'a> Work for StageWork<'a> {
 
     fn result(&self, item: u32, step: u32, reads: &[Val], stack: &mut CodeStack) -> Val {
         self.parts.result(item, step, reads, stack)
+    }
+
+    fn run_item<F: Filler>(
+        &self,
+        item: u32,
+        filler: &mut F,
+        reads: &mut Vec<Val>,
+        stack: &mut CodeStack,
+    ) {
+        self.parts.run_item(item, filler, reads, stack);
     }
 }

@@ -5,7 +5,8 @@ ghost use Rattle.ftl_stage.specs.StageParts.{IsStage, view_of};
 use crate::parts::StageParts;
 use std::marker::Model;
 
-/// The work of a stage of a plan. It borrows what the plan keeps.
+/// The work of a stage of a plan. It borrows what the plan keeps. `run_item` makes each step of an
+/// item once; what is asked of a single step goes through the steps before it.
 #[derive(Drop)]
 pub struct StageWork<'a> {
     pub(crate) parts: StageParts<'a>,

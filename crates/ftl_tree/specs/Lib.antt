@@ -1,5 +1,7 @@
 pub mod CheckedTree
 pub mod FlatTree
+pub mod WithInput
+pub mod Bare
 pub mod OwnerRuns
 pub use Rattle.ftl_tree_rows.specs.Rows
 pub use Rattle.ftl_tree_rows.specs.KidRuns

@@ -8,11 +8,12 @@ ghost use Rattle.ftl_model.specs.Path.{down, number_of, parent_of, inputs_at};
 ghost use Rattle.ftl_model.specs.Solves.{instance_of};
 ghost use Rattle.ftl_model.specs.Table.{first_instance, instance_count, instance_number};
 ghost use Rattle.ftl_model.specs.Tree.{Forest, size};
-ghost use Rattle.ftl_model.specs.TreeOf.{IsTreeOf};
+ghost use Rattle.ftl_model.specs.TreeOf.{IsInput, IsTreeOf};
 ghost use Rattle.ftl_model.specs.Values.{number};
 ghost use Rattle.ftl_dep_table.specs.Meant.{meant};
 ghost use Rattle.ftl_tree_rows.specs.KidRuns.{IsChildOf, kid_numbers};
 ghost use Rattle.ftl_tree_rows.specs.Rows.{AreNodesOf, row_of};
+ghost use Rattle.ftl_tree.specs.WithInput.{with_input};
 
 use crate::build::{KidRuns, child_slots, first_inputs, first_instances, kid_runs};
 use crate::class_attrs::{attribute_place, is_shared};
@@ -217,6 +218,24 @@ impl<'a> Tree<'a> {
         let shared_end = counts[row.shared_first as usize + row.shared_count as usize];
         let own = counts[row.own_first as usize];
         (shared_end - shared) as usize + (below - own) as usize
+    }
+}
+
+impl<'a> Tree<'a> {
+    /// Gives an input of a node another number, in place. It takes no memory.
+    pub fn set_input(&mut self, node: u32, attr: u32, value: i64)
+        requires node { node < size self.old.tree }
+        requires attr { Contains (class_inputs (meant self.old.checked)
+            (class_at self.old.tree (node_at self.old.tree node))) attr }
+        requires value { IsInput (meant self.old.checked).greatest value }
+        ensures tree { self.new ≡ record {
+          checked = self.old.checked;
+          tree = with_input (meant self.old.checked) self.old.tree node attr value;
+        } }
+    {
+        let start = self.first_inputs[node as usize];
+        let place = start as usize + self.input_place(self.class(node), attr);
+        self.inputs[place] = value;
     }
 }
 

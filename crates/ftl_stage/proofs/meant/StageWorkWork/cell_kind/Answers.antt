@@ -4,7 +4,8 @@ use Rattle.ftl_stage.specs.StageParts.{StageView, meaning_at}
 use Rattle.ftl_stage.proofs.meant.StageWorkWork.cell_kind.Goals as goal
 
 pub kind-requires-clause-cell : goal.kind-requires-clause-cell
-kind-requires-clause-cell c = subst (λ (v : StageView). c.args.cell < cell_total (meaning_at v)) (sym c.self.view_is) c.requires.cell
+kind-requires-clause-cell c =
+    subst (λ (v : StageView). c.args.cell < cell_total (meaning_at v)) (sym c.self.view_is) c.requires.cell
 
 pub returns : goal.returns
 returns c = record {

@@ -4,10 +4,12 @@ use Rattle.ftl_stage.specs.StageParts.{StageView, meaning_at}
 use Rattle.ftl_stage.proofs.meant.StageWorkWork.next.Goals as goal
 
 pub next-requires-clause-item : goal.next-requires-clause-item
-next-requires-clause-item c = subst (λ (v : StageView). c.args.item < item_total (meaning_at v)) (sym c.self.view_is) c.requires.item
+next-requires-clause-item c =
+    subst (λ (v : StageView). c.args.item < item_total (meaning_at v)) (sym c.self.view_is) c.requires.item
 
 pub next-requires-clause-place : goal.next-requires-clause-place
-next-requires-clause-place c = subst (λ (v : StageView). c.args.k < next_total (meaning_at v) c.args.item) (sym c.self.view_is) c.requires.place
+next-requires-clause-place c =
+    subst (λ (v : StageView). c.args.k < next_total (meaning_at v) c.args.item) (sym c.self.view_is) c.requires.place
 
 pub returns : goal.returns
 returns c = record {

@@ -4,7 +4,8 @@ use Rattle.ftl_stage.specs.StageParts.{StageView, meaning_at}
 use Rattle.ftl_stage.proofs.meant.StageWorkWork.next_count.Goals as goal
 
 pub next_count-requires-clause-item : goal.next_count-requires-clause-item
-next_count-requires-clause-item c = subst (λ (v : StageView). c.args.item < item_total (meaning_at v)) (sym c.self.view_is) c.requires.item
+next_count-requires-clause-item c =
+    subst (λ (v : StageView). c.args.item < item_total (meaning_at v)) (sym c.self.view_is) c.requires.item
 
 pub returns : goal.returns
 returns c = record {

@@ -4,9 +4,12 @@ use Rattle.ftl_stage.specs.StageParts.{StageView, meaning_at}
 use Rattle.ftl_stage.proofs.meant.StageWorkWork.read_count.Goals as goal
 
 pub read_count-requires-clause-step : goal.read_count-requires-clause-step
-read_count-requires-clause-step c = subst (λ (v : StageView). IsStepOfItem (meaning_at v) c.args.item c.args.step) (sym c.self.view_is) c.requires.step
+read_count-requires-clause-step c =
+    subst (λ (v : StageView). IsStepOfItem (meaning_at v) c.args.item c.args.step) (sym c.self.view_is) c.requires.step
 
 pub returns : goal.returns
 returns c = record {
-  count = c.read_count.ensures.count ∙ ap (λ (v : StageView). read_total (meaning_at v) c.args.item c.args.step) c.self.view_is;
+  count =
+      c.read_count.ensures.count
+      ∙ ap (λ (v : StageView). read_total (meaning_at v) c.args.item c.args.step) c.self.view_is;
 }

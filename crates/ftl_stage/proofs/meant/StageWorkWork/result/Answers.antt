@@ -5,10 +5,13 @@ use Rattle.ftl_stage.specs.StageParts.{StageView, meaning_at}
 use Rattle.ftl_stage.proofs.meant.StageWorkWork.result.Goals as goal
 
 pub result-requires-clause-step : goal.result-requires-clause-step
-result-requires-clause-step c = subst (λ (v : StageView). IsStepOfItem (meaning_at v) c.args.item c.args.step) (sym c.self.view_is) c.requires.step
+result-requires-clause-step c =
+    subst (λ (v : StageView). IsStepOfItem (meaning_at v) c.args.item c.args.step) (sym c.self.view_is) c.requires.step
 
 pub result-requires-clause-reads : goal.result-requires-clause-reads
-result-requires-clause-reads c = subst (λ (v : StageView). length c.args.reads.now ≡ read_total (meaning_at v) c.args.item c.args.step) (sym c.self.view_is) c.requires.reads
+result-requires-clause-reads c =
+    subst (λ (v : StageView). length c.args.reads.now ≡ read_total (meaning_at v) c.args.item c.args.step)
+    (sym c.self.view_is) c.requires.reads
 
 pub result-requires-clause-room : goal.result-requires-clause-room
 result-requires-clause-room c =

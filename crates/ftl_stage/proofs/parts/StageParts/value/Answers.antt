@@ -50,7 +50,8 @@ returns c =
     let t = tree_of w in
     let fit = c.requires.fit in
     let x = c.args.step in
-    let solves = (c.solution_solves.ensures.ordered g (schedule_of w) t fit.can.law fit.can.ordered fit.can.is_tree).solves in
+    let solves =
+    (c.solution_solves.ensures.ordered g (schedule_of w) t fit.can.law fit.can.ordered fit.can.is_tree).solves in
     let s = value_in g t (solution g t) in
     let given =
     subst
@@ -59,6 +60,8 @@ returns c =
     → c.step_value.result ≡ value_of_step (meant u.checked) u.tree s x)
     c.tree.ensures.tree c.step_value.ensures.value in
     record {
-      value = λ solved. given s (solved ∙ values_are w fit solves x c.requires.step) ∙ value_is w fit solves x c.requires.step;
+      value = λ solved.
+          given s (solved ∙ values_are w fit solves x c.requires.step)
+          ∙ value_is w fit solves x c.requires.step;
       room = c.step_value.ensures.room;
     }

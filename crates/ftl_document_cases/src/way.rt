@@ -1,0 +1,42 @@
+//! The ways in which a case asks.
+
+use std::alloc::{AllocError, Global};
+
+/// How a case gives its document, and what of it is printed.
+#[derive(Clone, Copy)]
+pub(crate) enum Way {
+    /// As it stands.
+    Plain,
+    /// As it stands, with numbers of the wide width.
+    Wide,
+    /// Each front of it.
+    Cut,
+    /// By pieces that come several times; of its tree only the counts are printed.
+    Built,
+}
+
+/// The way that a word of a title asks for.
+pub(crate) fn way_of(word: &str) -> Way {
+    if word == "wide" {
+        Way::Wide
+    } else if word == "cut" {
+        Way::Cut
+    } else if word == "built" {
+        Way::Built
+    } else {
+        Way::Plain
+    }
+}
+
+/// The document of some lines, each with how often its text comes, with a space behind.
+pub(crate) fn built(alloc: Global, lines: &str) -> Result<String, AllocError> {
+    let mut document = String::new(alloc);
+    for line in lines.lines() {
+        let (count, piece) = line.split_once(' ').unwrap_or(("0", line));
+        for _ in 0..count.parse::<u32>().unwrap_or(0) {
+            document.push_str(piece)?;
+            document.push(' ')?;
+        }
+    }
+    Ok(document)
+}

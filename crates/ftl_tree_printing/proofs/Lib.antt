@@ -1,0 +1,5 @@
+mod KidLists
+mod InputFields
+mod Spots
+mod Turns
+mod Attributes
