@@ -23,7 +23,7 @@ pub(crate) enum Shown {
 }
 
 /// The table of these words, shown.
-pub(crate) fn shown(
+pub(crate) fn table_shown(
     alloc: Global,
     shown: &Shown,
     tree: &Tree<'_>,

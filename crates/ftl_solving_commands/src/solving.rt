@@ -18,7 +18,7 @@ ghost use Rattle.ftl_stages.specs.Stages.{stages_of};
 ghost use Rattle.ftl_solving_commands.specs.Shown.{IsSolvedBy, text_shown};
 ghost use Rattle.ftl_solving_commands.specs.Told.{told_of_grammar, told_of_page, told_of_schedule};
 
-use crate::shown::{Shown, shown};
+use crate::shown::{Shown, table_shown};
 use ftl_checked::Checked;
 use ftl_decided::{Decided, Status, Undecided, read_page};
 use ftl_order::{reads_end_by_rank, values_are_in_range};
@@ -181,7 +181,7 @@ fn told_of_tree(
     ensures outcome { EndsIn (shown_by (text_shown shown.now) checked.now tree.now.tree) result }
 {
     let words = words_of(alloc, grain, checked, accepted, tree)?;
-    Ok(shown(alloc, shown, tree, words.as_slice())?)
+    Ok(table_shown(alloc, shown, tree, words.as_slice())?)
 }
 
 /// The words of the values that solve a tree.

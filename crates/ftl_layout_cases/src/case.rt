@@ -1,0 +1,58 @@
+//! Cases: words, a page, and what goes wrong.
+use std::alloc::{AllocError, Global};
+
+/// What a case runs the program with.
+#[derive(Drop)]
+pub(crate) struct Case {
+    pub words: Vec<String>,
+    pub page: Vec<u8>,
+    /// The numbers of the calls of the source that fail.
+    pub failing_reads: Vec<u64>,
+    /// The numbers of the calls of the sink that fail.
+    pub failing_writes: Vec<u64>,
+}
+
+impl Case {
+    /// The case with this heading and this page.
+    pub(crate) fn new(alloc: Global, heading: &str, page: &str) -> Result<Case, AllocError> {
+        let mut case = Case {
+            words: Vec::new(alloc),
+            page: Vec::from_slice(alloc, page.as_bytes())?,
+            failing_reads: Vec::new(alloc),
+            failing_writes: Vec::new(alloc),
+        };
+        let (first, rest) = heading.split_once(' ').unwrap_or((heading, ""));
+        let (number, words) = rest.split_once(' ').unwrap_or((rest, ""));
+        let count = number.parse::<u32>().unwrap_or(0);
+        match first {
+            "source" => case.failing_reads.push(u64::from(count))?,
+            "sink" => case.failing_writes.push(u64::from(count))?,
+            "spaces" => case.page = bytes(alloc, b' ', count)?,
+            "byte" => case.page = bytes(alloc, count as u8, 1)?,
+            _ => {
+                case.words = words_of(alloc, heading)?;
+                return Ok(case);
+            }
+        }
+        case.words = words_of(alloc, words)?;
+        Ok(case)
+    }
+}
+
+/// So many times this byte.
+fn bytes(alloc: Global, byte: u8, count: u32) -> Result<Vec<u8>, AllocError> {
+    let mut bytes = Vec::with_capacity(alloc, count as usize)?;
+    for _ in 0..count {
+        bytes.push(byte)?;
+    }
+    Ok(bytes)
+}
+
+/// The words of a line.
+fn words_of(alloc: Global, line: &str) -> Result<Vec<String>, AllocError> {
+    let mut words = Vec::new(alloc);
+    for word in line.split_whitespace() {
+        words.push(String::from_str(alloc, word)?)?;
+    }
+    Ok(words)
+}
