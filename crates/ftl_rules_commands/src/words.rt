@@ -13,14 +13,7 @@ use ftl_decided::{Status, Undecided, refused};
 use std::alloc::Global;
 
 /// The command that the words after the program's name are.
-#[tactic(
-    auto,
-    using(
-        ftl_decided::proofs::Ways::may_end,
-        crate::proofs::WordsRead::command_handed,
-        crate::proofs::WordsRead::words_told
-    )
-)]
+#[tactic(auto, using(ftl_decided::proofs::Ways::may_end, crate::proofs::WordsRead::command_handed, crate::proofs::WordsRead::words_told))]
 pub fn command_of_words(alloc: Global, words: &[String]) -> Result<Command, Undecided>
     ensures outcome { IsOutcome (Is (command_in (command_of (map string_bytes words.now))))
         (λ c. c) result }
