@@ -13,7 +13,8 @@ use Rattle.ftl_syntax.specs.declared.rules.AttrKind.TheVariants as kinds
 use Rattle.ftl_syntax.specs.declared.rules.Child.{Child}
 use Rattle.ftl_syntax.specs.declared.rules.Grammar.{Grammar}
 use Rattle.ftl_grammar_faults.specs.Checked.{field_by, field_named, is_input}
-use Rattle.ftl_grammar_faults.specs.Numbering.{class_attributes, find_attribute, find_child, interface_of, own_attributes, shared_attributes}
+use Rattle.ftl_grammar_faults.specs.Numbering.{class_attributes, find_attribute, find_child, interface_of}
+use Rattle.ftl_grammar_faults.specs.Numbering.{own_attributes, shared_attributes}
 use Rattle.ftl_grammar_faults.specs.declared.info.Field.TheVariants as field
 use Rattle.ftl_lawful.proofs.Found.{find_is}
 use Rattle.ftl_lawful.proofs.SlotRules.{class_attribute}
@@ -48,7 +49,8 @@ input_named w g k a name named = by_attribute (find_attribute name (class_attrib
         map-append (λ (x : ℕ × AttrDecl). x.0) (shared_attributes g (interface_of g k)) (own_attributes g k) in
         subst (Contains (class_inputs (grammar_of w g) k)) same
         (filter_has (λ b. model.is_input ((grammar_of w g).sort b)) (attributes_of (grammar_of w g) k) p.0
-        (subst (λ (xs : List ℕ). Contains xs p.0) all (map_has (λ (x : ℕ × AttrDecl). x.0) (class_attributes g k) p there))
+        (subst (λ (xs : List ℕ). Contains xs p.0) all (map_has (λ (x : ℕ × AttrDecl). x.0)
+        (class_attributes g k) p there))
         (ap (λ (x : AttrDecl). model.is_input (sort_of x.kind)) (class_attribute w g k p there)
         ∙ input_sort p.1.kind ∙ kind))
 

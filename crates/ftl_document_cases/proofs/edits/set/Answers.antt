@@ -37,4 +37,5 @@ set_input-requires-clause-attr c =
     let class = ap (λ (r : NodeRow). r.class) c.row-class.ensures.row in
     subst (λ (m : ℕ). Contains (class_inputs (meant t.checked) m) a) class
     (subst (λ (g : Grammar). Contains (class_inputs (grammar_of w g) k) a)
-    (ap (λ (d : CheckedGrammar). d.grammar) c.checked-2.ensures.grammar) (input_named w d.grammar k a c.args.name.now named))
+    (ap (λ (d : CheckedGrammar). d.grammar) c.checked-2.ensures.grammar)
+    (input_named w d.grammar k a c.args.name.now named))
