@@ -4,7 +4,8 @@ ghost use Rattle.std.specs.Prelude.{◌≡◌};
 ghost use Rattle.ftl_base.specs.Widths.{greatest_of_width};
 ghost use Rattle.ftl_tokens.specs.Tokenized.{IsGreatestNumber};
 
-use crate::nodes::{write_counts, write_nodes};
+use crate::edits::set_inputs;
+use crate::nodes::{write_counts, write_nodes, write_text};
 use crate::way::{Way, built};
 use ftl_base::Width;
 use ftl_checked::Checked;
@@ -37,11 +38,15 @@ fn in_way(
     document: &str,
 ) -> Result<String, AllocError> {
     match way {
-        Way::Plain | Way::Wide => of_text(alloc, way, checked, document),
+        Way::Plain | Way::Wide => of_text(alloc, way, checked, document, ""),
+        Way::Set => {
+            let (document, edits) = document.split_once("==").unwrap_or((document, ""));
+            of_text(alloc, way, checked, document, edits)
+        }
         Way::Cut => of_fronts(alloc, checked, document.trim()),
         Way::Built => {
             let document = built(alloc, document)?;
-            of_text(alloc, way, checked, document.as_str())
+            of_text(alloc, way, checked, document.as_str(), "")
         }
     }
 }
@@ -51,11 +56,11 @@ fn of_fronts(alloc: Global, checked: &Checked, document: &str) -> Result<String,
     let mut out = String::new(alloc);
     let mut front = String::new(alloc);
     for letter in document.chars() {
-        let line = of_text(alloc, Way::Cut, checked, front.as_str())?;
+        let line = of_text(alloc, Way::Cut, checked, front.as_str(), "")?;
         write!(out, "{} {line}", front.len())?;
         front.push(letter)?;
     }
-    let whole = of_text(alloc, Way::Cut, checked, front.as_str())?;
+    let whole = of_text(alloc, Way::Cut, checked, front.as_str(), "")?;
     out.push_str(whole.as_str())?;
     Ok(out)
 }
@@ -65,13 +70,14 @@ fn of_text(
     way: Way,
     checked: &Checked,
     document: &str,
+    edits: &str,
 ) -> Result<String, AllocError> {
     if document.len() > 67108864 {
         return String::from_str(alloc, "too long\n");
     }
     let text = String::from_str(alloc, document)?;
     match document_tokens(alloc, text, greatest_number(checked.width())) {
-        Ok(scanned) => of_tokens(alloc, way, checked, &scanned),
+        Ok(scanned) => of_tokens(alloc, way, checked, &scanned, edits),
         Err(fault) => token_line(alloc, fault),
     }
 }
@@ -81,17 +87,24 @@ fn of_tokens(
     way: Way,
     checked: &Checked,
     scanned: &WideScanned,
+    edits: &str,
 ) -> Result<String, AllocError>
     requires width { scanned.now.greatest ≡ greatest_of_width checked.now.width }
 {
     match read_document(alloc, checked, scanned) {
-        Ok(tree) => {
+        Ok(mut tree) => {
             let mut out = String::new(alloc);
             match way {
                 Way::Plain | Way::Wide | Way::Cut => {
                     write_nodes(alloc, &mut out, &tree, scanned)?;
                 }
                 Way::Built => write_counts(&mut out, &tree)?,
+                Way::Set => {
+                    if !set_inputs(&mut tree, edits) {
+                        out.push_str("no input\n")?;
+                    }
+                    write_text(alloc, &mut out, &tree)?;
+                }
             }
             Ok(out)
         }
@@ -119,13 +132,13 @@ fn ended(alloc: Global, mut line: Vec<u8>) -> Result<String, AllocError> {
 /// Only where the way says so, numbers are wide.
 fn width_of(way: Way) -> Width {
     match way {
-        Way::Plain | Way::Cut | Way::Built => Width::Narrow,
+        Way::Plain | Way::Cut | Way::Built | Way::Set => Width::Narrow,
         Way::Wide => Width::Wide,
     }
 }
 
 /// The greatest number of a width.
-fn greatest_number(width: Width) -> u64
+pub(crate) fn greatest_number(width: Width) -> u64
     ensures greatest { result ≡ greatest_of_width width }
     ensures known { IsGreatestNumber result }
 {

@@ -3,11 +3,14 @@
 //! the grammar's text stands before `==`. Then stands the document. Printed is its refusal line, or
 //! where it has none, a line for each node of the tree, one with the inputs of all nodes, and the
 //! tree's canonical text. The second word of the title may ask for another way: `wide` for numbers
-//! of the wide width, `cut` for each front of the document, and `built` for a document whose lines
-//! say how often a piece of it comes, of which only the counts are printed.
+//! of the wide width, `cut` for each front of the document, `built` for a document whose lines say
+//! how often a piece of it comes, of which only the counts are printed, and `set` for inputs that
+//! are set to other numbers, which lines behind `==` name by node, field and number; of their tree
+//! only the text is printed.
 #![tactic(auto)]
 
 mod answer;
+mod edits;
 mod nodes;
 mod way;
 

@@ -26,6 +26,11 @@ pub(crate) fn write_nodes(
             write_inputs(out, nodes.inputs.as_slice())?;
         }
     }
+    write_text(alloc, out, tree)
+}
+
+/// The tree's canonical text.
+pub(crate) fn write_text(alloc: Global, out: &mut String, tree: &Tree) -> Result<(), AllocError> {
     let text = print_document(alloc, tree)?;
     write!(out, "text {text}")
 }

@@ -13,6 +13,8 @@ pub(crate) enum Way {
     Cut,
     /// By pieces that come several times; of its tree only the counts are printed.
     Built,
+    /// With numbers that its inputs are set to; only the text of the tree is printed.
+    Set,
 }
 
 /// The way that a word of a title asks for.
@@ -23,6 +25,8 @@ pub(crate) fn way_of(word: &str) -> Way {
         Way::Cut
     } else if word == "built" {
         Way::Built
+    } else if word == "set" {
+        Way::Set
     } else {
         Way::Plain
     }

@@ -8,6 +8,8 @@ use mathlib.Core.Path.{fun_ext}
 use Rattle.ftl_cells.specs.Shape.{HasStep, listed, listing}
 use Rattle.ftl_cells.specs.Work.{Meaning, IsStepOfItem, cell_total, item_total, kind_at, next_at, next_total, pred_total, read_total, reads_of_step, solution_at, step_total, target_of as cell_of}
 use Rattle.ftl_cells.proofs.Shapes.{cell_total-listed, has_step, item_below, item_total-listed, kind_at-listed, next_at-listed, next_total-listed, pred_total-listed, read_total-listed, reads_of_step-listed, solution_at-listed, step_total-listed, target_of-listed}
+use Rattle.ftl_dep_table.specs.Meant.{meant}
+use Rattle.ftl_instance_reads.specs.ReadTables.{AreTables, IsSound}
 use Rattle.ftl_item_cursor.specs.ItemSteps.{AreStepsOf, IsCursorOf, no_step, steps_left}
 use Rattle.ftl_item_cursor.specs.declared.cursor.ItemCursor.{ItemCursor}
 use Rattle.ftl_item_rows.specs.StageItems.{items_in, passes_in}
@@ -25,6 +27,7 @@ use Rattle.ftl_step_cells.proofs.StepRules.{target_there}
 use Rattle.ftl_step_value.specs.StepValue.{value_of_step}
 use Rattle.ftl_steps.specs.Steps.{IsStepOf, target_of}
 use Rattle.ftl_steps.specs.declared.step.Step.{Step}
+use Rattle.ftl_tree.specs.CheckedTree.{CheckedTree}
 use Rattle.ftl_stage.specs.StageParts.{IsStage, IsStepAt, StageView, grain_of, grammar_of, meaning_at, meaning_of, schedule_of, shape_of, steps_of, tree_of}
 use Rattle.ftl_stage.specs.declared.parts.StageParts.{StageParts}
 
@@ -67,6 +70,19 @@ module _ (w : StageParts) (fit : IsStage w) where
       let same = ap length fit.passes in
       let few = w.item_tables.items.fit.few in
       omega (arith, same, few)
+
+  -- ---- the tree, where it is asked for
+
+  module _ (u : CheckedTree) (same : u ≡ w.item_tables.items.rows.now.tree.now) where
+    pub sound_there : IsSound (meant u.checked)
+    sound_there = subst (λ (v : CheckedTree). IsSound (meant v.checked)) (sym same) fit.sound
+
+    pub tables_there : AreTables (meant u.checked) w.read_tables.now
+    tables_there =
+        subst (λ (v : CheckedTree). AreTables (meant v.checked) w.read_tables.now) (sym same) fit.tables_are
+
+    pub step_there : (x : Step) → IsStepOf g t x → IsStepOf (meant u.checked) u.tree x
+    step_there x is = subst (λ (v : CheckedTree). IsStepOf (meant v.checked) v.tree x) (sym same) is
 
   -- ---- items and cells
 

@@ -1,21 +1,19 @@
 use Rattle.std.proofs.Common.{◌<◌, ◌∙◌, ap, get_or, subst, sym}
 use Rattle.ftl_dep_table.specs.Meant.{meant}
-use Rattle.ftl_instance_reads.specs.ReadTables.{AreTables, IsSound}
 use Rattle.ftl_items.specs.StageWork.{kind_of, no_instance}
 use Rattle.ftl_model.specs.Table.{instance_count, instances}
 use Rattle.ftl_tree.specs.CheckedTree.{CheckedTree}
 use Rattle.ftl_stage.specs.StageParts.{schedule_of}
-use Rattle.ftl_stage.proofs.Bridge.{cell_known, kind_is}
+use Rattle.ftl_stage.proofs.Bridge.{cell_known, kind_is, sound_there, tables_there}
 use Rattle.ftl_stage.proofs.parts.StageParts.kind.Goals as goal
 
 pub cell_kind-requires-clause-sound : goal.cell_kind-requires-clause-sound
 cell_kind-requires-clause-sound c =
-    subst (λ (t : CheckedTree). IsSound (meant t.checked)) (sym c.tree.ensures.tree) c.requires.fit.sound
+    sound_there c.args.self.now c.requires.fit c.tree.result.now c.tree.ensures.tree
 
 pub cell_kind-requires-clause-tables : goal.cell_kind-requires-clause-tables
 cell_kind-requires-clause-tables c =
-    subst (λ (t : CheckedTree). AreTables (meant t.checked) c.args.self.now.read_tables.now) (sym c.tree.ensures.tree)
-    c.requires.fit.tables_are
+    tables_there c.args.self.now c.requires.fit c.tree.result.now c.tree.ensures.tree
 
 pub cell_kind-requires-clause-cell : goal.cell_kind-requires-clause-cell
 cell_kind-requires-clause-cell c =

@@ -1,25 +1,22 @@
 use Rattle.std.proofs.Common.{◌<◌, ◌∙◌, ap, get_or, length, subst, sym}
 use Rattle.ftl_dep_table.specs.Meant.{meant}
-use Rattle.ftl_instance_reads.specs.ReadTables.{AreTables, IsSound}
 use Rattle.ftl_step_cells.specs.ReadCells.{read_cells}
-use Rattle.ftl_steps.specs.Steps.{IsStepOf}
 use Rattle.ftl_tree.specs.CheckedTree.{CheckedTree}
-use Rattle.ftl_stage.proofs.Bridge.{read_known, reads_are}
+use Rattle.ftl_stage.proofs.Bridge.{read_known, reads_are, sound_there, step_there, tables_there}
 use Rattle.ftl_stage.proofs.parts.StageParts.read.Goals as goal
 
 pub read_at-requires-clause-sound : goal.read_at-requires-clause-sound
 read_at-requires-clause-sound c =
-    subst (λ (t : CheckedTree). IsSound (meant t.checked)) (sym c.tree.ensures.tree) c.requires.fit.sound
+    sound_there c.args.self.now c.requires.fit c.tree.result.now c.tree.ensures.tree
 
 pub read_at-requires-clause-tables : goal.read_at-requires-clause-tables
 read_at-requires-clause-tables c =
-    subst (λ (t : CheckedTree). AreTables (meant t.checked) c.args.self.now.read_tables.now) (sym c.tree.ensures.tree)
-    c.requires.fit.tables_are
+    tables_there c.args.self.now c.requires.fit c.tree.result.now c.tree.ensures.tree
 
 pub read_at-requires-clause-step : goal.read_at-requires-clause-step
 read_at-requires-clause-step c =
-    subst (λ (t : CheckedTree). IsStepOf (meant t.checked) t.tree c.step.result) (sym c.tree.ensures.tree)
-    c.step.ensures.step.is_step
+    step_there c.args.self.now c.requires.fit c.tree.result.now c.tree.ensures.tree
+    c.step.result c.step.ensures.step.is_step
 
 pub read_at-requires-clause-place : goal.read_at-requires-clause-place
 read_at-requires-clause-place c =

@@ -1,25 +1,23 @@
-use Rattle.std.proofs.Common.{◌∙◌, ap, length, subst, sym}
+use Rattle.std.proofs.Common.{◌∙◌, ap, length}
 use Rattle.ftl_dep_table.specs.Meant.{meant}
-use Rattle.ftl_instance_reads.specs.ReadTables.{AreTables, IsSound}
 use Rattle.ftl_order.specs.Reads.{reads_of}
-use Rattle.ftl_steps.specs.Steps.{IsStepOf, target_of}
+use Rattle.ftl_steps.specs.Steps.{target_of}
 use Rattle.ftl_tree.specs.CheckedTree.{CheckedTree}
-use Rattle.ftl_stage.proofs.Bridge.{read_total_is}
+use Rattle.ftl_stage.proofs.Bridge.{read_total_is, sound_there, step_there, tables_there}
 use Rattle.ftl_stage.proofs.parts.StageParts.read_count.Goals as goal
 
 pub read_count-requires-clause-sound : goal.read_count-requires-clause-sound
 read_count-requires-clause-sound c =
-    subst (λ (t : CheckedTree). IsSound (meant t.checked)) (sym c.tree.ensures.tree) c.requires.fit.sound
+    sound_there c.args.self.now c.requires.fit c.tree.result.now c.tree.ensures.tree
 
 pub read_count-requires-clause-tables : goal.read_count-requires-clause-tables
 read_count-requires-clause-tables c =
-    subst (λ (t : CheckedTree). AreTables (meant t.checked) c.args.self.now.read_tables.now) (sym c.tree.ensures.tree)
-    c.requires.fit.tables_are
+    tables_there c.args.self.now c.requires.fit c.tree.result.now c.tree.ensures.tree
 
 pub read_count-requires-clause-step : goal.read_count-requires-clause-step
 read_count-requires-clause-step c =
-    subst (λ (t : CheckedTree). IsStepOf (meant t.checked) t.tree c.step.result) (sym c.tree.ensures.tree)
-    c.step.ensures.step.is_step
+    step_there c.args.self.now c.requires.fit c.tree.result.now c.tree.ensures.tree
+    c.step.result c.step.ensures.step.is_step
 
 pub returns : goal.returns
 returns c =

@@ -1,20 +1,18 @@
-use Rattle.std.proofs.Common.{◌∙◌, ap, subst, sym}
+use Rattle.std.proofs.Common.{◌∙◌, ap}
 use Rattle.ftl_dep_table.specs.Meant.{meant}
-use Rattle.ftl_instance_reads.specs.ReadTables.{IsSound}
 use Rattle.ftl_step_cells.specs.ReadCells.{filled_cell}
-use Rattle.ftl_steps.specs.Steps.{IsStepOf}
 use Rattle.ftl_tree.specs.CheckedTree.{CheckedTree}
-use Rattle.ftl_stage.proofs.Bridge.{target_is}
+use Rattle.ftl_stage.proofs.Bridge.{sound_there, step_there, target_is}
 use Rattle.ftl_stage.proofs.parts.StageParts.target.Goals as goal
 
 pub target_cell-requires-clause-sound : goal.target_cell-requires-clause-sound
 target_cell-requires-clause-sound c =
-    subst (λ (t : CheckedTree). IsSound (meant t.checked)) (sym c.tree.ensures.tree) c.requires.fit.sound
+    sound_there c.args.self.now c.requires.fit c.tree.result.now c.tree.ensures.tree
 
 pub target_cell-requires-clause-step : goal.target_cell-requires-clause-step
 target_cell-requires-clause-step c =
-    subst (λ (t : CheckedTree). IsStepOf (meant t.checked) t.tree c.step.result) (sym c.tree.ensures.tree)
-    c.step.ensures.step.is_step
+    step_there c.args.self.now c.requires.fit c.tree.result.now c.tree.ensures.tree
+    c.step.result c.step.ensures.step.is_step
 
 pub returns : goal.returns
 returns c =

@@ -1,32 +1,30 @@
 use Rattle.std.proofs.Common.{◌≡◌, ◌∙◌, length, map, subst, sym}
 use Rattle.std.proofs.lemmas.List.{length-map}
 use Rattle.ftl_dep_table.specs.Meant.{meant}
-use Rattle.ftl_instance_reads.specs.ReadTables.{AreTables, IsSound}
 use Rattle.ftl_model.specs.Table.{instance_number, value_in}
 use Rattle.ftl_model.specs.Solves.{Instance}
 use Rattle.ftl_model.specs.Values.{Value}
 use Rattle.ftl_order.specs.Reads.{reads_of}
 use Rattle.ftl_solution.specs.Solution.{solution}
 use Rattle.ftl_step_value.specs.StepValue.{IsCodeFor, value_of_step}
-use Rattle.ftl_steps.specs.Steps.{IsStepOf, target_of}
+use Rattle.ftl_steps.specs.Steps.{target_of}
 use Rattle.ftl_tree.specs.CheckedTree.{CheckedTree}
 use Rattle.ftl_stage.specs.StageParts.{grammar_of, schedule_of, tree_of}
-use Rattle.ftl_stage.proofs.Bridge.{value_is, values_are}
+use Rattle.ftl_stage.proofs.Bridge.{sound_there, step_there, tables_there, value_is, values_are}
 use Rattle.ftl_stage.proofs.parts.StageParts.value.Goals as goal
 
 pub step_value-requires-clause-sound : goal.step_value-requires-clause-sound
 step_value-requires-clause-sound c =
-    subst (λ (t : CheckedTree). IsSound (meant t.checked)) (sym c.tree.ensures.tree) c.requires.fit.sound
+    sound_there c.args.self.now c.requires.fit c.tree.result.now c.tree.ensures.tree
 
 pub step_value-requires-clause-tables : goal.step_value-requires-clause-tables
 step_value-requires-clause-tables c =
-    subst (λ (t : CheckedTree). AreTables (meant t.checked) c.args.self.now.read_tables.now) (sym c.tree.ensures.tree)
-    c.requires.fit.tables_are
+    tables_there c.args.self.now c.requires.fit c.tree.result.now c.tree.ensures.tree
 
 pub step_value-requires-clause-step : goal.step_value-requires-clause-step
 step_value-requires-clause-step c =
-    subst (λ (t : CheckedTree). IsStepOf (meant t.checked) t.tree c.args.step) (sym c.tree.ensures.tree)
-    c.requires.step
+    step_there c.args.self.now c.requires.fit c.tree.result.now c.tree.ensures.tree
+    c.args.step c.requires.step
 
 pub step_value-requires-clause-code : goal.step_value-requires-clause-code
 step_value-requires-clause-code c =
