@@ -37,7 +37,7 @@ pub record AreWithValues (t : CheckedTree) (words : List ℕ) (n : ℕ) (shown :
 pub one_more : (t : CheckedTree) (words : List ℕ) (n : ℕ) (shown : List ℕ) (k a : ℕ) (values : List Value) (sums : Sums)
     → k < length shown → a ≡ get_or shown k a
     → AreSumsOf ((values ++ values_of t words n (take k shown))
-      ++ (table_of_words t words (instance_of (node_at t.tree n) a) ∷ [])) sums
+    ++ (table_of_words t words (instance_of (node_at t.tree n) a) ∷ [])) sums
     → AreSumsOf (values ++ values_of t words n (take (k + 1) shown)) sums
 one_more t words n shown k a values sums within is h =
     let f = λ (b : ℕ). table_of_words t words (instance_of (node_at t.tree n) b) in
@@ -53,9 +53,9 @@ one_more t words n shown k a values sums within is h =
 pub node_more : (t : CheckedTree) (words : List ℕ) (n : ℕ) (before sums : Sums) → IsTreeOf (meant t.checked) t.tree
     → n < size t.tree → AreSumsUpTo t words n before
     → ((values : List Value) → AreSumsOf values before
-      → AreSumsOf (values ++ values_of t words n (node_shows t n)) sums)
+    → AreSumsOf (values ++ values_of t words n (node_shows t n)) sums)
     → AreSumsOf (flat_map (values_at (names_of t.checked.grammar) t.tree (table_of_words t words))
-      (take (n + 1) (preorder t.tree))) sums
+    (take (n + 1) (preorder t.tree))) sums
 node_more t words n before sums is within so_far more =
     let f = values_at (names_of t.checked.grammar) t.tree (table_of_words t words) in
     let known : n < length (preorder t.tree) =

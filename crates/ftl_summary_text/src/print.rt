@@ -51,12 +51,7 @@ fn print_line(
     Ok(out)
 }
 
-fn print_counts(
-    out: &mut Vec<u8>,
-    nodes: u32,
-    instances: u32,
-    sums: Sums,
-) -> Result<(), AllocError>
+fn print_counts(out: &mut Vec<u8>, nodes: u32, instances: u32, sums: Sums) -> Result<(), AllocError>
     ensures counts { OnOk result (out.new.items
         ≡ out.old.items ++ counts_text nodes instances sums) }
 {

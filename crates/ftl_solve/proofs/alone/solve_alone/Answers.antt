@@ -22,8 +22,8 @@ loop-stage-init c =
     }
 
 -- the stage means what the words fit
-pub run_alone-requires : goal.run_alone-requires
-run_alone-requires c =
+pub words_after-requires : goal.words_after-requires
+words_after-requires c =
     record {
       first =
           subst (λ (v : StageView). AreFirst (meaning_at v) c.loop-stage.words.items) (sym c.stage.ensures.stage)

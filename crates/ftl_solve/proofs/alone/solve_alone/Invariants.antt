@@ -1,4 +1,4 @@
-use Rattle.ftl_solve.specs.FitsStage.{FitStage}
+use Rattle.ftl_solve.proofs.FitsStage.{FitStage}
 use Rattle.ftl_solve.proofs.alone.solve_alone.Given as goal
 
 abbrev pub invariant-loop-stage : goal.invariant-loop-stage
