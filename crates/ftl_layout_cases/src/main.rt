@@ -9,7 +9,7 @@ mod case;
 
 use case::Case;
 use ftl_edge::{MemSink, MemSource, StdSource, read_all};
-use ftl_layout_alone::layout_alone;
+use ftl_run::layout_alone;
 use std::alloc::{AllocError, Global};
 use std::fmt::Write;
 use std::io;

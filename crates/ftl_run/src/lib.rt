@@ -1,13 +1,9 @@
-//! The top call: words and a page in, boxes or one refusal line out, with a status. What is written
-//! is the answer of `specs/Answer.antt`, which knows no reader, solver or printer.
+//! The program on one thread: words and a page in, boxes or one refusal line out, with a status.
+//! What is promised stands in `specs/Headline.antt` of `ftl_answering`.
 #![tactic(auto)]
 
-mod answers;
-mod decide;
-mod status;
-mod top;
+mod alone;
+mod layout;
 
-pub use answers::one_answer;
-pub use ftl_page::{Page, PageFault, Section, Text, split_page};
-pub use status::Status;
-pub use top::layout_top;
+pub use ftl_decided::Status;
+pub use layout::layout_alone;

@@ -1,4 +1,0 @@
-pub mod Agreeing
-pub mod AnswerLaws
-pub mod Deciding
-pub mod PageDecided

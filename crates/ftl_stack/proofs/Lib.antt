@@ -1,4 +1,0 @@
-pub mod Lines
-pub mod Placing
-pub mod Sizing
-pub mod Solved
