@@ -26,11 +26,7 @@ pub fn solve_alone(alloc: Global, plan: &Plan<'_>) -> Result<Vec<u64>, AllocErro
 }
 
 /// The words after a stage, from those that fit it.
-fn words_after(
-    alloc: Global,
-    work: &StageWork<'_>,
-    words: Vec<u64>,
-) -> Result<Vec<u64>, AllocError>
+fn words_after(alloc: Global, work: &StageWork<'_>, words: Vec<u64>) -> Result<Vec<u64>, AllocError>
     requires first { AreFirst (meaning_at work.now) words.items }
     ensures last { IfOk result (λ v. AreLast (meaning_at work.now) v.items) }
 {
