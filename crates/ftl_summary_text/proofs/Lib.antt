@@ -1,0 +1,4 @@
+pub mod Weighted
+pub mod Few
+pub mod Nodes
+pub mod Joined

@@ -1,0 +1,13 @@
+//! The summary of a tree of a sample. Goes in: the name of the grammar, a tree of it, and the word
+//! of each attribute instance. Comes out: one line with counts and sums, which `ftl_answer` defines
+//! in `specs/Summary.antt`. `specs/Summed.antt` says which sums are those of which values.
+#![tactic(auto)]
+
+mod adding;
+mod arithmetic;
+mod print;
+mod shown;
+mod sums;
+mod word;
+
+pub use print::print_summary;

@@ -1,0 +1,74 @@
+//! The attributes that each interface shows.
+
+ghost use Rattle.std.specs.Prelude.{◌≡◌, ◌+◌, ◌<◌, ◌≤◌, ◌++◌, [], ◌∷◌, if◌then◌else◌, length, take};
+ghost use Rattle.std.specs.Prelude.{IfOk, OnOk};
+ghost use Rattle.ftl_grammar_faults.specs.Checked.{all_attributes, attribute_at, is_shown};
+ghost use Rattle.ftl_grammar_faults.specs.Numbering.{shared_count};
+ghost use Rattle.ftl_meaning.specs.GrammarOf.{shown_attributes};
+ghost use Rattle.ftl_box_text.specs.Shows.{shown_rows};
+
+use ftl_checked::Checked;
+use sqlite_items::Items;
+use std::alloc::{AllocError, Global};
+
+/// The numbers of the shown attributes, a row for each interface.
+#[tactic(auto, using(ftl_grammar_faults::proofs::Numbered::numbered_steps))]
+pub(crate) fn shown_rows(alloc: Global, checked: &Checked) -> Result<Items<Items<u32>>, AllocError>
+    ensures rows { IfOk result (λ rows. rows ≡ shown_rows checked.now.grammar) }
+{
+    let mut rows = Items::new(alloc);
+    let mut first = 0;
+    for interface in 0..checked.interface_count() {
+        let end = run_end(checked, interface, first);
+        rows.push(shown_row(alloc, checked, interface, first, end)?)?;
+        first = end;
+    }
+    Ok(rows)
+}
+
+// The number after those of an interface's attributes, which begin at `first`.
+#[tactic(auto, using(ftl_box_text::proofs::ShownAmong::end_steps))]
+fn run_end(checked: &Checked, interface: u32, first: u32) -> u32
+    requires within { interface < length checked.now.grammar.interfaces }
+    requires first { first ≡ shared_count (take interface checked.now.grammar.interfaces) }
+    ensures end { result ≡ shared_count (take (interface + 1) checked.now.grammar.interfaces) }
+    ensures known { result ≤ length (all_attributes checked.now.grammar) }
+{
+    // As no number of an attribute is greater, the sum fits.
+    checked.attr_count();
+    let attrs = &checked.grammar().interfaces.as_slice()[interface as usize].attrs;
+    first + attrs.len() as u32
+}
+
+// The shown attributes of one interface, whose attributes have these numbers.
+fn shown_row(
+    alloc: Global,
+    checked: &Checked,
+    interface: u32,
+    first: u32,
+    end: u32,
+) -> Result<Items<u32>, AllocError>
+    requires within { interface < length checked.now.grammar.interfaces }
+    requires first { first ≡ shared_count (take interface checked.now.grammar.interfaces) }
+    requires end { end ≡ shared_count (take (interface + 1) checked.now.grammar.interfaces) }
+    requires known { end ≤ length (all_attributes checked.now.grammar) }
+    ensures row { IfOk result (λ row. row ≡ shown_attributes checked.now.grammar interface) }
+{
+    let mut row = Items::new(alloc);
+    for attr in first..end {
+        add_shown(&mut row, checked, attr)?;
+    }
+    Ok(row)
+}
+
+fn add_shown(row: &mut Items<u32>, checked: &Checked, attr: u32) -> Result<(), AllocError>
+    requires known { attr < length (all_attributes checked.now.grammar) }
+    ensures row { OnOk result (row.new ≡ row.old
+        ++ (if is_shown checked.now.grammar (attribute_at checked.now.grammar attr)
+        then attr ∷ [] else [])) }
+{
+    if checked.attr(attr).shown {
+        row.push(attr)?;
+    }
+    Ok(())
+}
