@@ -1,14 +1,14 @@
 -- The line of a summary, part by part.
-use Rattle.std.proofs.Common.{◌≡◌, ℕ, ℤ, List, ◌++◌, append_assoc, ap, ◌∙◌}
+use Rattle.std.proofs.Common.{◌≡◌, ℕ, ℤ, List, ◌++◌, filter, length, append_assoc, ap, ◌∙◌}
 use Rattle.std.specs.Prelude.{codes}
 use Rattle.std.specs.Fmt.{decimal, signed_decimal}
 use Rattle.ftl_model.specs.AttributeGrammar.{AttributeGrammar}
-use Rattle.ftl_model.specs.Boxes.{Names}
+use Rattle.ftl_model.specs.Boxes.{Names, is_overflow}
 use Rattle.ftl_model.specs.Solves.{Instance}
 use Rattle.ftl_model.specs.Table.{instance_count}
 use Rattle.ftl_model.specs.Tree.{Forest, size}
 use Rattle.ftl_model.specs.Values.{Value}
-use Rattle.ftl_answer.specs.Summary.{field, shown_values, summary}
+use Rattle.ftl_answer.specs.Summary.{field, once, shown_values, summary, weighted_sum}
 use Rattle.ftl_summary_text.specs.Summed.{AreSumsOf, summary_line}
 use Rattle.ftl_summary_text.specs.declared.sums.Sums.{Sums}
 
@@ -34,6 +34,8 @@ pub line_is : (grammar : List ℕ) (g : AttributeGrammar) (names : Names) (t : F
     → AreSumsOf (shown_values names t s) sums
     → summary_line grammar nodes instances sums ≡ summary grammar g names t s
 line_is grammar g names t s nodes instances sums e_nodes e_instances are =
+    let values = shown_values names t s in
+    let over = length (filter is_overflow values) in
     ap (λ x. codes "grammar=" ++ (grammar ++ x))
     (regrouped (field (codes "nodes") (decimal nodes)) (field (codes "instances") (decimal instances))
     (field (codes "shown") (decimal sums.shown)) (field (codes "overflow") (decimal sums.overflows))
@@ -41,6 +43,6 @@ line_is grammar g names t s nodes instances sums e_nodes e_instances are =
     ∙ ap (λ n. line grammar n instances sums.shown sums.overflows sums.sum sums.mix) e_nodes
     ∙ ap (λ n. line grammar (size t) n sums.shown sums.overflows sums.sum sums.mix) e_instances
     ∙ ap (λ n. line grammar (size t) (instance_count g t) n sums.overflows sums.sum sums.mix) are.shown
-    ∙ ap (λ n. line grammar (size t) (instance_count g t) _ n sums.sum sums.mix) are.overflows
-    ∙ ap (λ n. line grammar (size t) (instance_count g t) _ _ n sums.mix) are.sum
-    ∙ ap (λ n. line grammar (size t) (instance_count g t) _ _ _ n) are.mix
+    ∙ ap (λ n. line grammar (size t) (instance_count g t) (length values) n sums.sum sums.mix) are.overflows
+    ∙ ap (λ n. line grammar (size t) (instance_count g t) (length values) over n sums.mix) are.sum
+    ∙ ap (λ n. line grammar (size t) (instance_count g t) (length values) over (weighted_sum once 0 values) n) are.mix

@@ -34,19 +34,17 @@ pub record AreWithValues (t : CheckedTree) (words : List ℕ) (n : ℕ) (shown :
   pub shown_more : sums.shown ≡ before.shown + count
 
 -- one more attribute
-pub one_more : (t : CheckedTree) (words : List ℕ) (n : ℕ) (shown : List ℕ) (k a : ℕ) (values : List Value) (sums : Sums)
-    → k < length shown → a ≡ get_or shown k a
+pub one_more : (t : CheckedTree) (words : List ℕ) (n : ℕ) (shown : List ℕ) (k d : ℕ) (values : List Value) (sums : Sums)
+    → k < length shown
     → AreSumsOf ((values ++ values_of t words n (take k shown))
-    ++ (table_of_words t words (instance_of (node_at t.tree n) a) ∷ [])) sums
+    ++ (table_of_words t words (instance_of (node_at t.tree n) (get_or shown k d)) ∷ [])) sums
     → AreSumsOf (values ++ values_of t words n (take (k + 1) shown)) sums
-one_more t words n shown k a values sums within is h =
+one_more t words n shown k d values sums within h =
     let f = λ (b : ℕ). table_of_words t words (instance_of (node_at t.tree n) b) in
     subst (λ (vs : List Value). AreSumsOf vs sums)
-    (append_assoc values (values_of t words n (take k shown)) (f a ∷ [])
+    (append_assoc values (values_of t words n (take k shown)) (f (get_or shown k d) ∷ [])
     ∙ ap (λ ys. values ++ ys)
-    (ap (λ b. values_of t words n (take k shown) ++ (f b ∷ [])) is
-    ∙ sym (map-append f (take k shown) (get_or shown k a ∷ []))
-    ∙ ap (map f) (sym (take_more shown k a within))))
+    (sym (map-append f (take k shown) (get_or shown k d ∷ [])) ∙ ap (map f) (sym (take_more shown k d within))))
     h
 
 -- one more node
