@@ -1,1 +1,2 @@
 pub mod FitsStage
+mod Filled

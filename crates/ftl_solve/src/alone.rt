@@ -6,10 +6,12 @@ ghost use Rattle.ftl_items.specs.WordLaws.{HoldTheSolution};
 ghost use Rattle.ftl_solution.specs.Solution.{solution};
 ghost use Rattle.ftl_stage.specs.StageParts.{meaning_at};
 
+use ftl_base::CodeStack;
+use ftl_cells::Work;
 use ftl_plan::Plan;
 use ftl_stage::StageWork;
 use ftl_stage_laws::words_of_stages;
-use ftl_steal::run_alone;
+use ftl_steal::PlainFiller;
 use std::alloc::{AllocError, Global};
 
 /// The words of the solution, one for each cell.
@@ -30,5 +32,13 @@ fn words_after(alloc: Global, work: &StageWork<'_>, words: Vec<u64>) -> Result<V
     requires first { AreFirst (meaning_at work.now) words.items }
     ensures last { IfOk result (λ v. AreLast (meaning_at work.now) v.items) }
 {
-    run_alone(alloc, work, words)
+    let mut reads = Vec::with_capacity(alloc, work.max_reads() as usize)?;
+    let mut stack = CodeStack::new(alloc, work.max_stack())?;
+    let items = work.items();
+    let mut filler = PlainFiller::new(work, words);
+    for item in 0..items {
+        filler.begin(item);
+        work.run_item(item, &mut filler, &mut reads, &mut stack);
+    }
+    Ok(filler.into_words())
 }

@@ -15,17 +15,18 @@ pub fn run_alone<W: Work>(alloc: Global, work: &W, words: Vec<u64>) -> Result<Ve
 {
     let mut reads = Vec::with_capacity(alloc, work.max_reads() as usize)?;
     let mut stack = CodeStack::new(alloc, work.max_stack())?;
+    let items = work.items();
     let mut filler = PlainFiller::new(work, words);
-    for item in 0..work.items() {
+    for item in 0..items {
         filler.begin(item);
         work.run_item(item, &mut filler, &mut reads, &mut stack);
     }
     Ok(filler.into_words())
 }
 
-/// Reads and fills plain words. Where it stands is for the contracts alone.
+/// Reads and fills plain words, one for each cell. Where it stands is for the contracts alone.
 #[derive(Drop)]
-struct PlainFiller<'a, W: Meant> {
+pub struct PlainFiller<'a, W: Meant> {
     work: &'a W,
     words: Vec<u64>,
     item: u32,
@@ -33,14 +34,14 @@ struct PlainFiller<'a, W: Meant> {
     reads: u32,
 }
 
-impl<'a, W: Work> PlainFiller<'a, W> {
-    fn new(work: &'a W, words: Vec<u64>) -> PlainFiller<'a, W>
+impl<'a, W: Meant> PlainFiller<'a, W> {
+    /// Stands before the first item, over the words of the Given cells and 0 for all others.
+    pub fn new(work: &'a W, words: Vec<u64>) -> PlainFiller<'a, W>
+        requires lawful { IsLawfulWork (W.meaning work.now) }
         requires first { AreFirst (W.meaning work.now) words.items }
         ensures work { result.work.now ≡ work.now }
         ensures filled { IsFilledTo (W.meaning work.now) result.words.items 0 0 }
     {
-        // Each work is lawful.
-        let _items = work.items();
         PlainFiller {
             work,
             words,
@@ -51,7 +52,7 @@ impl<'a, W: Work> PlainFiller<'a, W> {
     }
 
     /// Goes to the next item, after the last step of the one before.
-    fn begin(&mut self, item: u32)
+    pub fn begin(&mut self, item: u32)
         requires filled { IsFilledTo (W.meaning self.old.work.now) self.old.words.items item 0 }
         ensures work { self.new.work.now ≡ self.old.work.now }
         ensures words { self.new.words.items ≡ self.old.words.items }
@@ -64,7 +65,8 @@ impl<'a, W: Work> PlainFiller<'a, W> {
         self.reads = 0;
     }
 
-    fn into_words(self) -> Vec<u64>
+    /// The words after the last item.
+    pub fn into_words(self) -> Vec<u64>
         requires filled { IsFilledTo (W.meaning self.work.now) self.words.items
             (item_total (W.meaning self.work.now)) 0 }
         ensures last { AreLast (W.meaning self.entry.work.now) result.items }

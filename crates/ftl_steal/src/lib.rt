@@ -8,5 +8,5 @@ mod member;
 mod stage;
 mod worker;
 
-pub use alone::run_alone;
+pub use alone::{PlainFiller, run_alone};
 pub use stage::run_stage;
