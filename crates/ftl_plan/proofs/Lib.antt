@@ -1,4 +1,8 @@
+pub mod Bridge
+pub mod Driven
 pub mod Inputs
 pub mod RowsByStage
 pub mod StagesOfPlans
 pub mod WordRows
+pub mod FitsStage
+mod Filled

@@ -13,8 +13,8 @@ use Rattle.ftl_model.specs.Table.{instance_count}
 use Rattle.ftl_model.specs.Tree.{Forest, size}
 use Rattle.ftl_model.specs.TreeOf.{IsTreeOf}
 use Rattle.ftl_order.specs.Schedule as order
-use Rattle.ftl_stage.specs.StageParts.{IsStage, StageView}
-use Rattle.ftl_stage.specs.declared.parts.StageParts.{StageParts}
+use Rattle.ftl_plan.specs.StageParts.{IsStage, StageView}
+use Rattle.ftl_plan.specs.declared.parts.StageParts.{StageParts}
 use Rattle.ftl_stage_laws.specs.StageMeanings.{CanBePlanned}
 use Rattle.ftl_step_value.specs.StepValue.{IsCodeFor}
 use Rattle.ftl_stage_rows.specs.StageRows.{AreStageRows, pass_places, pass_visits}

@@ -1,3 +1,5 @@
+pub mod StageParts
+pub mod Driving
 pub mod Planned
 pub mod PlannedStages
 pub mod PlanInside

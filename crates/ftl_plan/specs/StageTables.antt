@@ -4,7 +4,7 @@ use Rattle.ftl_item_cursor.specs.ItemSteps.{AreItemTables, forest_in}
 use Rattle.ftl_item_cursor.specs.declared.item.ItemTables.{ItemTables}
 use Rattle.ftl_item_rows.specs.StageItems.{passes_in}
 use Rattle.ftl_items.specs.Items.{passes_of}
-use Rattle.ftl_stage.specs.StageParts.{StageView}
+use Rattle.ftl_plan.specs.StageParts.{StageView}
 use Rattle.ftl_stages.specs.Stages.{stages_of}
 use Rattle.ftl_plan.specs.Planned.{PlanMeaning}
 

@@ -1,12 +1,26 @@
 //! Plans of a layout. Goes in: a checked grammar, a schedule that was accepted for it, the code of
-//! its rules and a tree. Comes out: `Plan`, or its first fault, which `specs/Planned.antt` has;
-//! the number of stages, and the words of the cells before the first.
+//! its rules and a tree. Comes out: `Plan`, or its first fault, which `specs/Planned.antt` has; the
+//! words of the cells before the first stage; each stage as lawful work, `StageWork`, which means
+//! what `ftl_stage_laws` says that the stage means and drives a filler through an item with each
+//! step made once; and the words of the values that solve the tree, computed by one thread, stage
+//! after stage. `specs/StageParts.antt` says what a stage is made of, `specs/Driving.antt` where a
+//! filler stands around a step.
 #![tactic(auto)]
 
+mod alone;
+mod items;
+mod meant;
+mod parts;
 mod plan;
+mod running;
 mod sound;
 mod stages;
+mod steps;
 mod words;
+mod work;
 
+pub use alone::solve_alone;
 pub use ftl_plan_limits::PlanFault;
+pub use parts::StageParts;
 pub use plan::Plan;
+pub use work::StageWork;

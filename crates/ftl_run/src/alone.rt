@@ -5,11 +5,11 @@ ghost use Rattle.ftl_answer.specs.Answers.{obeyed};
 ghost use Rattle.ftl_answer.specs.Stages.{ends};
 ghost use Rattle.ftl_decided.specs.Outcomes.{answer_of};
 
-use ftl_answering::Obey;
+use crate::obey::Obey;
 use ftl_commands::Command;
 use ftl_decided::Decided;
-use ftl_rules_commands::{obey_check, obey_schedule};
-use ftl_solving_commands::{obey_run, obey_sample};
+use crate::rules_commands::{obey_check, obey_schedule};
+use crate::solving_commands::{obey_run, obey_sample};
 use std::alloc::{AllocError, Global};
 
 /// Obeys commands on the calling thread, whatever the number of workers.

@@ -1,13 +1,13 @@
 //! The call that lays out pages on one thread.
 
 ghost use Rattle.std.specs.Prelude.{◌≡◌};
-ghost use Rattle.ftl_answering.specs.Headline.{FaultsHaveCauses, IsTold, OfTheAnswer, OneTableOf};
-ghost use Rattle.ftl_answering.specs.Headline.{ReadsInput, bytes_answered, texts, words_read};
+ghost use Rattle.ftl_run.specs.Headline.{FaultsHaveCauses, IsTold, OfTheAnswer, OneTableOf};
+ghost use Rattle.ftl_run.specs.Headline.{ReadsInput, bytes_answered, texts, words_read};
 ghost use Rattle.ftl_commands.specs.Commands.{command_of};
 ghost use Rattle.ftl_edge.specs.Counts.{Rose, source_counts};
 
 use crate::alone::Alone;
-use ftl_answering::write_answer;
+use crate::write::write_answer;
 use ftl_decided::Status;
 use ftl_edge::{Sink, Source};
 use std::alloc::Global;

@@ -1,4 +1,0 @@
-mod Statuses
-mod Bytes
-mod Tables
-mod Telling

@@ -1,0 +1,96 @@
+-- What the work of a stage is made of, and what it means.
+use Rattle.std.specs.Prelude.{◌≡◌, ℕ, List}
+use Rattle.ftl_cells.specs.Shape.{WorkShape}
+use Rattle.ftl_cells.specs.Work.{Meaning}
+use Rattle.ftl_dep_table.specs.Meant.{meant}
+use Rattle.ftl_grammar_faults.specs.Checked.{CheckedGrammar}
+use Rattle.ftl_instance_reads.specs.ReadTables.{AreTables, IsSound}
+use Rattle.ftl_item_cursor.specs.ItemSteps.{AreItemTables, forest_in, grammar_in}
+use Rattle.ftl_item_rows.specs.StageItems.{passes_in}
+use Rattle.ftl_items.specs.Items.{passes_of}
+use Rattle.ftl_items.specs.StageWork.{stage_work, step_at, steps_in}
+use Rattle.ftl_model.specs.AttributeGrammar.{AttributeGrammar}
+use Rattle.ftl_model.specs.Solves.{Instance}
+use Rattle.ftl_model.specs.Tree.{Forest}
+use Rattle.ftl_order.specs.Schedule as order
+use Rattle.ftl_solution.specs.Solution.{solution}
+use Rattle.ftl_stage_laws.specs.StageMeanings.{CanBePlanned, stage_meaning}
+use Rattle.ftl_stages.specs.Stages.{stages_of}
+use Rattle.ftl_stages.specs.declared.types.Schedule.{Schedule}
+use Rattle.ftl_step_value.specs.StepValue.{IsCodeFor}
+use Rattle.ftl_steps.specs.Steps.{IsStepOf, target_of}
+use Rattle.ftl_steps.specs.declared.step.Step.{Step}
+use Rattle.ftl_plan.specs.declared.parts.StageParts.{StageParts}
+
+-- the grammar
+abbrev pub grammar_of : StageParts → AttributeGrammar
+grammar_of w = grammar_in w.item_tables
+
+-- the tree
+abbrev pub tree_of : StageParts → Forest
+tree_of w = forest_in w.item_tables
+
+-- the schedule
+abbrev pub schedule_of : StageParts → order.Schedule
+schedule_of w = stages_of w.accepted.now
+
+-- how many nodes an item has at most
+abbrev pub grain_of : StageParts → ℕ
+grain_of w = w.item_tables.items.rows.now.grain
+
+-- all is of one plan: the tables are the grammar's, the code that of its rules, and the items those of this stage
+pub record IsStage (w : StageParts) : Type 0 where
+  pub sound : IsSound (grammar_of w)
+  pub can : CanBePlanned (grammar_of w) (schedule_of w) (tree_of w)
+  pub tables_are : AreTables (grammar_of w) w.read_tables.now
+  pub code : IsCodeFor w.item_tables.items.rows.now.tree.now.checked w.programs.now
+  pub passes : passes_of (schedule_of w) w.stage ≡ passes_in w.item_tables.items
+  pub items : AreItemTables w.item_tables
+
+-- ---- what it means
+
+-- what a stage is known by
+pub record StageView : Type 0 where
+  pub checked : CheckedGrammar
+  pub schedule : Schedule
+  pub tree : Forest
+  pub grain : ℕ
+  pub stage : ℕ
+  pub max_stack : ℕ
+
+-- what it means
+abbrev pub meaning_at : StageView → Meaning
+meaning_at v = stage_meaning (meant v.checked) (stages_of v.schedule) v.tree v.grain v.stage v.max_stack
+
+-- what these parts are of
+abbrev pub view_of : StageParts → StageView
+view_of w =
+    record {
+      checked = w.item_tables.items.rows.now.tree.now.checked;
+      schedule = w.accepted.now;
+      tree = tree_of w;
+      grain = grain_of w;
+      stage = w.stage;
+      max_stack = w.programs.now.max_stack;
+    }
+
+-- what they mean
+abbrev pub meaning_of : StageParts → Meaning
+meaning_of w = meaning_at (view_of w)
+
+-- the same by functions
+abbrev pub shape_of : StageParts → WorkShape
+shape_of w =
+    stage_work (grammar_of w) (schedule_of w) (tree_of w) (grain_of w) w.stage (solution (grammar_of w) (tree_of w))
+    1048576 w.programs.now.max_stack
+
+-- the instances that an item computes, in order
+abbrev pub steps_of : StageParts → (item : ℕ) → List Instance
+steps_of w i = steps_in (grammar_of w) (schedule_of w) (tree_of w) (grain_of w) w.stage i
+
+-- the step at this place of an item
+pub record IsStepAt (w : StageParts) (item place : ℕ) (x : Step) : Type 0 where
+  pub is_step : IsStepOf (grammar_of w) (tree_of w) x
+  pub target :
+      target_of (grammar_of w) (tree_of w) x
+      ≡ step_at (grammar_of w) (schedule_of w) (tree_of w) (grain_of w) w.stage item place

@@ -1,0 +1,12 @@
+mod Told
+mod ToldSchedules
+mod AutomaticSmall
+mod ReadSmall
+mod Endings
+mod Words
+mod Solved
+mod Passes
+mod Statuses
+mod Bytes
+mod Tables
+mod ToldAnswers

@@ -1,0 +1,32 @@
+-- The words of values that solve show these values.
+use Rattle.std.proofs.Common.{◌≡◌, ◌<◌, ◌∙◌, sym, ap, ℕ, List, length, get_or, map, arith}
+use Rattle.std.proofs.lemmas.List.{ext_get_or, get_or-map, length-map}
+use Rattle.std.proofs.lemmas.Simd.{map-map}
+use Rattle.ftl_box_text.specs.WordValues.{WordsAreUndone, table_of_words, value_of_word}
+use Rattle.ftl_dep_table.specs.Meant.{meant}
+use Rattle.ftl_model.specs.Solves.{Instance}
+use Rattle.ftl_model.specs.Table.{instance_count, value_in}
+use Rattle.ftl_model.specs.Values.{IsValue, Value, overflow, word_of_value}
+use Rattle.ftl_tree.specs.CheckedTree.{CheckedTree}
+use Rattle.ftl_run.specs.ShownTables.{IsSolvedBy}
+
+back : WordsAreUndone → (values : List Value) → ((i : ℕ) → i < length values → IsValue (get_or values i overflow))
+    → map value_of_word (map word_of_value values) ≡ values
+back undone values in_range =
+    let long = length-map values (λ v. value_of_word (word_of_value v)) in
+    map-map value_of_word word_of_value values
+    ∙ ext_get_or overflow (map (λ v. value_of_word (word_of_value v)) values) values long
+    (λ i within.
+    let known : i < length values = omega (arith, within, long) in
+    get_or-map (λ v. value_of_word (word_of_value v)) values i overflow overflow known
+    ∙ undone (get_or values i overflow) (in_range i known))
+
+module _ (t : CheckedTree) (words : List ℕ) (x : IsSolvedBy t words) where
+  -- one for each instance
+  pub words_count : length words ≡ instance_count (meant t.checked) t.tree
+  words_count = ap length x.held ∙ length-map x.values word_of_value ∙ x.solves.count
+
+  pub same_table : WordsAreUndone → table_of_words t words ≡ value_in (meant t.checked) t.tree x.values
+  same_table undone =
+      ap (λ ws. value_in (meant t.checked) t.tree (map value_of_word ws)) x.held
+      ∙ ap (value_in (meant t.checked) t.tree) (back undone x.values x.in_range)

@@ -1,0 +1,24 @@
+-- What is shown of a table, and when the result of a call is the end of a stage.
+use Rattle.std.specs.Prelude.{ℕ, ◌<◌, List, length, slice_index_or}
+use Rattle.ftl_grammar_faults.specs.Checked.{CheckedGrammar}
+use Rattle.ftl_dep_table.specs.Meant.{meant}
+use Rattle.ftl_items.specs.WordLaws.{HoldTheSolution}
+use Rattle.ftl_model.specs.Table.{SolvesList}
+use Rattle.ftl_model.specs.Tree.{Forest}
+use Rattle.ftl_model.specs.Values.{IsValue, Value, overflow}
+use Rattle.ftl_tree.specs.CheckedTree.{CheckedTree}
+use Rattle.ftl_answer.specs.Answers.{boxes_of, summary_of}
+use Rattle.ftl_run.specs.declared.shown.Shown.{Shown}
+use Rattle.ftl_run.specs.declared.shown.Shown.TheVariants as shown
+
+-- the text of a table
+abbrev pub text_shown : Shown → CheckedGrammar → Forest → List Value → List ℕ
+text_shown shown.Boxes = boxes_of
+text_shown (shown.Summary name) = summary_of name
+
+-- the words are those of values that solve the tree
+pub record IsSolvedBy (t : CheckedTree) (words : List ℕ) : Type 0 where
+  pub values : List Value
+  pub solves : SolvesList (meant t.checked) t.tree values
+  pub in_range : (i : ℕ) → i < length values → IsValue (slice_index_or values i overflow)
+  pub held : HoldTheSolution values words

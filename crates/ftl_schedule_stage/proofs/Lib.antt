@@ -1,3 +1,0 @@
-pub mod Told
-pub mod AutomaticSmall
-pub mod ReadSmall

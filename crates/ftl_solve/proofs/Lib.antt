@@ -1,2 +1,0 @@
-pub mod FitsStage
-mod Filled

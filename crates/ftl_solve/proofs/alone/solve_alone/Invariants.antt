@@ -1,5 +1,0 @@
-use Rattle.ftl_solve.proofs.FitsStage.{FitStage}
-use Rattle.ftl_solve.proofs.alone.solve_alone.Given as goal
-
-abbrev pub invariant-loop-stage : goal.invariant-loop-stage
-invariant-loop-stage l = FitStage l.plan l.stage l.words.items

@@ -1,2 +1,0 @@
-pub mod StageParts
-pub mod Driving
