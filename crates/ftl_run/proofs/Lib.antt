@@ -1,3 +1,4 @@
+mod Ways
 mod Told
 mod ToldSchedules
 mod AutomaticSmall

@@ -8,9 +8,9 @@ use Rattle.ftl_programs.specs.Compilable.{HasCode}
 use Rattle.ftl_answer.specs.Answer.{Answer}
 use Rattle.ftl_answer.specs.Stages.{Outcome, Stage, ends, hands_on, unless}
 use Rattle.ftl_answer.specs.Texts.{checked_grammar}
-use Rattle.ftl_decided.specs.Outcomes.{IsOutcome}
-use Rattle.ftl_decided.specs.declared.decision.Undecided.{Undecided}
-use Rattle.ftl_decided.specs.declared.decision.Undecided.TheVariants.{OutOfMemory, Refused}
+use Rattle.ftl_run.specs.Outcomes.{IsOutcome}
+use Rattle.ftl_run.specs.declared.decision.Undecided.{Undecided}
+use Rattle.ftl_run.specs.declared.decision.Undecided.TheVariants.{OutOfMemory, Refused}
 use Rattle.ftl_run.specs.Telling.{Tells}
 
 -- the end, at an outcome of this type

@@ -8,10 +8,10 @@ use Rattle.ftl_schedule_printing.specs.WrittenOf.{written_of}
 use Rattle.ftl_answer.specs.Answer.{answer}
 use Rattle.ftl_answer.specs.Stages.{Is, Stage, Then, ends}
 use Rattle.ftl_answer.specs.Texts.{grammar, schedule}
-use Rattle.ftl_decided.specs.Outcomes.{answer_of}
-use Rattle.ftl_decided.specs.declared.decision.Decided.{Decided}
-use Rattle.ftl_decided.specs.declared.decision.Undecided.{Undecided}
-use Rattle.ftl_decided.specs.declared.decision.Undecided.TheVariants.{OutOfMemory, Refused}
+use Rattle.ftl_run.specs.Outcomes.{answer_of}
+use Rattle.ftl_run.specs.declared.decision.Decided.{Decided}
+use Rattle.ftl_run.specs.declared.decision.Undecided.{Undecided}
+use Rattle.ftl_run.specs.declared.decision.Undecided.TheVariants.{OutOfMemory, Refused}
 use Rattle.ftl_run.specs.declared.rules.Asked.{Asked}
 use Rattle.ftl_run.specs.declared.rules.Asked.TheVariants as asked
 

@@ -1,9 +1,9 @@
 -- When a stage ends with what is told of a fault.
 use Rattle.std.specs.Prelude.{◌≡◌, ◌≢◌}
 use Rattle.ftl_answer.specs.Answer.{Answer}
-use Rattle.ftl_decided.specs.Outcomes.{answer_of}
-use Rattle.ftl_decided.specs.declared.decision.Undecided.{Undecided}
-use Rattle.ftl_decided.specs.declared.decision.Undecided.TheVariants.{OutOfMemory, Refused}
+use Rattle.ftl_run.specs.Outcomes.{answer_of}
+use Rattle.ftl_run.specs.declared.decision.Undecided.{Undecided}
+use Rattle.ftl_run.specs.declared.decision.Undecided.TheVariants.{OutOfMemory, Refused}
 
 -- the end is what is told of the fault, which is another than want of memory, unless memory ran out
 abbrev pub Tells : {E : Type 0} → (memory : E) → (E → Answer) → (fault : E) → Undecided → Type 0

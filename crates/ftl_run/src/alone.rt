@@ -3,11 +3,11 @@
 ghost use Rattle.std.specs.Prelude.{IfOk};
 ghost use Rattle.ftl_answer.specs.Answers.{obeyed};
 ghost use Rattle.ftl_answer.specs.Stages.{ends};
-ghost use Rattle.ftl_decided.specs.Outcomes.{answer_of};
+ghost use Rattle.ftl_run.specs.Outcomes.{answer_of};
 
 use crate::obey::Obey;
 use ftl_commands::Command;
-use ftl_decided::Decided;
+use crate::decision::Decided;
 use crate::rules_commands::{obey_check, obey_schedule};
 use crate::solving_commands::{obey_run, obey_sample};
 use std::alloc::{AllocError, Global};

@@ -4,7 +4,7 @@ ghost use Rattle.std.specs.Prelude.{IfOk};
 ghost use Rattle.ftl_answer.specs.Answer as answer;
 ghost use Rattle.ftl_answer.specs.Texts.{automatic_schedule};
 ghost use Rattle.ftl_automatic.specs.Automatic.{IsAutomatic};
-ghost use Rattle.ftl_decided.specs.Outcomes.{Ends, IsOutcome};
+ghost use Rattle.ftl_run.specs.Outcomes.{Ends, IsOutcome};
 ghost use Rattle.ftl_dep_table.specs.Meant.{meant};
 ghost use Rattle.ftl_order.specs.Ordered.{IsOrdered};
 ghost use Rattle.ftl_refusals.specs.ScheduleLines.{stuck_line};
@@ -13,7 +13,8 @@ ghost use Rattle.ftl_run.specs.Small.{IsSmall};
 ghost use Rattle.ftl_stages.specs.Stages.{stages_of};
 
 use ftl_checked::Checked;
-use ftl_decided::{Status, Undecided, refused};
+use crate::decision::{Undecided, refused};
+use crate::status::Status;
 use ftl_dep_table::dep_table;
 use ftl_lawful::faultless_grammars_are_small;
 use ftl_refusals::write_stuck;

@@ -10,13 +10,15 @@ ghost use Rattle.ftl_grammar_faults.specs.declared.fault.GrammarFault.TheVariant
 ghost use Rattle.ftl_programs.specs.Compilable.{HasCode};
 ghost use Rattle.ftl_refusals.specs.GrammarLines.{grammar_line};
 ghost use Rattle.ftl_refusals.specs.TextLines.{syntax_line};
-ghost use Rattle.ftl_decided.specs.Outcomes.{Ends, IsOutcome};
+ghost use Rattle.ftl_run.specs.Outcomes.{Ends, IsOutcome};
 ghost use Rattle.ftl_run.specs.Telling.{Tells};
 
 use ftl_base::Width;
 use ftl_checked::{Checked, check_grammar};
 use ftl_counts::small_counts;
-use ftl_decided::{Status, Undecided, refused, section_tokens};
+use crate::decision::{Undecided, refused};
+use crate::read::section_tokens;
+use crate::status::Status;
 use ftl_grammar::{SyntaxFault, read_grammar};
 use ftl_grammar_faults::GrammarFault;
 use ftl_page::{Section, Text};

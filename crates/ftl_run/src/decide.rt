@@ -6,7 +6,7 @@ ghost use Rattle.ftl_answer.specs.Answer as answer;
 ghost use Rattle.ftl_answer.specs.Answers.{IsAnswer, obeyed};
 ghost use Rattle.ftl_answer.specs.Stages.{ends};
 ghost use Rattle.ftl_commands.specs.Commands.{command_of};
-ghost use Rattle.ftl_decided.specs.Outcomes.{answer_of};
+ghost use Rattle.ftl_run.specs.Outcomes.{answer_of};
 ghost use Rattle.ftl_edge.specs.Counts.{Rose};
 ghost use Rattle.ftl_refusals.specs.PageLines.{too_long_line, words_line};
 ghost use Rattle.ftl_run.specs.Headline.{IsAnswered, bytes_answered, reads_page, texts};
@@ -15,7 +15,8 @@ ghost use Rattle.ftl_run.specs.declared.decide.Undone.TheVariants.{OutOfMemory};
 
 use crate::obey::Obey;
 use ftl_commands::{Command, CommandFault, read_command};
-use ftl_decided::{Decided, Status};
+use crate::decision::Decided;
+use crate::status::Status;
 use ftl_edge::{ReadAllFault, Source, read_all};
 use std::alloc::{AllocError, Global};
 

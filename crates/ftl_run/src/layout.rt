@@ -8,7 +8,7 @@ ghost use Rattle.ftl_edge.specs.Counts.{Rose, source_counts};
 
 use crate::alone::Alone;
 use crate::write::write_answer;
-use ftl_decided::Status;
+use crate::status::Status;
 use ftl_edge::{Sink, Source};
 use std::alloc::Global;
 

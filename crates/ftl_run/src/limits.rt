@@ -3,7 +3,7 @@
 ghost use Rattle.std.specs.Prelude.{◌≡◌, ◌≤◌, length, None, IfOk};
 ghost use Rattle.ftl_answer.specs.Answer as answer;
 ghost use Rattle.ftl_answer.specs.Texts.{planned_tree};
-ghost use Rattle.ftl_decided.specs.Outcomes.{Ends, IsOutcome};
+ghost use Rattle.ftl_run.specs.Outcomes.{Ends, IsOutcome};
 ghost use Rattle.ftl_dep_table.specs.Meant.{meant};
 ghost use Rattle.ftl_instance_reads.specs.ReadTables.{IsSound};
 ghost use Rattle.ftl_plan_limits.specs.PlanFaults.{first_fault};
@@ -11,7 +11,8 @@ ghost use Rattle.ftl_refusals.specs.PlanLines.{plan_line};
 ghost use Rattle.ftl_stages.specs.Stages.{stages_of};
 
 use ftl_checked::Checked;
-use ftl_decided::{Status, Undecided, refused};
+use crate::decision::{Undecided, refused};
+use crate::status::Status;
 use ftl_lawful::{faultless_grammars_are_lawful, faultless_grammars_are_small};
 use ftl_plan_limits::{PlanFault, ReadTables, first_fault};
 use ftl_refusals::write_plan_fault;

@@ -3,10 +3,10 @@
 ghost use Rattle.std.specs.Prelude.{IfOk};
 ghost use Rattle.ftl_answer.specs.Answers.{obeyed};
 ghost use Rattle.ftl_answer.specs.Stages.{ends};
-ghost use Rattle.ftl_decided.specs.Outcomes.{answer_of};
+ghost use Rattle.ftl_run.specs.Outcomes.{answer_of};
 
 use ftl_commands::Command;
-use ftl_decided::Decided;
+use crate::decision::Decided;
 use std::alloc::{AllocError, Global};
 
 /// What obeys commands, on one thread or on several.

@@ -8,11 +8,13 @@ ghost use Rattle.ftl_dep_table.specs.Meant.{meant};
 ghost use Rattle.ftl_page.specs.Texts.{HasTextsUpTo};
 ghost use Rattle.ftl_schedule_faults.specs.FaultLaws.{AreComputed};
 ghost use Rattle.ftl_stages.specs.Stages.{stages_of};
-ghost use Rattle.ftl_decided.specs.Outcomes.{answer_of};
+ghost use Rattle.ftl_run.specs.Outcomes.{answer_of};
 ghost use Rattle.ftl_run.specs.Asked.{EndsIn, text_asked, told, told_of_page};
 
 use ftl_checked::Checked;
-use ftl_decided::{Decided, Status, Undecided, read_page};
+use crate::decision::{Decided, Undecided};
+use crate::read::read_page;
+use crate::status::Status;
 use ftl_page::{Need, Page, Text};
 use ftl_schedule::{Schedule, known_entries, print_schedule};
 use crate::scheduling::schedule_of;

@@ -4,10 +4,10 @@ ghost use Rattle.std.specs.Prelude.{IfOk};
 ghost use Rattle.ftl_answer.specs.Answers.{obeyed};
 ghost use Rattle.ftl_answer.specs.Stages.{ends};
 ghost use Rattle.ftl_commands.specs.declared.command.Command.TheVariants as command;
-ghost use Rattle.ftl_decided.specs.Outcomes.{answer_of};
+ghost use Rattle.ftl_run.specs.Outcomes.{answer_of};
 
 use crate::rules::{Asked, decided};
-use ftl_decided::Decided;
+use crate::decision::Decided;
 use std::alloc::{AllocError, Global};
 
 /// Whether the grammar and the schedule of a page are accepted.

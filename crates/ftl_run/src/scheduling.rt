@@ -2,7 +2,7 @@
 
 ghost use Rattle.std.specs.Prelude.{◌≤◌, length, IfOk, IfSome};
 ghost use Rattle.ftl_answer.specs.Texts.{schedule};
-ghost use Rattle.ftl_decided.specs.Outcomes.{IsOutcome};
+ghost use Rattle.ftl_run.specs.Outcomes.{IsOutcome};
 ghost use Rattle.ftl_dep_table.specs.Meant.{meant};
 ghost use Rattle.ftl_order.specs.Ordered.{IsOrdered};
 ghost use Rattle.ftl_schedule_faults.specs.FaultLaws.{AreComputed};
@@ -12,7 +12,7 @@ ghost use Rattle.ftl_stages.specs.Stages.{stages_of};
 use crate::automatic::automatic_schedule;
 use crate::written::written_schedule;
 use ftl_checked::Checked;
-use ftl_decided::Undecided;
+use crate::decision::Undecided;
 use ftl_page::Text;
 use ftl_schedule::Accepted;
 use std::alloc::Global;

@@ -3,11 +3,12 @@
 ghost use Rattle.std.specs.Prelude.{◌≡◌, IfOk, if◌then◌else◌};
 ghost use Rattle.ftl_answer.specs.Answers.{shown_by};
 ghost use Rattle.ftl_answer.specs.Stages.{ends};
-ghost use Rattle.ftl_decided.specs.Outcomes.{answer_of};
+ghost use Rattle.ftl_run.specs.Outcomes.{answer_of};
 ghost use Rattle.ftl_run.specs.ShownTables.{IsSolvedBy, text_shown};
 
 use ftl_box_text::{print_boxes, shows_overflow, words_are_undone};
-use ftl_decided::{Decided, Status};
+use crate::decision::Decided;
+use crate::status::Status;
 use ftl_summary_text::print_summary;
 use ftl_tokens::Name;
 use ftl_tree::Tree;

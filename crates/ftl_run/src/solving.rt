@@ -5,7 +5,7 @@ ghost use Rattle.ftl_answer.specs.Answer as answer;
 ghost use Rattle.ftl_answer.specs.Answers.{shown_by, solved, text_or_none, whole_page};
 ghost use Rattle.ftl_answer.specs.Stages.{ends};
 ghost use Rattle.ftl_answer.specs.Texts.{page};
-ghost use Rattle.ftl_decided.specs.Outcomes.{IsOutcome, answer_of};
+ghost use Rattle.ftl_run.specs.Outcomes.{IsOutcome, answer_of};
 ghost use Rattle.ftl_dep_table.specs.Meant.{meant};
 ghost use Rattle.ftl_order.specs.Ordered.{IsOrdered};
 ghost use Rattle.ftl_page.specs.Texts.{HasTextsUpTo};
@@ -20,7 +20,9 @@ ghost use Rattle.ftl_run.specs.SolvedPages.{told_of_grammar, told_of_page, told_
 
 use crate::shown::{Shown, table_shown};
 use ftl_checked::Checked;
-use ftl_decided::{Decided, Status, Undecided, read_page};
+use crate::decision::{Decided, Undecided};
+use crate::read::read_page;
+use crate::status::Status;
 use ftl_order::{reads_end_by_rank, values_are_in_range};
 use ftl_page::{Need, Page, Text};
 use ftl_plan::{Plan, PlanFault, solve_alone};

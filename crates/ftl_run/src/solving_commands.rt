@@ -4,13 +4,13 @@ ghost use Rattle.std.specs.Prelude.{ℕ, List, IfOk};
 ghost use Rattle.ftl_answer.specs.Answers.{obeyed};
 ghost use Rattle.ftl_answer.specs.Stages.{ends};
 ghost use Rattle.ftl_commands.specs.declared.command.Command.TheVariants as command;
-ghost use Rattle.ftl_decided.specs.Outcomes.{answer_of};
+ghost use Rattle.ftl_run.specs.Outcomes.{answer_of};
 
 use crate::shown::Shown;
 use crate::solving::{bad_sample, solved};
 use ftl_boxes::{SampleFault, sample_page};
 use ftl_commands::Solving;
-use ftl_decided::Decided;
+use crate::decision::Decided;
 use ftl_tokens::Name;
 use std::alloc::{AllocError, Global};
 

@@ -10,7 +10,7 @@ use crate::decide::{Undone, decide};
 use crate::laws::{answers_have_statuses, one_table};
 use crate::obey::Obey;
 use ftl_answer::one_answer;
-use ftl_decided::Status;
+use crate::status::Status;
 use ftl_edge::{Sink, Source, write_whole};
 use std::alloc::Global;
 

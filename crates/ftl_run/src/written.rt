@@ -5,7 +5,7 @@ ghost use Rattle.ftl_answer.specs.Answer as answer;
 ghost use Rattle.ftl_answer.specs.Stages.{Then};
 ghost use Rattle.ftl_answer.specs.Texts.{ordered_schedule, spelled_schedule};
 ghost use Rattle.ftl_answer.specs.Texts as texts;
-ghost use Rattle.ftl_decided.specs.Outcomes.{Ends, IsOutcome};
+ghost use Rattle.ftl_run.specs.Outcomes.{Ends, IsOutcome};
 ghost use Rattle.ftl_run.specs.Small.{IsSmall};
 ghost use Rattle.ftl_run.specs.Telling.{Tells};
 ghost use Rattle.ftl_dep_table.specs.Meant.{meant};
@@ -18,7 +18,9 @@ ghost use Rattle.ftl_schedule_names.specs.declared.fault.ScheduleFault.TheVarian
 ghost use Rattle.ftl_stages.specs.Stages.{stages_of};
 
 use ftl_checked::Checked;
-use ftl_decided::{Status, Undecided, refused, section_tokens};
+use crate::decision::{Undecided, refused};
+use crate::read::section_tokens;
+use crate::status::Status;
 use ftl_dep_table::dep_table;
 use ftl_lawful::faultless_grammars_are_lawful;
 use ftl_page::Section;
@@ -49,7 +51,7 @@ pub(crate) fn written_schedule(
 }
 
 /// The schedule that the tokens spell, verified.
-#[tactic(auto, using(crate::proofs::Told::may_tell, ftl_decided::proofs::Ways::then_second))]
+#[tactic(auto, using(crate::proofs::Told::may_tell, crate::proofs::Ways::then_second))]
 fn schedule_of_tokens(
     alloc: Global,
     checked: &Checked,
@@ -79,7 +81,7 @@ fn few_passes(checked: &Checked, scanned: &Scanned, schedule: &Schedule)
 {}
 
 /// The schedule, where it is ordered.
-#[tactic(auto, using(crate::proofs::ToldSchedules::schedule_handed, crate::proofs::ToldSchedules::same_schedule, crate::proofs::ToldSchedules::schedule_told, crate::proofs::ToldSchedules::no_fault, ftl_decided::proofs::Ways::may_end))]
+#[tactic(auto, using(crate::proofs::ToldSchedules::schedule_handed, crate::proofs::ToldSchedules::same_schedule, crate::proofs::ToldSchedules::schedule_told, crate::proofs::ToldSchedules::no_fault, crate::proofs::Ways::may_end))]
 fn verified(alloc: Global, checked: &Checked, schedule: Schedule) -> Result<Accepted, Undecided>
     requires computed { AreComputed (meant checked.now) (stages_of schedule) }
     requires small { IsSmall (stages_of schedule) }

@@ -1,4 +1,4 @@
-use Rattle.ftl_decided.specs.Outcomes.{answer_of}
+use Rattle.ftl_run.specs.Outcomes.{answer_of}
 use Rattle.ftl_run.proofs.Statuses.{of_command}
 use Rattle.ftl_run.proofs.decide.of_command.Goals as goal
 

@@ -6,8 +6,8 @@ use Rattle.ftl_tokens.specs.Tokenized.{Tokenized}
 use Rattle.ftl_page.specs.declared.fault.Section.TheVariants as section
 use Rattle.ftl_answer.specs.Stages.{Stage, Then, hands_on}
 use Rattle.ftl_answer.specs.Texts.{planned_tree, spelled_tree, tokens, wide}
-use Rattle.ftl_decided.specs.Outcomes.{IsOutcome}
-use Rattle.ftl_decided.proofs.Ways.{then_second}
+use Rattle.ftl_run.specs.Outcomes.{IsOutcome}
+use Rattle.ftl_run.proofs.Ways.{then_second}
 use Rattle.ftl_run.proofs.growing.tree_of.Goals as goal
 
 pub returns-in-Ok-clause-outcome : goal.returns-in-Ok-clause-outcome

@@ -2,7 +2,7 @@ use Rattle.std.proofs.Common.{ℕ, List, Err, refl, sym, inl, inr, ⊎_elim, ap,
 use Rattle.std.specs.Io.KnownBytes.{Appends}
 use Rattle.ftl_edge.specs.Counts.{source_counts}
 use Rattle.ftl_edge.specs.Sink.{AppendsFront}
-use Rattle.ftl_decided.specs.Outcomes.{answer_of}
+use Rattle.ftl_run.specs.Outcomes.{answer_of}
 use Rattle.ftl_run.specs.Headline.{bytes_answered, texts, words_read}
 use Rattle.ftl_run.proofs.ToldAnswers.{at_its_end, memory_ran_out, of_any, of_decided, read_failed}
 use Rattle.ftl_run.proofs.write.write_answer.Goals as goal

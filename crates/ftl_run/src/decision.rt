@@ -2,8 +2,8 @@
 
 ghost use Rattle.std.specs.Prelude.{◌≡◌};
 ghost use Rattle.ftl_answer.specs.Answer as answer;
-ghost use Rattle.ftl_decided.specs.Outcomes.{Ends};
-ghost use Rattle.ftl_decided.specs.declared.decision.Undecided.TheVariants.{OutOfMemory};
+ghost use Rattle.ftl_run.specs.Outcomes.{Ends};
+ghost use Rattle.ftl_run.specs.declared.decision.Undecided.TheVariants.{OutOfMemory};
 
 use crate::status::Status;
 use std::alloc::{AllocError, Global};

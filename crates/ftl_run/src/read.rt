@@ -6,7 +6,7 @@ ghost use Rattle.ftl_answer.specs.Texts.{page, status_of, tokens};
 ghost use Rattle.ftl_page.specs.Texts.{HasTextsUpTo};
 ghost use Rattle.ftl_refusals.specs.PageLines.{page_line, too_long_line};
 ghost use Rattle.ftl_refusals.specs.TextLines.{token_line};
-ghost use Rattle.ftl_decided.specs.Outcomes.{Ends, IsOutcome};
+ghost use Rattle.ftl_run.specs.Outcomes.{Ends, IsOutcome};
 
 use crate::decision::{Undecided, refused};
 use crate::status::Status;

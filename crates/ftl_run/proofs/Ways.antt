@@ -2,9 +2,9 @@
 use Rattle.std.proofs.Common.{inl, inr, refl, sym, subst, Result, Ok, Err}
 use Rattle.ftl_answer.specs.Answer.{Answer}
 use Rattle.ftl_answer.specs.Stages.{Outcome, Stage, Then, ends, hands_on}
-use Rattle.ftl_decided.specs.Outcomes.{Ends, IsOutcome, answer_of}
-use Rattle.ftl_decided.specs.declared.decision.Undecided.{Undecided}
-use Rattle.ftl_decided.specs.declared.decision.Undecided.TheVariants.{OutOfMemory, Refused}
+use Rattle.ftl_run.specs.Outcomes.{Ends, IsOutcome, answer_of}
+use Rattle.ftl_run.specs.declared.decision.Undecided.{Undecided}
+use Rattle.ftl_run.specs.declared.decision.Undecided.TheVariants.{OutOfMemory, Refused}
 
 -- the end, at an outcome of this type
 abbrev ended : (X : Type 0) → Answer → Outcome X

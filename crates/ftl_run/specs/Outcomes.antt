@@ -2,9 +2,9 @@
 use Rattle.std.specs.Prelude.{◌≡◌, Result, Ok, Err}
 use Rattle.ftl_answer.specs.Answer.{Answer}
 use Rattle.ftl_answer.specs.Stages.{Stage, ends, hands_on}
-use Rattle.ftl_decided.specs.declared.decision.Decided.{Decided}
-use Rattle.ftl_decided.specs.declared.decision.Undecided.{Undecided}
-use Rattle.ftl_decided.specs.declared.decision.Undecided.TheVariants.{OutOfMemory, Refused}
+use Rattle.ftl_run.specs.declared.decision.Decided.{Decided}
+use Rattle.ftl_run.specs.declared.decision.Undecided.{Undecided}
+use Rattle.ftl_run.specs.declared.decision.Undecided.TheVariants.{OutOfMemory, Refused}
 
 -- the status to end with, and what is written
 abbrev pub answer_of : Decided → Answer
