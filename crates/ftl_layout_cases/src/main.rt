@@ -55,7 +55,10 @@ fn main(rt: HostRuntime) -> io::Result<()> {
     for case in text.as_str().split("=== ").skip(1) {
         let (heading, page) = case.split_once('\n').unwrap_or((case, ""));
         println!(rt; "=== {heading}")?;
-        print!(rt; "{}", answer(rt.alloc(), Case::new(rt.alloc(), heading, page)?)?)?;
+        print!(rt;
+            "{}",
+            answer(rt.alloc(), Case::new(rt.alloc(), heading, page)?)?
+        )?;
     }
     Ok(())
 }

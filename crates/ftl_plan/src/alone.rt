@@ -6,10 +6,10 @@ ghost use Rattle.ftl_items.specs.WordLaws.{HoldTheSolution};
 ghost use Rattle.ftl_solution.specs.Solution.{solution};
 ghost use Rattle.ftl_plan.specs.StageParts.{meaning_at};
 
-use ftl_base::CodeStack;
-use ftl_cells::Work;
 use crate::plan::Plan;
 use crate::work::StageWork;
+use ftl_base::CodeStack;
+use ftl_cells::Work;
 use ftl_stage_laws::words_of_stages;
 use ftl_steal::PlainFiller;
 use std::alloc::{AllocError, Global};

@@ -9,16 +9,16 @@ ghost use Rattle.ftl_plan.specs.Planned.{MayBePlanned, planned};
 ghost use Rattle.ftl_plan.specs.StageTables.{AreTablesOf, stage_in};
 ghost use Rattle.ftl_plan_limits.specs.declared.fault.PlanFault.TheVariants.{OutOfMemory};
 
+use crate::parts::StageParts;
 use crate::sound::is_sound;
 use crate::stages::rows_of_stages;
 use crate::words::node_words;
+use crate::work::StageWork;
 use ftl_checked::Checked;
 use ftl_item_cursor::ItemTables;
 use ftl_item_rows::{ItemRows, StageItems};
 use ftl_plan_limits::{PlanFault, ReadTables, first_fault};
 use ftl_programs::Programs;
-use crate::parts::StageParts;
-use crate::work::StageWork;
 use ftl_stage_rows::StageRows;
 use ftl_tree::Tree;
 use ftl_verify::Accepted;

@@ -9,6 +9,8 @@
 //! - `deep N`: the byte at which more than N brackets are open first.
 #![tactic(auto)]
 
+ghost use Rattle.std.specs.Prelude.{◌≤◌, string_len};
+
 mod cursor;
 mod requests;
 
@@ -39,7 +41,9 @@ fn with_lines(alloc: Global, text: &str) -> Result<String, AllocError> {
     Ok(lines)
 }
 
-fn narrow(alloc: Global, text: String, requests: &str) -> Result<String, AllocError> {
+fn narrow(alloc: Global, text: String, requests: &str) -> Result<String, AllocError>
+    requires short { string_len text ≤ 67108864 }
+{
     let mut out = String::new(alloc);
     match tokens(alloc, text) {
         Ok(scanned) => {
@@ -51,7 +55,9 @@ fn narrow(alloc: Global, text: String, requests: &str) -> Result<String, AllocEr
     Ok(out)
 }
 
-fn wide(alloc: Global, text: String, requests: &str) -> Result<String, AllocError> {
+fn wide(alloc: Global, text: String, requests: &str) -> Result<String, AllocError>
+    requires short { string_len text ≤ 67108864 }
+{
     let mut out = String::new(alloc);
     match document_tokens(alloc, text, 140737488355327) {
         Ok(scanned) => {

@@ -1,8 +1,9 @@
 -- The words of the solution are those of values that solve.
-use Rattle.std.proofs.Common.{◌≡◌, ◌<◌, subst, ℕ, List, length}
+use Rattle.std.proofs.Common.{◌≡◌, ◌<◌, sym, subst, ℕ, List, length, Result, Ok, Err, IfOk}
 use Rattle.ftl_dep_table.specs.Meant.{meant}
 use Rattle.ftl_items.specs.WordLaws.{HoldTheSolution}
-use Rattle.ftl_model.specs.Table.{instance_count}
+use Rattle.ftl_grammar_faults.specs.Checked.{CheckedGrammar}
+use Rattle.ftl_model.specs.Tree.{Forest}
 use Rattle.ftl_order.specs.GrammarLaws.{OfLawful, TablesAreInRange}
 use Rattle.ftl_order.specs.OneTable.{ReadsEndByRank}
 use Rattle.ftl_order.specs.OrderLaws.{UnderOrderedSchedules}
@@ -13,10 +14,10 @@ use Rattle.ftl_stage_laws.proofs.InRange.{in_range}
 use Rattle.ftl_tree.specs.CheckedTree.{CheckedTree}
 use Rattle.ftl_run.specs.ShownTables.{IsSolvedBy}
 
-pub solved_by : (t : CheckedTree) (s : Schedule) → CanBePlanned (meant t.checked) s t.tree
+solved_here : (t : CheckedTree) (s : Schedule) → CanBePlanned (meant t.checked) s t.tree
     → UnderOrderedSchedules SolutionSolves → OfLawful TablesAreInRange → ReadsEndByRank
     → (words : List ℕ) → HoldTheSolution (solution (meant t.checked) t.tree) words → IsSolvedBy t words
-solved_by t s can solves ranges ends words held =
+solved_here t s can solves ranges ends words held =
     let g = meant t.checked in
     let only = solves g s t.tree can.law can.ordered can.is_tree in
     record {
@@ -27,3 +28,20 @@ solved_by t s can solves ranges ends words held =
           (subst (λ n. i < n) only.solves.count below);
       held = held;
     }
+
+-- the same of a plan's grammar and tree, which are these
+pub solved_by : (t : CheckedTree) (k : CheckedGrammar) (f : Forest) (s : Schedule) → t.checked ≡ k → t.tree ≡ f
+    → CanBePlanned (meant k) s f → UnderOrderedSchedules SolutionSolves → OfLawful TablesAreInRange → ReadsEndByRank
+    → (words : List ℕ) → HoldTheSolution (solution (meant k) f) words → IsSolvedBy t words
+solved_by t k f s same_grammar same_tree can solves ranges ends words held =
+    solved_here t s
+    (subst (λ (c : CheckedGrammar). CanBePlanned (meant c) s t.tree) (sym same_grammar)
+    (subst (λ (x : Forest). CanBePlanned (meant k) s x) (sym same_tree) can))
+    solves ranges ends words
+    (subst (λ (c : CheckedGrammar). HoldTheSolution (solution (meant c) t.tree) words) (sym same_grammar)
+    (subst (λ (x : Forest). HoldTheSolution (solution (meant k) x) words) (sym same_tree) held))
+
+-- what holds of a value where the call succeeds
+pub if_ok : {X E : Type 0} {P Q : X → Type 0} (r : Result X E) → ((x : X) → P x → Q x) → IfOk r P → IfOk r Q
+if_ok (Ok x) each holds = each x holds
+if_ok (Err e) each holds = tt

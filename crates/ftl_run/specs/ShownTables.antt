@@ -3,11 +3,15 @@ use Rattle.std.specs.Prelude.{ℕ, ◌<◌, List, length, slice_index_or}
 use Rattle.ftl_grammar_faults.specs.Checked.{CheckedGrammar}
 use Rattle.ftl_dep_table.specs.Meant.{meant}
 use Rattle.ftl_items.specs.WordLaws.{HoldTheSolution}
+use Rattle.ftl_meaning.specs.GrammarOf.{names_of}
+use Rattle.ftl_model.specs.Boxes.{boxes}
+use Rattle.ftl_model.specs.Solves.{Instance}
 use Rattle.ftl_model.specs.Table.{SolvesList}
 use Rattle.ftl_model.specs.Tree.{Forest}
 use Rattle.ftl_model.specs.Values.{IsValue, Value, overflow}
 use Rattle.ftl_tree.specs.CheckedTree.{CheckedTree}
 use Rattle.ftl_answer.specs.Answers.{boxes_of, summary_of}
+use Rattle.ftl_answer.specs.Summary.{summary}
 use Rattle.ftl_run.specs.declared.shown.Shown.{Shown}
 use Rattle.ftl_run.specs.declared.shown.Shown.TheVariants as shown
 
@@ -15,6 +19,11 @@ use Rattle.ftl_run.specs.declared.shown.Shown.TheVariants as shown
 abbrev pub text_shown : Shown → CheckedGrammar → Forest → List Value → List ℕ
 text_shown shown.Boxes = boxes_of
 text_shown (shown.Summary name) = summary_of name
+
+-- the text of a tree by the values of its instances
+abbrev pub text_by : Shown → CheckedTree → (Instance → Value) → List ℕ
+text_by shown.Boxes t s = boxes (names_of t.checked.grammar) t.tree s
+text_by (shown.Summary name) t s = summary name (meant t.checked) (names_of t.checked.grammar) t.tree s
 
 -- the words are those of values that solve the tree
 pub record IsSolvedBy (t : CheckedTree) (words : List ℕ) : Type 0 where

@@ -5,11 +5,11 @@ ghost use Rattle.ftl_answer.specs.Answers.{obeyed};
 ghost use Rattle.ftl_answer.specs.Stages.{ends};
 ghost use Rattle.ftl_run.specs.Outcomes.{answer_of};
 
-use crate::obey::Obey;
-use ftl_commands::Command;
 use crate::decision::Decided;
+use crate::obey::Obey;
 use crate::rules_commands::{obey_check, obey_schedule};
 use crate::solving_commands::{obey_run, obey_sample};
+use ftl_commands::Command;
 use std::alloc::{AllocError, Global};
 
 /// Obeys commands on the calling thread, whatever the number of workers.

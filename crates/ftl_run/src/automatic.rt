@@ -12,9 +12,9 @@ ghost use Rattle.ftl_schedule_faults.specs.FaultLaws.{AreComputed};
 ghost use Rattle.ftl_run.specs.Small.{IsSmall};
 ghost use Rattle.ftl_stages.specs.Stages.{stages_of};
 
-use ftl_checked::Checked;
 use crate::decision::{Undecided, refused};
 use crate::status::Status;
+use ftl_checked::Checked;
 use ftl_dep_table::dep_table;
 use ftl_lawful::faultless_grammars_are_small;
 use ftl_refusals::write_stuck;

@@ -13,12 +13,12 @@ ghost use Rattle.ftl_refusals.specs.TextLines.{syntax_line};
 ghost use Rattle.ftl_run.specs.Outcomes.{Ends, IsOutcome};
 ghost use Rattle.ftl_run.specs.Telling.{Tells};
 
-use ftl_base::Width;
-use ftl_checked::{Checked, check_grammar};
-use ftl_counts::small_counts;
 use crate::decision::{Undecided, refused};
 use crate::read::section_tokens;
 use crate::status::Status;
+use ftl_base::Width;
+use ftl_checked::{Checked, check_grammar};
+use ftl_counts::small_counts;
 use ftl_grammar::{SyntaxFault, read_grammar};
 use ftl_grammar_faults::GrammarFault;
 use ftl_page::{Section, Text};

@@ -13,10 +13,10 @@ ghost use Rattle.ftl_run.specs.Headline.{IsAnswered, bytes_answered, reads_page,
 ghost use Rattle.ftl_run.specs.Headline.{words_read};
 ghost use Rattle.ftl_run.specs.declared.decide.Undone.TheVariants.{OutOfMemory};
 
-use crate::obey::Obey;
-use ftl_commands::{Command, CommandFault, read_command};
 use crate::decision::Decided;
+use crate::obey::Obey;
 use crate::status::Status;
+use ftl_commands::{Command, CommandFault, read_command};
 use ftl_edge::{ReadAllFault, Source, read_all};
 use std::alloc::{AllocError, Global};
 

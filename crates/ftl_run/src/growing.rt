@@ -14,12 +14,12 @@ ghost use Rattle.ftl_plan_limits.specs.PlanFaults.{first_fault};
 ghost use Rattle.ftl_refusals.specs.DocumentLines.{document_line};
 ghost use Rattle.ftl_stages.specs.Stages.{stages_of};
 
-use crate::limits::within_limits;
-use ftl_base::Width;
-use ftl_checked::Checked;
 use crate::decision::{Undecided, refused};
+use crate::limits::within_limits;
 use crate::read::tokens_refused;
 use crate::status::Status;
+use ftl_base::Width;
+use ftl_checked::Checked;
 use ftl_document::read_document;
 use ftl_document_faults::DocFault;
 use ftl_page::Section;

@@ -7,8 +7,8 @@ ghost use Rattle.ftl_commands.specs.Commands.{command_of};
 ghost use Rattle.ftl_edge.specs.Counts.{Rose, source_counts};
 
 use crate::alone::Alone;
-use crate::write::write_answer;
 use crate::status::Status;
+use crate::write::write_answer;
 use ftl_edge::{Sink, Source};
 use std::alloc::Global;
 

@@ -25,6 +25,6 @@ mod status;
 mod write;
 mod written;
 
-pub use status::Status;
 pub use laws::{answers_have_statuses, bytes_do_not_matter, one_table};
 pub use layout::layout_alone;
+pub use status::Status;

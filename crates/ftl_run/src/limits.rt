@@ -10,9 +10,9 @@ ghost use Rattle.ftl_plan_limits.specs.PlanFaults.{first_fault};
 ghost use Rattle.ftl_refusals.specs.PlanLines.{plan_line};
 ghost use Rattle.ftl_stages.specs.Stages.{stages_of};
 
-use ftl_checked::Checked;
 use crate::decision::{Undecided, refused};
 use crate::status::Status;
+use ftl_checked::Checked;
 use ftl_lawful::{faultless_grammars_are_lawful, faultless_grammars_are_small};
 use ftl_plan_limits::{PlanFault, ReadTables, first_fault};
 use ftl_refusals::write_plan_fault;

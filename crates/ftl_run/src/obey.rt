@@ -5,8 +5,8 @@ ghost use Rattle.ftl_answer.specs.Answers.{obeyed};
 ghost use Rattle.ftl_answer.specs.Stages.{ends};
 ghost use Rattle.ftl_run.specs.Outcomes.{answer_of};
 
-use ftl_commands::Command;
 use crate::decision::Decided;
+use ftl_commands::Command;
 use std::alloc::{AllocError, Global};
 
 /// What obeys commands, on one thread or on several.

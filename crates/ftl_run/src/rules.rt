@@ -11,14 +11,14 @@ ghost use Rattle.ftl_stages.specs.Stages.{stages_of};
 ghost use Rattle.ftl_run.specs.Outcomes.{answer_of};
 ghost use Rattle.ftl_run.specs.Asked.{EndsIn, text_asked, told, told_of_page};
 
-use ftl_checked::Checked;
+use crate::checking::grammar_of;
 use crate::decision::{Decided, Undecided};
 use crate::read::read_page;
+use crate::scheduling::schedule_of;
 use crate::status::Status;
+use ftl_checked::Checked;
 use ftl_page::{Need, Page, Text};
 use ftl_schedule::{Schedule, known_entries, print_schedule};
-use crate::scheduling::schedule_of;
-use crate::checking::grammar_of;
 use std::alloc::{AllocError, Global};
 
 /// What is asked of a grammar and a schedule.

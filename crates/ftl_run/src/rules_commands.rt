@@ -6,8 +6,8 @@ ghost use Rattle.ftl_answer.specs.Stages.{ends};
 ghost use Rattle.ftl_commands.specs.declared.command.Command.TheVariants as command;
 ghost use Rattle.ftl_run.specs.Outcomes.{answer_of};
 
-use crate::rules::{Asked, decided};
 use crate::decision::Decided;
+use crate::rules::{Asked, decided};
 use std::alloc::{AllocError, Global};
 
 /// Whether the grammar and the schedule of a page are accepted.

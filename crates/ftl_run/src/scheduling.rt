@@ -10,9 +10,9 @@ ghost use Rattle.ftl_run.specs.Small.{IsSmall};
 ghost use Rattle.ftl_stages.specs.Stages.{stages_of};
 
 use crate::automatic::automatic_schedule;
+use crate::decision::Undecided;
 use crate::written::written_schedule;
 use ftl_checked::Checked;
-use crate::decision::Undecided;
 use ftl_page::Text;
 use ftl_schedule::Accepted;
 use std::alloc::Global;

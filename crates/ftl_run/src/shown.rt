@@ -1,14 +1,17 @@
 //! What is shown of a table.
 
-ghost use Rattle.std.specs.Prelude.{◌≡◌, IfOk, if◌then◌else◌};
+ghost use Rattle.std.specs.Prelude.{◌≡◌, length, IfOk, if◌then◌else◌};
 ghost use Rattle.ftl_answer.specs.Answers.{shown_by};
 ghost use Rattle.ftl_answer.specs.Stages.{ends};
+ghost use Rattle.ftl_box_text.specs.WordValues.{table_of_words};
+ghost use Rattle.ftl_dep_table.specs.Meant.{meant};
+ghost use Rattle.ftl_model.specs.Table.{instance_count};
 ghost use Rattle.ftl_run.specs.Outcomes.{answer_of};
-ghost use Rattle.ftl_run.specs.ShownTables.{IsSolvedBy, text_shown};
+ghost use Rattle.ftl_run.specs.ShownTables.{IsSolvedBy, text_by, text_shown};
 
-use ftl_box_text::{print_boxes, shows_overflow, words_are_undone};
 use crate::decision::Decided;
 use crate::status::Status;
+use ftl_box_text::{print_boxes, shows_overflow, words_are_undone};
 use ftl_summary_text::print_summary;
 use ftl_tokens::Name;
 use ftl_tree::Tree;
@@ -36,11 +39,25 @@ pub(crate) fn table_shown(
 {
     words_are_undone();
     let status = status_by(shows_overflow(alloc, tree, words)?);
-    let text = match shown {
-        Shown::Boxes => print_boxes(alloc, tree, words)?,
-        Shown::Summary(name) => print_summary(alloc, name.text().as_bytes(), tree, words)?,
-    };
+    let text = text_of(alloc, shown, tree, words)?;
     Ok(Decided { status, text })
+}
+
+/// The text of the table of these words.
+fn text_of(
+    alloc: Global,
+    shown: &Shown,
+    tree: &Tree<'_>,
+    words: &[u64],
+) -> Result<Vec<u8>, AllocError>
+    requires words { length words.now ≡ instance_count (meant tree.now.checked) tree.now.tree }
+    ensures text { IfOk result (λ v. v.items
+        ≡ text_by shown.now tree.now (table_of_words tree.now words.now)) }
+{
+    match shown {
+        Shown::Boxes => print_boxes(alloc, tree, words),
+        Shown::Summary(name) => print_summary(alloc, name.text().as_bytes(), tree, words),
+    }
 }
 
 /// The status of a table that was shown.

@@ -18,18 +18,18 @@ ghost use Rattle.ftl_stages.specs.Stages.{stages_of};
 ghost use Rattle.ftl_run.specs.ShownTables.{IsSolvedBy, text_shown};
 ghost use Rattle.ftl_run.specs.SolvedPages.{told_of_grammar, told_of_page, told_of_schedule};
 
-use crate::shown::{Shown, table_shown};
-use ftl_checked::Checked;
+use crate::checking::grammar_of;
 use crate::decision::{Decided, Undecided};
+use crate::growing::tree_of;
 use crate::read::read_page;
+use crate::scheduling::schedule_of;
+use crate::shown::{Shown, table_shown};
 use crate::status::Status;
+use ftl_checked::Checked;
 use ftl_order::{reads_end_by_rank, values_are_in_range};
 use ftl_page::{Need, Page, Text};
 use ftl_plan::{Plan, PlanFault, solve_alone};
-use crate::scheduling::schedule_of;
 use ftl_solution::solution_solves;
-use crate::checking::grammar_of;
-use crate::growing::tree_of;
 use ftl_tree::Tree;
 use ftl_verify::Accepted;
 use ftl_visit::compile;
@@ -91,12 +91,7 @@ fn page_of(alloc: Global, bytes: Vec<u8>) -> Result<Page, Undecided>
     read_page(alloc, bytes.as_slice(), WHOLE_PAGE)
 }
 
-fn told_of_page(
-    alloc: Global,
-    shown: &Shown,
-    grain: u32,
-    page: Page,
-) -> Result<Decided, Undecided>
+fn told_of_page(alloc: Global, shown: &Shown, grain: u32, page: Page) -> Result<Decided, Undecided>
     requires short { HasTextsUpTo 67108864 page }
     ensures outcome { EndsIn (told_of_page shown.now page) result }
 {
@@ -118,7 +113,9 @@ fn told_of_page(
 
 /// The text of a section; empty where there is none.
 fn text_of(alloc: Global, text: Option<Text>) -> String
+    requires short { IfSome text (λ t. length t ≤ 67108864) }
     ensures text { string_bytes result ≡ text_or_none text }
+    ensures short { string_len result ≤ 67108864 }
 {
     match text {
         Some(text) => text.into_string(),
@@ -202,11 +199,25 @@ fn words_of(
     ensures solved { IfOk result (λ v. IsSolvedBy tree.now v.items) }
 {
     let programs = compile(alloc, checked)?;
-    let grain = grain.clamp(1, 1_048_576);
+    let grain = grain_in_range(grain);
     match Plan::new(alloc, checked, accepted, &programs, tree, grain) {
         Ok(plan) => solved_words(alloc, &plan, tree),
         Err(PlanFault::OutOfMemory) => Err(AllocError),
         Err(_) => unreachable!(),
+    }
+}
+
+/// The grain, or the nearest one that a plan may have.
+fn grain_in_range(grain: u32) -> u32
+    ensures some { 1 ≤ result }
+    ensures most { result ≤ 1048576 }
+{
+    if grain == 0 {
+        1
+    } else if grain > 1_048_576 {
+        1_048_576
+    } else {
+        grain
     }
 }
 

@@ -6,11 +6,11 @@ ghost use Rattle.ftl_answer.specs.Stages.{ends};
 ghost use Rattle.ftl_commands.specs.declared.command.Command.TheVariants as command;
 ghost use Rattle.ftl_run.specs.Outcomes.{answer_of};
 
+use crate::decision::Decided;
 use crate::shown::Shown;
 use crate::solving::{bad_sample, solved};
 use ftl_boxes::{SampleFault, sample_page};
 use ftl_commands::Solving;
-use crate::decision::Decided;
 use ftl_tokens::Name;
 use std::alloc::{AllocError, Global};
 
@@ -32,7 +32,12 @@ pub fn obey_sample(
         (λ d. obeyed (command.Sample pieces grammar how) bytes (ends (answer_of d))) }
 {
     match sample_page(alloc, pieces, grammar.text()) {
-        Ok(text) => solved(alloc, &Shown::Summary(grammar), how.grain, text.into_bytes()),
+        Ok(text) => solved(
+            alloc,
+            &Shown::Summary(grammar),
+            how.grain,
+            text.into_bytes(),
+        ),
         Err(SampleFault::OutOfMemory) => Err(AllocError),
         Err(_) => bad_sample(alloc),
     }

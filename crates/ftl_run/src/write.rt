@@ -9,8 +9,8 @@ ghost use Rattle.ftl_run.specs.Headline.{ReadsInput, bytes_answered, texts, word
 use crate::decide::{Undone, decide};
 use crate::laws::{answers_have_statuses, one_table};
 use crate::obey::Obey;
-use ftl_answer::one_answer;
 use crate::status::Status;
+use ftl_answer::one_answer;
 use ftl_edge::{Sink, Source, write_whole};
 use std::alloc::Global;
 

@@ -17,10 +17,10 @@ ghost use Rattle.ftl_schedule_reading.specs.Read.{Answers};
 ghost use Rattle.ftl_schedule_names.specs.declared.fault.ScheduleFault.TheVariants as faults;
 ghost use Rattle.ftl_stages.specs.Stages.{stages_of};
 
-use ftl_checked::Checked;
 use crate::decision::{Undecided, refused};
 use crate::read::section_tokens;
 use crate::status::Status;
+use ftl_checked::Checked;
 use ftl_dep_table::dep_table;
 use ftl_lawful::faultless_grammars_are_lawful;
 use ftl_page::Section;
