@@ -28,7 +28,7 @@ impl Case {
             "source" => case.failing_reads.push(u64::from(count))?,
             "sink" => case.failing_writes.push(u64::from(count))?,
             "spaces" => case.page = bytes(alloc, b' ', count)?,
-            "byte" => case.page = bytes(alloc, count as u8, 1)?,
+            "byte" => case.page = bytes(alloc, number.parse::<u8>().unwrap_or(0), 1)?,
             _ => {
                 case.words = words_of(alloc, heading)?;
                 return Ok(case);
