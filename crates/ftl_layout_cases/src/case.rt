@@ -17,7 +17,7 @@ impl Case {
     pub(crate) fn new(alloc: Global, heading: &str, page: &str) -> Result<Case, AllocError> {
         let mut case = Case {
             words: Vec::new(alloc),
-            page: Vec::from_slice(alloc, page.as_bytes())?,
+            page: page_of(alloc, page)?,
             failing_reads: Vec::new(alloc),
             failing_writes: Vec::new(alloc),
         };
@@ -36,6 +36,35 @@ impl Case {
         }
         case.words = words_of(alloc, words)?;
         Ok(case)
+    }
+}
+
+/// The page, where a line that begins with `*` and a number stands there so many times.
+fn page_of(alloc: Global, page: &str) -> Result<Vec<u8>, AllocError> {
+    let mut bytes = Vec::new(alloc);
+    for line in page.lines() {
+        add_line(&mut bytes, line)?;
+    }
+    Ok(bytes)
+}
+
+fn add_line(bytes: &mut Vec<u8>, line: &str) -> Result<(), AllocError> {
+    let (count, text) = repeated(line);
+    for _ in 0..count {
+        bytes.extend_from_slice(text.as_bytes())?;
+        bytes.push(b'\n')?;
+    }
+    Ok(())
+}
+
+/// How many times a line stands there, and its text.
+fn repeated(line: &str) -> (u32, &str) {
+    match line.strip_prefix('*') {
+        Some(rest) => {
+            let (count, text) = rest.split_once(' ').unwrap_or((rest, ""));
+            (count.parse::<u32>().unwrap_or(0), text)
+        }
+        None => (1, line),
     }
 }
 
