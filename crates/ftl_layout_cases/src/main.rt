@@ -1,9 +1,9 @@
-//! Prints what the program answers on one thread to words and pages in memory. Each case on standard
-//! input begins by a line with `===` and the words, below which stands the page. Before the words
-//! may stand `sink N` or `source N`, where that call of the sink or the source fails, `spaces N`,
-//! where the page is so many spaces, or `byte N`, where it is that byte. A line of a page that begins
-//! with `*N` and a space stands there N times. Printed is the line, the text that was written, and the
-//! status.
+//! Prints what the program answers on one thread to words and pages in memory. Each case on
+//! standard input begins by a line with `===` and the words, below which stands the page. Before
+//! the words may stand `sink N` or `source N`, where that call of the sink or the source fails,
+//! `spaces N`, where the page is so many spaces, or `byte N`, where it is that byte. A line of a
+//! page that begins with `*N` and a space stands there N times. Printed is the line, the text
+//! that was written, and the status.
 #![tactic(auto)]
 
 mod case;
