@@ -1,5 +1,5 @@
 -- What is promised of a call that writes the answer to its words and to the bytes that its source had left.
-use Rattle.std.specs.Prelude.{◌≡◌, ◌≢◌, ℕ, ◌+◌, ◌≤◌, ◌⊎◌, Bool, true, false, List, [], Option, None, Some, map, String, Ok}
+use Rattle.std.specs.Prelude.{◌≡◌, ◌≢◌, ℕ, ◌+◌, ◌≤◌, ◌⊎◌, Bool, true, false, List, [], Option, None, Some, map, String, Ok, IfSome}
 use Rattle.std.specs.Io.KnownBytes.{Appends}
 use Rattle.std.specs.String.{string_bytes}
 use Rattle.ftl_boxes.specs.SamplePage.{sample_page_of}
@@ -49,10 +49,18 @@ bytes_answered false told = Some []
 
 -- ---- the answer
 
--- there is an answer to the words and to these bytes, of which this holds; where they are not known, nothing is said
-abbrev pub OfTheAnswer : (words : List (List ℕ)) → Option (List ℕ) → (Answer → Type 0) → Type 0
-OfTheAnswer words None P = Unit {0}
-OfTheAnswer words (Some bytes) P = (a : Answer) × IsAnswer words bytes a × P a
+-- the bytes are those that are told, where any are
+abbrev pub AreTold : (told : Option (List ℕ)) → (bytes : List ℕ) → Type 0
+AreTold None bytes = Unit {0}
+AreTold (Some known) bytes = bytes ≡ known
+
+-- this holds of the bytes that are told; where none are, there are bytes of which it holds
+abbrev pub OfTheBytes : (told : Option (List ℕ)) → (List ℕ → Type 0) → Type 0
+OfTheBytes told P = (bytes : List ℕ) × AreTold told bytes × P bytes
+
+-- there is an answer to the words and to the bytes, of which this holds
+abbrev pub OfTheAnswer : (words : List (List ℕ)) → (told : Option (List ℕ)) → (Answer → Type 0) → Type 0
+OfTheAnswer words told P = OfTheBytes told (λ bytes. (a : Answer) × IsAnswer words bytes a × P a)
 
 -- a write fault, a read fault or want of memory
 abbrev pub IsTrouble : (status : ℕ) → Type 0
@@ -67,14 +75,15 @@ pub record IsAnswered (status : ℕ) : Type 0 where
 -- What is told of an answer, by the status that the call ends with, what was written before and after, and what is left
 -- of the source: the status is the answer's, or tells of trouble, and where no count of faults rose, of no other trouble
 -- than want of memory. With the answer's status its whole text was appended, and with a write fault a front of it. A
--- source that is read is read to its end, unless the page is too long, a read failed or memory ran out.
-pub record IsTold (s : ℕ) (written after : Option (List ℕ)) (reads : Bool) (left : Option (List ℕ))
+-- source that is read, and tells what it has left, is read to its end, unless the page is too long, a read failed or
+-- memory ran out.
+pub record IsTold (s : ℕ) (written after : Option (List ℕ)) (reads : Bool) (told left : Option (List ℕ))
     (write_rose read_rose : Type 0) (a : Answer) : Type 0 where
   pub status : (s ≡ a.status) ⊎ IsTrouble s
   pub no_excuse : (write_rose → ⊥) → (read_rose → ⊥) → (s ≡ a.status) ⊎ (s ≡ 9)
   pub text : s ≡ a.status → Appends written after a.text
   pub front : s ≡ 1 → AppendsFront written after a.text
-  pub to_its_end : reads ≡ true → s ≢ 3 → s ≢ 9 → a ≢ refused 4 too_long_line → left ≡ Some []
+  pub to_its_end : reads ≡ true → s ≢ 3 → s ≢ 9 → a ≢ refused 4 too_long_line → IfSome told (λ _. left ≡ Some [])
 
 -- ---- faults
 

@@ -9,7 +9,7 @@ ghost use Rattle.ftl_commands.specs.Commands.{command_of};
 ghost use Rattle.ftl_run.specs.Outcomes.{answer_of};
 ghost use Rattle.ftl_edge.specs.Counts.{Rose};
 ghost use Rattle.ftl_refusals.specs.PageLines.{too_long_line, words_line};
-ghost use Rattle.ftl_run.specs.Headline.{IsAnswered, bytes_answered, reads_page, texts};
+ghost use Rattle.ftl_run.specs.Headline.{IsAnswered, OfTheBytes, bytes_answered, reads_page, texts};
 ghost use Rattle.ftl_run.specs.Headline.{words_read};
 ghost use Rattle.ftl_run.specs.declared.decide.Undone.TheVariants.{OutOfMemory};
 
@@ -66,8 +66,8 @@ fn of_page<O: Obey, S: Source>(
     source: &mut S,
 ) -> Result<Decided, Undone>
     requires reads { reads_page command ≡ true }
-    ensures answer { IfOk result (λ d. IfSome (S.remaining source.old)
-        (λ left. obeyed command left (ends (answer_of d)))) }
+    ensures answer { IfOk result (λ d. OfTheBytes (S.remaining source.old)
+        (λ bytes. obeyed command bytes (ends (answer_of d)))) }
     ensures status { IfOk result (λ d. IsAnswered d.status.0) }
     ensures end { IfOk result (λ d. answer_of d ≢ answer.refused 4 too_long_line
         → IfSome (S.remaining source.old) (λ _. S.remaining source.new ≡ Some [])) }
@@ -96,7 +96,7 @@ fn of_command<O: Obey, S: Source>(
     source: &mut S,
 ) -> Result<Decided, Undone>
     ensures answer { IfOk result
-        (λ d. IfSome (bytes_answered (reads_page command) (S.remaining source.old))
+        (λ d. OfTheBytes (bytes_answered (reads_page command) (S.remaining source.old))
         (λ bytes. obeyed command bytes (ends (answer_of d)))) }
     ensures status { IfOk result (λ d. IsAnswered d.status.0) }
     ensures end { reads_page command ≡ true
@@ -124,7 +124,7 @@ pub(crate) fn decide<O: Obey, S: Source>(
     source: &mut S,
 ) -> Result<Decided, Undone>
     ensures answer { IfOk result
-        (λ d. IfSome (bytes_answered (words_read (texts words.now)) (S.remaining source.old))
+        (λ d. OfTheBytes (bytes_answered (words_read (texts words.now)) (S.remaining source.old))
         (λ bytes. IsAnswer (texts words.now) bytes (answer_of d))) }
     ensures status { IfOk result (λ d. IsAnswered d.status.0) }
     ensures end { words_read (texts words.now) ≡ true

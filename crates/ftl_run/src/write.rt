@@ -27,7 +27,7 @@ pub fn write_answer<O: Obey, S: Source, K: Sink>(
     ensures answer { OfTheAnswer (texts words.now)
         (bytes_answered (words_read (texts words.now)) (S.remaining source.old))
         (IsTold result.0 (K.written sink.old) (K.written sink.new)
-        (words_read (texts words.now)) (S.remaining source.new)
+        (words_read (texts words.now)) (S.remaining source.old) (S.remaining source.new)
         (Rose (K.fault_count sink.old) (K.fault_count sink.new))
         (Rose (S.fault_count source.old) (S.fault_count source.new))) }
 

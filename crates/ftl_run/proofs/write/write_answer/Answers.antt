@@ -4,7 +4,7 @@ use Rattle.ftl_edge.specs.Counts.{source_counts}
 use Rattle.ftl_edge.specs.Sink.{AppendsFront}
 use Rattle.ftl_run.specs.Outcomes.{answer_of}
 use Rattle.ftl_run.specs.Headline.{bytes_answered, texts, words_read}
-use Rattle.ftl_run.proofs.ToldAnswers.{at_its_end, memory_ran_out, of_any, of_decided, read_failed}
+use Rattle.ftl_run.proofs.ToldAnswers.{memory_ran_out, of_any, of_decided, read_failed}
 use Rattle.ftl_run.proofs.write.write_answer.Goals as goal
 
 pub returns-in-Ok-write_whole-clause-answer : goal.returns-in-Ok-write_whole-clause-answer
@@ -13,7 +13,7 @@ returns-in-Ok-write_whole-clause-answer g c =
     let old = g.S.Source.remaining c.args.source.now in
     let fine = c.in-Ok.ensures.status in
     of_decided words (bytes_answered (words_read words) old) (answer_of c.in-Ok.decided) _ c.in-Ok.ensures.answer
-    (λ bytes known is. record {
+    (record {
       status = inl refl;
       no_excuse = λ no_write no_read. inl refl;
       text =
@@ -22,9 +22,7 @@ returns-in-Ok-write_whole-clause-answer g c =
           c.deref.ensures.value c.in-Ok-write_whole.ensures.whole;
       front = λ e. absurd (fine.no_write_fault e);
       to_its_end =
-          λ reads no_fault no_want other.
-          at_its_end (words_read words) old (g.S.Source.remaining c.decide.new.source) bytes known reads
-          (c.in-Ok.ensures.end reads other);
+          λ reads no_fault no_want other. c.in-Ok.ensures.end reads other;
     })
 
 pub returns-in-Ok-write_whole-clause-faults : goal.returns-in-Ok-write_whole-clause-faults
@@ -56,7 +54,7 @@ returns-in-Ok-clause-answer g c =
     let old = g.S.Source.remaining c.args.source.now in
     let fine = c.in-Ok.ensures.status in
     of_decided words (bytes_answered (words_read words) old) (answer_of c.in-Ok.decided) _ c.in-Ok.ensures.answer
-    (λ bytes known is. record {
+    (record {
       status = inr (inl refl);
       no_excuse = λ no_write no_read. absurd (no_write c.in-Err.ensures.cause);
       text = λ e. absurd (fine.no_write_fault (sym e));
@@ -65,9 +63,7 @@ returns-in-Ok-clause-answer g c =
           subst (λ (text : List ℕ). AppendsFront (g.K.Sink.written c.args.sink.now) (g.K.Sink.written c.write_whole.new.sink) text)
           c.deref.ensures.value c.in-Err.ensures.front;
       to_its_end =
-          λ reads no_fault no_want other.
-          at_its_end (words_read words) old (g.S.Source.remaining c.decide.new.source) bytes known reads
-          (c.in-Ok.ensures.end reads other);
+          λ reads no_fault no_want other. c.in-Ok.ensures.end reads other;
     })
 
 pub returns-in-Err-ReadFault-clause-answer : goal.returns-in-Err-ReadFault-clause-answer
@@ -75,11 +71,11 @@ returns-in-Err-ReadFault-clause-answer g c =
     let words = texts c.args.words.now in
     of_any words (bytes_answered (words_read words) (g.S.Source.remaining c.args.source.now)) _ c.one_answer.ensures.one
     (λ bytes a is.
-    read_failed _ _ _ _ _ _ a (c.answers_have_statuses.ensures.status words bytes a is)
+    read_failed _ _ _ _ _ _ _ a (c.answers_have_statuses.ensures.status words bytes a is)
     (c.in-Err-ReadFault.ensures.fault (ap Err c.in-Err-ReadFault.field-0-is)))
 
 pub returns-clause-answer : goal.returns-clause-answer
 returns-clause-answer g c =
     let words = texts c.args.words.now in
     of_any words (bytes_answered (words_read words) (g.S.Source.remaining c.args.source.now)) _ c.one_answer.ensures.one
-    (λ bytes a is. memory_ran_out _ _ _ _ _ _ a (c.answers_have_statuses.ensures.status words bytes a is))
+    (λ bytes a is. memory_ran_out _ _ _ _ _ _ _ a (c.answers_have_statuses.ensures.status words bytes a is))
