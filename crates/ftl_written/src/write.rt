@@ -2,7 +2,8 @@
 
 ghost use Rattle.std.specs.Prelude.{◌≡◌, ◌++◌, option_copied, string_bytes, OnOk};
 ghost use Rattle.ftl_tokens.specs.Tokenized as said;
-ghost use Rattle.ftl_written.specs.Written.{fixed_text, mark_text, word_text, written, written_bytes};
+ghost use Rattle.ftl_written.specs.Written.{fixed_text, mark_text, word_text};
+ghost use Rattle.ftl_written.specs.Written.{written, written_bytes};
 
 use ftl_tokens::{Kind, Name};
 use itoa::Buffer;
