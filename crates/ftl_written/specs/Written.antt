@@ -1,10 +1,10 @@
 -- Texts by the tokens that are written: what each says, and the white space behind it.
-use Rattle.std.specs.Prelude.{◌≡◌, ℕ, ◌≤◌, true, List, [], ◌∷◌, ◌++◌, map, codes, flat_map, Some, None, Ok}
+use Rattle.std.specs.Prelude.{◌≡◌, ℕ, ◌≤◌, true, List, [], ◌∷◌, ◌++◌, map, codes, flat_map, Option, Some, None, Ok, unwrap_or}
 use Rattle.std.specs.Fmt.{decimal}
 use Rattle.std.specs.List.{list_all}
 use Rattle.std.specs.Str.{chars, IsUtf8}
 use Rattle.ftl_tokens.specs.declared.kind.Kind.{Kind}
-use Rattle.ftl_tokens.specs.declared.kind.Kind.TheVariants.{Name, Number, Root, Interface, Class, Inh, Syn, Input}
+use Rattle.ftl_tokens.specs.declared.kind.Kind.TheVariants.{Name, Root, Interface, Class, Inh, Syn, Input}
 use Rattle.ftl_tokens.specs.declared.kind.Kind.TheVariants.{Local, Show, SelfWord, This, Prev, Last, First, Then}
 use Rattle.ftl_tokens.specs.declared.kind.Kind.TheVariants.{Fold, From, With, Acc, If, Else, Or, Min, Max}
 use Rattle.ftl_tokens.specs.declared.kind.Kind.TheVariants.{LeftBrace, RightBrace, LeftParen, RightParen}
@@ -26,58 +26,65 @@ pub record Written : Type 0 where
 abbrev pub written : Symbol → List ℕ → Written
 written says gap = record { says = says; gap = gap }
 
+-- how a reserved word is written
+abbrev pub word_text : Kind → Option (List ℕ)
+word_text Root = Some (codes "root")
+word_text Interface = Some (codes "interface")
+word_text Class = Some (codes "class")
+word_text Inh = Some (codes "inh")
+word_text Syn = Some (codes "syn")
+word_text Input = Some (codes "input")
+word_text Local = Some (codes "local")
+word_text Show = Some (codes "show")
+word_text SelfWord = Some (codes "self")
+word_text This = Some (codes "this")
+word_text Prev = Some (codes "prev")
+word_text Last = Some (codes "last")
+word_text First = Some (codes "first")
+word_text Then = Some (codes "then")
+word_text Fold = Some (codes "fold")
+word_text From = Some (codes "from")
+word_text With = Some (codes "with")
+word_text Acc = Some (codes "acc")
+word_text If = Some (codes "if")
+word_text Else = Some (codes "else")
+word_text Or = Some (codes "or")
+word_text Min = Some (codes "min")
+word_text Max = Some (codes "max")
+word_text _ = None
+
+-- how a mark is written
+abbrev pub mark_text : Kind → List ℕ
+mark_text LeftBrace = codes "{"
+mark_text RightBrace = codes "}"
+mark_text LeftParen = codes "("
+mark_text RightParen = codes ")"
+mark_text LeftBracket = codes "["
+mark_text RightBracket = codes "]"
+mark_text Semicolon = codes ";"
+mark_text Colon = codes ":"
+mark_text Comma = codes ","
+mark_text Dot = codes "."
+mark_text Assign = codes ":="
+mark_text Equals = codes "="
+mark_text Plus = codes "+"
+mark_text Minus = codes "-"
+mark_text Star = codes "*"
+mark_text Slash = codes "/"
+mark_text Less = codes "<"
+mark_text LessEq = codes "<="
+mark_text More = codes ">"
+mark_text MoreEq = codes ">="
+mark_text EqualEqual = codes "=="
+mark_text Unequal = codes "!="
+mark_text AndAnd = codes "&&"
+mark_text OrOr = codes "||"
+mark_text Bang = codes "!"
+mark_text _ = []
+
 -- how a reserved word or a mark is written
 abbrev pub fixed_text : Kind → List ℕ
-fixed_text Name = []
-fixed_text Number = []
-fixed_text Root = codes "root"
-fixed_text Interface = codes "interface"
-fixed_text Class = codes "class"
-fixed_text Inh = codes "inh"
-fixed_text Syn = codes "syn"
-fixed_text Input = codes "input"
-fixed_text Local = codes "local"
-fixed_text Show = codes "show"
-fixed_text SelfWord = codes "self"
-fixed_text This = codes "this"
-fixed_text Prev = codes "prev"
-fixed_text Last = codes "last"
-fixed_text First = codes "first"
-fixed_text Then = codes "then"
-fixed_text Fold = codes "fold"
-fixed_text From = codes "from"
-fixed_text With = codes "with"
-fixed_text Acc = codes "acc"
-fixed_text If = codes "if"
-fixed_text Else = codes "else"
-fixed_text Or = codes "or"
-fixed_text Min = codes "min"
-fixed_text Max = codes "max"
-fixed_text LeftBrace = codes "{"
-fixed_text RightBrace = codes "}"
-fixed_text LeftParen = codes "("
-fixed_text RightParen = codes ")"
-fixed_text LeftBracket = codes "["
-fixed_text RightBracket = codes "]"
-fixed_text Semicolon = codes ";"
-fixed_text Colon = codes ":"
-fixed_text Comma = codes ","
-fixed_text Dot = codes "."
-fixed_text Assign = codes ":="
-fixed_text Equals = codes "="
-fixed_text Plus = codes "+"
-fixed_text Minus = codes "-"
-fixed_text Star = codes "*"
-fixed_text Slash = codes "/"
-fixed_text Less = codes "<"
-fixed_text LessEq = codes "<="
-fixed_text More = codes ">"
-fixed_text MoreEq = codes ">="
-fixed_text EqualEqual = codes "=="
-fixed_text Unequal = codes "!="
-fixed_text AndAnd = codes "&&"
-fixed_text OrOr = codes "||"
-fixed_text Bang = codes "!"
+fixed_text kind = unwrap_or (word_text kind) (mark_text kind)
 
 -- how a token is written: a name by its characters, a number in decimal
 abbrev pub symbol_text : Symbol → List ℕ

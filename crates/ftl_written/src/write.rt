@@ -1,8 +1,9 @@
 //! How tokens are written, one after another, at the end of a text.
 
-ghost use Rattle.std.specs.Prelude.{◌≡◌, ◌++◌, string_bytes, OnOk};
+ghost use Rattle.std.specs.Prelude.{◌≡◌, ◌++◌, option_copied, string_bytes, OnOk};
 ghost use Rattle.ftl_tokens.specs.Tokenized as said;
-ghost use Rattle.ftl_written.specs.Written.{fixed_text, written, written_bytes};
+ghost use Rattle.ftl_written.specs.Written.{fixed_text, mark_text, word_text};
+ghost use Rattle.ftl_written.specs.Written.{written, written_bytes};
 
 use ftl_tokens::{Kind, Name};
 use itoa::Buffer;
@@ -12,8 +13,13 @@ use std::alloc::AllocError;
 pub fn fixed_text(kind: Kind) -> &'static str
     ensures text { result.now ≡ fixed_text kind }
 {
-    match kind {
-        Kind::Name | Kind::Number => "",
+    word_text(kind).unwrap_or(mark_text(kind))
+}
+
+fn word_text(kind: Kind) -> Option<&'static str>
+    ensures text { option_copied result ≡ word_text kind }
+{
+    let text = match kind {
         Kind::Root => "root",
         Kind::Interface => "interface",
         Kind::Class => "class",
@@ -37,6 +43,15 @@ pub fn fixed_text(kind: Kind) -> &'static str
         Kind::Or => "or",
         Kind::Min => "min",
         Kind::Max => "max",
+        _ => return None,
+    };
+    Some(text)
+}
+
+fn mark_text(kind: Kind) -> &'static str
+    ensures text { result.now ≡ mark_text kind }
+{
+    match kind {
         Kind::LeftBrace => "{",
         Kind::RightBrace => "}",
         Kind::LeftParen => "(",
@@ -62,6 +77,7 @@ pub fn fixed_text(kind: Kind) -> &'static str
         Kind::AndAnd => "&&",
         Kind::OrOr => "||",
         Kind::Bang => "!",
+        _ => "",
     }
 }
 
