@@ -8,8 +8,6 @@ mod arithmetic;
 mod comparison;
 mod engine;
 mod stack;
-#[cfg(test)]
-mod tests;
 mod truth;
 mod val;
 mod width;

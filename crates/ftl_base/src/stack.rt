@@ -2,9 +2,6 @@ ghost use Rattle.std.specs.Prelude.{◌≡◌, ℕ, ◌+◌, ◌<◌, [], ◌∷
 ghost use Rattle.ftl_model.specs.Values.{Value};
 ghost use Rattle.ftl_base.specs.Stacked.{EndsInValue, EndsInTruth};
 
-#[cfg(test)]
-mod tests;
-
 use crate::engine::Engine;
 use crate::truth::Truth;
 use crate::val::Val;

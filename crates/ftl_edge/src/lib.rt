@@ -21,6 +21,3 @@ pub use mem_source::MemSource;
 pub use sink::{Sink, write_whole};
 pub use source::{Source, read_all};
 pub use standard::{StdSink, StdSource};
-
-#[cfg(test)]
-mod tests;

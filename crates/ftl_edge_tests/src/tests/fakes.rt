@@ -1,7 +1,7 @@
 //! Sources, sinks and a runtime that go wrong.
 ghost use Rattle.std.specs.Prelude.{None};
 
-use crate::{Failed, Sink, Source};
+use ftl_edge::{Failed, Sink, Source};
 use std::alloc::Allocator;
 use std::fmt::Display;
 use std::io;

@@ -1,5 +1,6 @@
 mod arithmetic;
 mod comparisons;
+mod stack;
 mod words;
 
 /// In a table the number that stands for Overflow.

@@ -1,5 +1,5 @@
 use super::OVER;
-use crate::{Val, Width, add, div_floor, mul, neg, sub};
+use ftl_base::{Val, Width, add, div_floor, mul, neg, sub};
 
 /// Two operands, their sum, their difference and their product in the narrow width.
 static NARROW: [[i64; 5]; 10] = [

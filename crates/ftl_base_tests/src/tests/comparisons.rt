@@ -1,6 +1,6 @@
 use super::OVER;
-use crate::Truth::{No, Overflow, Yes};
-use crate::{Cmp, Truth, Val, both, choose, compare, either, greatest, least, not};
+use ftl_base::Truth::{No, Overflow, Yes};
+use ftl_base::{Cmp, Truth, Val, both, choose, compare, either, greatest, least, not};
 
 /// Two operands, the least and the greatest of them, and whether the first is less, not above and
 /// equal.

@@ -3,8 +3,11 @@
 mod fakes;
 mod words;
 
-use crate::*;
 use fakes::{Broken, Endless, Stuck};
+use ftl_edge::{
+    Failed, MemSink, MemSource, ReadAllFault, Sink, Source, StdSink, StdSource, WriteFault,
+    read_all, write_whole,
+};
 use std::test::Fail;
 use words::read_endless;
 

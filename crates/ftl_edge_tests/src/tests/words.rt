@@ -6,7 +6,7 @@ ghost use Rattle.ftl_edge.specs.Sink.{AppendsFront};
 ghost use Rattle.ftl_edge.specs.Source.{TakesFront};
 
 use super::fakes::Endless;
-use crate::{Failed, MemSink, MemSource, ReadAllFault, Sink, Source, read_all};
+use ftl_edge::{Failed, MemSink, MemSource, ReadAllFault, Sink, Source, read_all};
 use std::alloc::Global;
 
 // The words on counts, and on what is left and appended, at small values.

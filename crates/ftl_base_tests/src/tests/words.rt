@@ -1,4 +1,4 @@
-use crate::{Val, Width, val_of, word_of};
+use ftl_base::{Val, Width, val_of, word_of};
 
 #[test]
 fn numbers_end_at_48_bits(rt: HostRuntime) {

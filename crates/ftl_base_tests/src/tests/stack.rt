@@ -1,4 +1,4 @@
-use crate::{CodeStack, Engine, Truth, Val};
+use ftl_base::{CodeStack, Engine, Truth, Val};
 use std::test::Fail;
 
 #[test]

@@ -1,0 +1,5 @@
+//! The tests of values and the stack, apart from them, so that these are proved once.
+#![tactic(auto)]
+
+#[cfg(test)]
+mod tests;
