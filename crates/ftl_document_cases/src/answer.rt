@@ -5,7 +5,8 @@ ghost use Rattle.ftl_base.specs.Widths.{greatest_of_width};
 ghost use Rattle.ftl_tokens.specs.Tokenized.{IsGreatestNumber};
 
 use crate::edits::set_inputs;
-use crate::nodes::{write_counts, write_nodes, write_text};
+use crate::instances::write_instances;
+use crate::nodes::{write_bare, write_counts, write_nodes, write_text};
 use crate::way::{Way, built};
 use ftl_base::Width;
 use ftl_checked::Checked;
@@ -38,7 +39,9 @@ fn in_way(
     document: &str,
 ) -> Result<String, AllocError> {
     match way {
-        Way::Plain | Way::Wide => of_text(alloc, way, checked, document, ""),
+        Way::Plain | Way::Wide | Way::Bare | Way::Instances => {
+            of_text(alloc, way, checked, document, "")
+        }
         Way::Set => {
             let (document, edits) = document.split_once("==").unwrap_or((document, ""));
             of_text(alloc, way, checked, document, edits)
@@ -78,6 +81,7 @@ fn of_text(
     let text = String::from_str(alloc, document)?;
     match document_tokens(alloc, text, greatest_number(checked.width())) {
         Ok(scanned) => of_tokens(alloc, way, checked, &scanned, edits),
+        Err(TokenFault::OutOfMemory) => Err(AllocError),
         Err(fault) => token_line(alloc, fault),
     }
 }
@@ -99,6 +103,8 @@ fn of_tokens(
                     write_nodes(alloc, &mut out, &tree, scanned)?;
                 }
                 Way::Built => write_counts(&mut out, &tree)?,
+                Way::Bare => write_bare(alloc, &mut out, &tree)?,
+                Way::Instances => write_instances(&mut out, &tree)?,
                 Way::Set => {
                     if !set_inputs(&mut tree, edits) {
                         out.push_str("no input\n")?;
@@ -108,6 +114,7 @@ fn of_tokens(
             }
             Ok(out)
         }
+        Err(DocFault::OutOfMemory) => Err(AllocError),
         Err(fault) => fault_line(alloc, checked, &fault),
     }
 }
@@ -132,7 +139,9 @@ fn ended(alloc: Global, mut line: Vec<u8>) -> Result<String, AllocError> {
 /// Only where the way says so, numbers are wide.
 fn width_of(way: Way) -> Width {
     match way {
-        Way::Plain | Way::Cut | Way::Built | Way::Set => Width::Narrow,
+        Way::Plain | Way::Cut | Way::Built | Way::Set | Way::Bare | Way::Instances => {
+            Width::Narrow
+        }
         Way::Wide => Width::Wide,
     }
 }

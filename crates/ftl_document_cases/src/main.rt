@@ -4,13 +4,15 @@
 //! where it has none, a line for each node of the tree, one with the inputs of all nodes, and the
 //! tree's canonical text. The second word of the title may ask for another way: `wide` for numbers
 //! of the wide width, `cut` for each front of the document, `built` for a document whose lines say
-//! how often a piece of it comes, of which only the counts are printed, and `set` for inputs that
-//! are set to other numbers, which lines behind `==` name by node, field and number; of their tree
-//! only the text is printed.
+//! how often a piece of it comes, of which only the counts are printed, `set` for inputs that are
+//! set to other numbers, which lines behind `==` name by node, field and number; of their tree only
+//! the text is printed; `bare` for the tree with the same rows and every input 0; and `instances`
+//! for a line for each node with its first instance, and each child's kids with theirs.
 #![tactic(auto)]
 
 mod answer;
 mod edits;
+mod instances;
 mod nodes;
 mod way;
 

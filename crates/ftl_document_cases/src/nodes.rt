@@ -1,12 +1,13 @@
 //! The nodes of a tree, a line each.
 
-ghost use Rattle.std.specs.Prelude.{◌<◌};
+ghost use Rattle.std.specs.Prelude.{◌≡◌, ◌<◌, IfOk};
 ghost use Rattle.ftl_model.specs.Tree.{size};
+ghost use Rattle.ftl_tree_rows.specs.Rows.{rows_of};
 
 use ftl_document_syntax::read_written_document;
 use ftl_document_walk::document_nodes;
 use ftl_tokens::WideScanned;
-use ftl_tree::Tree;
+use ftl_tree::{NodeRow, Tree, bare_tree};
 use ftl_tree_printing::print_document;
 use std::alloc::{AllocError, Global};
 use std::fmt::Write;
@@ -33,6 +34,28 @@ pub(crate) fn write_nodes(
 pub(crate) fn write_text(alloc: Global, out: &mut String, tree: &Tree) -> Result<(), AllocError> {
     let text = print_document(alloc, tree)?;
     write!(out, "text {text}")
+}
+
+/// A line for each node of the tree that has the rows of this one and every input 0, and its text.
+pub(crate) fn write_bare(alloc: Global, out: &mut String, tree: &Tree) -> Result<(), AllocError> {
+    let _nodes = tree.node_count();
+    let _instances = tree.instance_count();
+    let rows = rows_of_tree(alloc, tree)?;
+    let bare = bare_tree(alloc, tree.checked(), rows.as_slice())?;
+    for node in 0..bare.node_count() {
+        write_node(out, &bare, node)?;
+    }
+    write_text(alloc, out, &bare)
+}
+
+fn rows_of_tree(alloc: Global, tree: &Tree) -> Result<Vec<NodeRow>, AllocError>
+    ensures rows { IfOk result (λ v. v.items ≡ rows_of tree.now.tree) }
+{
+    let mut rows = Vec::with_capacity(alloc, tree.node_count() as usize)?;
+    for node in 0..tree.node_count() {
+        rows.push(tree.row(node))?;
+    }
+    Ok(rows)
 }
 
 /// How many nodes and instances there are.

@@ -15,6 +15,10 @@ pub(crate) enum Way {
     Built,
     /// With numbers that its inputs are set to; only the text of the tree is printed.
     Set,
+    /// As it stands; the tree that is printed has its rows, and each input 0.
+    Bare,
+    /// As it stands; of its tree the first instances of all nodes and of their kids are printed.
+    Instances,
 }
 
 /// The way that a word of a title asks for.
@@ -27,6 +31,10 @@ pub(crate) fn way_of(word: &str) -> Way {
         Way::Built
     } else if word == "set" {
         Way::Set
+    } else if word == "bare" {
+        Way::Bare
+    } else if word == "instances" {
+        Way::Instances
     } else {
         Way::Plain
     }

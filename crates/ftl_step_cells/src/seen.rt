@@ -49,5 +49,5 @@ pub(crate) fn kid_cell(tree: &Tree<'_>, node: u32, child: u32, number: u32, attr
     ensures cell { result ≡ cell_seen tree.now node (kid child number attr) }
 {
     let _nodes = tree.node_count();
-    tree.instance(tree.kid(node, child, number), attr)
+    tree.kid_instance(node, child, number, attr)
 }

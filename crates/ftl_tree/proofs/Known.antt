@@ -1,16 +1,21 @@
 -- What the fields of a tree say of the tree.
-use Rattle.std.proofs.Common.{◌≡◌, ℕ, suc, ◌+◌, ◌<◌, ◌≤◌, length, get_or, sym, ◌∙◌, subst, arith}
+use Rattle.std.proofs.Common.{◌≡◌, ℕ, suc, ◌+◌, ◌<◌, ◌≤◌, length, get_or, map, sym, ◌∙◌, subst, arith, Contains}
 use Rattle.std.proofs.lemmas.List.{get_or_default}
+use Rattle.ftl_lists.specs.Lists.{place_in}
+use Rattle.ftl_lists.proofs.Places.{place_within}
+use Rattle.ftl_model.specs.AttributeGrammar.{attributes_of}
 use Rattle.ftl_model.specs.Path.{class_at, node_at, size_at}
 use Rattle.ftl_model.specs.Table.{first_instance}
 use Rattle.ftl_model.specs.Tree.{size}
 use Rattle.ftl_order.proofs.Kids.{class_known}
 use Rattle.ftl_dep_table.specs.Meant.{meant}
-use Rattle.ftl_tree_rows.specs.ClassRows.{AreClassRows, AreInputCounts, IsClassRow, no_attributes}
+use Rattle.ftl_tree_rows.specs.ClassRows.{AreAttributePlaces, AreClassRows, AreInputCounts}
+use Rattle.ftl_tree_rows.specs.ClassRows.{IsClassRow, no_attributes}
 use Rattle.ftl_tree_rows.specs.KidRuns.{HasRuns}
 use Rattle.ftl_tree_rows.specs.Rows.{AreRowsOf, attribute_width, input_width, row_of, starts_by}
 use Rattle.ftl_tree_rows.specs.declared.class_row.ClassRow.{ClassRow}
 use Rattle.ftl_tree_rows.proofs.Access.{has_at, length-by_node}
+use Rattle.ftl_tree_rows.proofs.ClassPlaces.{attribute_known}
 use Rattle.ftl_tree_rows.proofs.Starts.{first_instance_at, last_instance, length-starts, room_at}
 use Rattle.ftl_tree.specs.CheckedTree.{CheckedTree}
 use Rattle.ftl_tree.specs.FlatTree.{IsFlat, checked_tree_inside}
@@ -25,6 +30,9 @@ pub record Known (i : Inside) (t : CheckedTree) : Type 0 where
   pub first_inputs : i.first_inputs.items ≡ starts_by (input_width (meant t.checked)) i.rows.items
   pub slots : i.slots.items ≡ starts_by (meant t.checked).child_count i.rows.items
   pub runs : HasRuns (meant t.checked) t.tree i.slots.items i.run_starts.items i.kids.items
+  pub kid_first_instances :
+      i.kid_first_instances.items ≡ map (λ (kid : ℕ). get_or i.first_instances.items kid 0) i.kids.items
+  pub attribute_places : AreAttributePlaces (meant t.checked) i.attribute_places.items
 
 pub known : (i : Inside) (t : CheckedTree) → IsFlat i → checked_tree_inside i ≡ t → Known i t
 known i t h is =
@@ -36,6 +44,8 @@ known i t h is =
       first_inputs = h.first_inputs;
       slots = h.slots;
       runs = h.runs;
+      kid_first_instances = h.kid_first_instances;
+      attribute_places = h.attribute_places;
     })
 
 module _ (i : Inside) (t : CheckedTree) (k : Known i t) where
@@ -68,6 +78,24 @@ module _ (i : Inside) (t : CheckedTree) (k : Known i t) where
   pub first_is : (n d : ℕ) → n < size t.tree → get_or i.first_instances.items n d ≡ first_instance (meant t.checked) t.tree (node_at t.tree n)
   first_is n d h = first_instance_at (meant t.checked) t.tree i.rows.items i.first_instances.items n d k.rows.is_tree k.rows.rows_are k.first_instances h
 
+  -- an attribute of a class has a place
+  pub place_known : (class a : ℕ) → class < (meant t.checked).class_count
+      → Contains (attributes_of (meant t.checked) class) a → a < length i.attribute_places.items
+  place_known class a h has =
+      let row = get_or i.classes.items class no_attributes in
+      omega (
+        arith,
+        attribute_known (meant t.checked) class row (k.classes.each class h) a has,
+        k.attribute_places.length_is,
+      )
+
+  pub place_is : (class a d : ℕ) → class < (meant t.checked).class_count
+      → Contains (attributes_of (meant t.checked) class) a
+      → get_or i.attribute_places.items a d ≡ place_in (attributes_of (meant t.checked) class) a
+  place_is class a d h has =
+      get_or_default i.attribute_places.items a d 0 (place_known class a h has)
+      ∙ k.attribute_places.each class a h has
+
   -- and all of a node's come before the end
   pub first_room : (n : ℕ) → n < size t.tree
       → first_instance (meant t.checked) t.tree (node_at t.tree n) + attribute_width (meant t.checked) (class_at t.tree (node_at t.tree n)) ≤ 33554432
@@ -78,4 +106,15 @@ module _ (i : Inside) (t : CheckedTree) (k : Known i t) where
         room_at (meant t.checked) t.tree i.rows.items (attribute_width (meant t.checked)) i.first_instances.items n 0 k.rows.is_tree k.rows.rows_are k.first_instances h,
         last_instance (meant t.checked) t.tree i.rows.items i.first_instances.items 0 k.rows.is_tree k.rows.rows_are k.first_instances,
         k.rows.few_instances,
+      )
+
+  pub instance_room : (n a : ℕ) → n < size t.tree
+      → Contains (attributes_of (meant t.checked) (class_at t.tree (node_at t.tree n))) a
+      → first_instance (meant t.checked) t.tree (node_at t.tree n)
+      + place_in (attributes_of (meant t.checked) (class_at t.tree (node_at t.tree n))) a < 33554432
+  instance_room n a h has =
+      omega (
+        arith,
+        place_within (attributes_of (meant t.checked) (class_at t.tree (node_at t.tree n))) a has,
+        first_room n h,
       )

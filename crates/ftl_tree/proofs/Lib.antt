@@ -1,6 +1,8 @@
 pub mod Known
 pub mod Classes
 pub mod Made
+pub mod KidInstances
+pub mod Places
 pub mod Changed
 pub mod SameRows
 pub mod InputSet

@@ -1,9 +1,9 @@
 -- The fields of a tree: its rows, and where the instances, the inputs and the kids of each node stand.
-use Rattle.std.specs.Prelude.{◌≡◌}
+use Rattle.std.specs.Prelude.{◌≡◌, map, slice_index_or}
 use Rattle.ftl_model.specs.AttributeGrammar.{AttributeGrammar}
 use Rattle.ftl_model.specs.Tree.{Forest}
 use Rattle.ftl_dep_table.specs.Meant.{meant}
-use Rattle.ftl_tree_rows.specs.ClassRows.{AreClassRows, AreInputCounts}
+use Rattle.ftl_tree_rows.specs.ClassRows.{AreAttributePlaces, AreClassRows, AreInputCounts}
 use Rattle.ftl_tree_rows.specs.KidRuns.{HasRuns}
 use Rattle.ftl_tree_rows.specs.Rows.{AreRowsOf, attribute_width, input_width, starts_by, tree_of}
 use Rattle.ftl_tree.specs.CheckedTree.{CheckedTree}
@@ -28,3 +28,5 @@ pub record IsFlat (t : Inside) : Type 0 where
   pub first_inputs : t.first_inputs.items ≡ starts_by (input_width (grammar_inside t)) t.rows.items
   pub slots : t.slots.items ≡ starts_by (grammar_inside t).child_count t.rows.items
   pub runs : HasRuns (grammar_inside t) (tree_inside t) t.slots.items t.run_starts.items t.kids.items
+  pub kid_first_instances : t.kid_first_instances.items ≡ map (λ kid. slice_index_or t.first_instances.items kid 0) t.kids.items
+  pub attribute_places : AreAttributePlaces (grammar_inside t) t.attribute_places.items

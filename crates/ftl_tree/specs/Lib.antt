@@ -3,5 +3,6 @@ pub mod FlatTree
 pub mod WithInput
 pub mod Bare
 pub mod OwnerRuns
+pub mod OwnerPlaces
 pub use Rattle.ftl_tree_rows.specs.Rows
 pub use Rattle.ftl_tree_rows.specs.KidRuns

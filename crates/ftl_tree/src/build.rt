@@ -1,5 +1,6 @@
 //! Trees from their rows.
-ghost use Rattle.std.specs.Prelude.{◌≡◌, IfOk};
+ghost use Rattle.std.specs.Prelude.{◌≡◌, ◌<◌, length, map, slice_index_or, IfOk};
+ghost use Rattle.std.specs.List.{All};
 ghost use Rattle.ftl_model.specs.AttributeGrammar.{AttributeGrammar};
 ghost use Rattle.ftl_model.specs.Tree.{Forest};
 ghost use Rattle.ftl_dep_table.specs.Meant.{meant};
@@ -61,6 +62,23 @@ pub(crate) fn child_slots(
     class_starts(alloc, rows, &table)
 }
 
+/// The first instance of each of some kids, by those of all nodes.
+pub(crate) fn firsts_of_kids(
+    alloc: Global,
+    kids: &[u32],
+    first_instances: &[u32],
+) -> Result<Vec<u32>, AllocError>
+    requires known { All (λ kid. kid < length first_instances.now) kids.now }
+    ensures firsts { IfOk result (λ v. v.items
+        ≡ map (λ kid. slice_index_or first_instances.now kid 0) kids.now) }
+{
+    let mut firsts = Vec::with_capacity(alloc, kids.len())?;
+    for kid in kids {
+        firsts.push(first_instances[*kid as usize])?;
+    }
+    Ok(firsts)
+}
+
 /// The kids of all nodes, with where the run of each child begins.
 #[derive(Drop)]
 pub(crate) struct KidRuns {
@@ -77,6 +95,7 @@ pub(crate) fn kid_runs(
     requires rows { (g : AttributeGrammar) × (t : Forest) × HasSlots g t rows.now slots.now }
     ensures runs { (g : AttributeGrammar) (t : Forest) → HasSlots g t rows.now slots.now
         → IfOk result (λ r. HasRuns g t slots.now r.starts.items r.kids.items) }
+    ensures known { IfOk result (λ r. All (λ kid. kid < length rows.now) r.kids.items) }
 {
     let counts = kid_counts(alloc, rows, slots)?;
     let starts = sums(alloc, &counts)?;

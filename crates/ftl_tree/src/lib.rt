@@ -4,6 +4,7 @@
 //! `specs/WithInput.antt` says what a tree is whose input has another number.
 #![tactic(auto)]
 
+mod attribute_places;
 mod build;
 mod class_attrs;
 mod class_table;

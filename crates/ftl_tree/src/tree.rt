@@ -11,12 +11,13 @@ ghost use Rattle.ftl_model.specs.Tree.{Forest, size};
 ghost use Rattle.ftl_model.specs.TreeOf.{IsInput, IsTreeOf};
 ghost use Rattle.ftl_model.specs.Values.{number};
 ghost use Rattle.ftl_dep_table.specs.Meant.{meant};
-ghost use Rattle.ftl_tree_rows.specs.KidRuns.{IsChildOf, kid_numbers};
+ghost use Rattle.ftl_tree_rows.specs.KidRuns.{IsChildOf, kid_first_instances, kid_numbers};
 ghost use Rattle.ftl_tree_rows.specs.Rows.{AreNodesOf, row_of};
 ghost use Rattle.ftl_tree.specs.WithInput.{with_input};
 
-use crate::build::{KidRuns, child_slots, first_inputs, first_instances, kid_runs};
-use crate::class_attrs::{attribute_place, is_shared};
+use crate::attribute_places::attribute_places;
+use crate::build::{KidRuns, child_slots, first_inputs, first_instances, firsts_of_kids, kid_runs};
+use crate::class_attrs::is_shared;
 use crate::class_table::class_rows;
 use crate::input_counts::counts_of_inputs;
 use crate::runs::run_of;
@@ -39,6 +40,8 @@ pub struct Tree<'a> {
     slots: Vec<u32>,
     run_starts: Vec<u32>,
     kids: Vec<u32>,
+    kid_first_instances: Vec<u32>,
+    attribute_places: Vec<u32>,
 }
 
 impl<'a> Model for Tree<'a> {
@@ -182,9 +185,31 @@ impl<'a> Tree<'a> {
             ≡ instance_number (meant self.now.checked) self.now.tree
             (instance_of (node_at self.now.tree node) attr) }
     {
-        let row = self.classes[self.class(node) as usize];
-        let first = self.first_instances[node as usize];
-        (first as usize + attribute_place(row, attr)) as u32
+        self.first_instances[node as usize] + self.attribute_places[attr as usize]
+    }
+
+    /// The number of an instance of a kid of a node.
+    pub fn kid_instance(&self, node: u32, child: u32, k: u32, attr: u32) -> u32
+        requires at { IsChildOf (meant self.now.checked) self.now.tree node child }
+        requires k { k < kids_at self.now.tree (node_at self.now.tree node) child }
+        requires attr { Contains (attributes_of (meant self.now.checked)
+            (class_at self.now.tree (down child k (node_at self.now.tree node)))) attr }
+        ensures instance { result
+            ≡ instance_number (meant self.now.checked) self.now.tree
+            (instance_of (down child k (node_at self.now.tree node)) attr) }
+    {
+        self.kids_first_instances(node, child)[k as usize] + self.attribute_places[attr as usize]
+    }
+
+    /// The numbers of the first instances of a node's kids in a child, first to last.
+    pub fn kids_first_instances(&self, node: u32, child: u32) -> &[u32]
+        requires at { IsChildOf (meant self.now.checked) self.now.tree node child }
+        ensures firsts { result.now
+            ≡ kid_first_instances (meant self.now.checked) self.now.tree
+            (node_at self.now.tree node) child }
+    {
+        let run = run_of(&self.slots, &self.run_starts, node, child);
+        &self.kid_first_instances[run.start as usize..run.end as usize]
     }
 }
 
@@ -259,6 +284,8 @@ impl<'a> Tree<'a> {
         let slots = child_slots(alloc, checked, &rows)?;
         let sizes = subtree_sizes(alloc, &rows)?;
         let KidRuns { starts, kids } = kid_runs(alloc, &rows, &slots)?;
+        let kid_first_instances = firsts_of_kids(alloc, &kids, &first_instances)?;
+        let attribute_places = attribute_places(alloc, checked)?;
         Ok(Tree {
             checked,
             classes,
@@ -271,6 +298,8 @@ impl<'a> Tree<'a> {
             slots,
             run_starts: starts,
             kids,
+            kid_first_instances,
+            attribute_places,
         })
     }
 }

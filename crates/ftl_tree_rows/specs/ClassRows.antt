@@ -1,6 +1,8 @@
 -- The attributes of each class as two runs of numbers, and the place of an input by counting.
 use Rattle.std.specs.Prelude.{◌≡◌, ◌⊎◌, ℕ, suc, ◌+◌, ◌<◌, ◌≤◌, List, ◌++◌, length, filter, slice_index_or}
+use Rattle.std.specs.Prelude.{Contains}
 use Rattle.std.specs.List.{range_with_len}
+use Rattle.ftl_lists.specs.Lists.{place_in}
 use Rattle.ftl_model.specs.AttributeGrammar.{AttributeGrammar, attributes_of, is_input}
 use Rattle.ftl_tree_rows.specs.declared.class_row.ClassRow.{ClassRow}
 
@@ -31,6 +33,13 @@ pub record IsClassRow (g : AttributeGrammar) (class : ℕ) (row : ClassRow) : Ty
 pub record AreClassRows (g : AttributeGrammar) (rows : List ClassRow) : Type 0 where
   pub count : length rows ≡ g.class_count
   pub each : (k : ℕ) → k < g.class_count → IsClassRow g k (slice_index_or rows k no_attributes)
+
+-- these are the places of all attributes: of each, the place among the attributes of every class that has it
+pub record AreAttributePlaces (g : AttributeGrammar) (places : List ℕ) : Type 0 where
+  pub length_is : length places ≡ g.attribute_count
+  pub each :
+      (class a : ℕ) → class < g.class_count → Contains (attributes_of g class) a
+      → slice_index_or places a 0 ≡ place_in (attributes_of g class) a
 
 -- how many inputs have smaller numbers
 abbrev pub inputs_below : AttributeGrammar → (attribute : ℕ) → ℕ

@@ -120,6 +120,7 @@ invariant_of-self c =
     (flat.rows.sizes_are ∙ sizes_are (grammar_inside i) (tree_inside i) n a z k.at)
     flat.classes flat.input_counts flat.first_instances flat.first_inputs flat.slots
     (runs_are (grammar_inside i) (tree_inside i) n a z k.at i.slots.items i.run_starts.items i.kids.items flat.runs)
+    flat.kid_first_instances flat.attribute_places
 
 pub returns : goal.returns
 returns c =

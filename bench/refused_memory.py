@@ -1,0 +1,145 @@
+#!/usr/bin/env python3
+"""Refuses each allocation in turn: for N from 1 on, the Nth call by which the program asks for memory gets none, until
+a run makes fewer calls. Each such run has to end as want of memory does, or as the run with ample memory: the layout
+program with status 9 and nothing written, the program that prints documents with status 1 and a front of its output.
+
+usage: bench/refused_memory.py [NAME..]     NAME is ftl_layout or ftl_document_cases; both if left out
+
+It needs Linux with glibc, and a C compiler as $CC or cc, for what stands between the program and malloc. `rt try
+--fail-alloc N` does the same for one N on a checked build, which it makes anew each time.
+"""
+import os
+import subprocess
+import sys
+import tempfile
+
+TOP = os.path.dirname(os.path.dirname(os.path.abspath(__file__)))
+
+# Counts the calls that come from the program's own code; a byte on the descriptor says that one was refused.
+BETWEEN = r"""
+#define _GNU_SOURCE
+#include <link.h>
+#include <stdlib.h>
+#include <unistd.h>
+
+extern void *__libc_malloc(size_t);
+extern void *__libc_realloc(void *, size_t);
+
+static char *low, *high;
+static long refused, told, count;
+
+static int is_program(struct dl_phdr_info *info, size_t size, void *data) {
+    for (int k = 0; k < info->dlpi_phnum; k++) {
+        char *start = (char *)info->dlpi_addr + info->dlpi_phdr[k].p_vaddr;
+        char *end = start + info->dlpi_phdr[k].p_memsz;
+        if (info->dlpi_phdr[k].p_type != PT_LOAD) continue;
+        if (!low || start < low) low = start;
+        if (end > high) high = end;
+    }
+    return 1; /* the program comes first, and no more is asked for */
+}
+
+__attribute__((constructor)) static void begin(void) {
+    refused = atol(getenv("REFUSED_CALL"));
+    told = atol(getenv("REFUSED_TOLD"));
+    dl_iterate_phdr(is_program, NULL);
+}
+
+static int is_refused(void *caller) {
+    if ((char *)caller < low || (char *)caller >= high) return 0;
+    if (__atomic_add_fetch(&count, 1, __ATOMIC_SEQ_CST) != refused) return 0;
+    return write((int)told, "x", 1) == 1;
+}
+
+void *malloc(size_t size) {
+    return is_refused(__builtin_return_address(0)) ? NULL : __libc_malloc(size);
+}
+
+void *realloc(void *old, size_t size) {
+    return is_refused(__builtin_return_address(0)) ? NULL : __libc_realloc(old, size);
+}
+"""
+
+TWO_WORDS = b"""%page 1
+%grammar stack
+%schedule auto
+%document
+Sheet { body = Column { kids = [ Word { iw = 20 ih = 10 } Word { iw = 30 ih = 15 } ] } }
+"""
+
+# Documents that are read, a tree that is made with other inputs, and their texts.
+DOCUMENTS = b"""% stack bare two words
+Sheet { body = Column { kids = [ Word { iw = 20 ih = 10 } Word { iw = 30 ih = 15 } ] } }
+% stack set the height of the first word
+Sheet { body = Column { kids = [ Word { iw = 20 ih = 10 } Word { iw = 30 ih = 15 } ] } }
+==
+2 ih 7
+"""
+
+# The program, its words, its input, the status that want of memory has, and whether a front of the output may stand.
+CASES = [
+    ("ftl_layout", ["run"], TWO_WORDS, 9, False),
+    ("ftl_layout", ["sample", "2"], b"", 9, False),
+    ("ftl_document_cases", [], DOCUMENTS, 1, True),
+]
+
+
+def built(folder):
+    """The library that stands between a program and malloc."""
+    source, library = os.path.join(folder, "between.c"), os.path.join(folder, "between.so")
+    with open(source, "w") as out:
+        out.write(BETWEEN)
+    subprocess.run([os.environ.get("CC", "cc"), "-O1", "-shared", "-fPIC", "-o", library, source], check=True)
+    return library
+
+
+def run(library, command, text, call):
+    """Status, output and whether this call came and was refused; call 0 refuses none."""
+    read, write = os.pipe()
+    words = dict(os.environ, LD_PRELOAD=library, REFUSED_CALL=str(call), REFUSED_TOLD=str(write))
+    done = subprocess.run(command, input=text, stdout=subprocess.PIPE, stderr=subprocess.DEVNULL, env=words,
+                          pass_fds=[write], timeout=60)
+    os.close(write)
+    came = os.read(read, 1) == b"x"
+    os.close(read)
+    return done.returncode, done.stdout, came
+
+
+def refuse_each(library, command, text, wanted, front):
+    """How many calls there are, how many of them are answered by want of memory if refused, and which are wrong."""
+    status, output, _came = run(library, command, text, 0)
+    call, refusals, wrong = 0, 0, []
+    while True:
+        call += 1
+        ended, told, came = run(library, command, text, call)
+        if not came:
+            return call - 1, refusals, wrong
+        if ended == wanted and (output.startswith(told) if front else not told):
+            refusals += 1
+        elif (ended, told) != (status, output):
+            wrong.append((call, ended, len(told)))
+
+
+def main():
+    names = sys.argv[1:] or sorted({case[0] for case in CASES})
+    failed = False
+    with tempfile.TemporaryDirectory() as folder:
+        library = built(folder)
+        for name, words, text, wanted, front in CASES:
+            program = os.path.join(TOP, "crates", name, "out", name)
+            if name not in names:
+                continue
+            if not os.path.exists(program):
+                sys.exit(f"{program} is not built: run 'rt run' in crates/{name} once")
+            calls, refusals, wrong = refuse_each(library, [program] + words, text, wanted, front)
+            rest = calls - refusals - len(wrong)
+            title = " ".join([name] + words)
+            print(f"{title}: {calls} calls, {refusals} refused with status {wanted}, {rest} as before")
+            for call, ended, length in wrong:
+                print(f"  call {call} refused: status {ended}, {length} bytes written")
+            failed = failed or bool(wrong) or not calls
+    sys.exit(1 if failed else 0)
+
+
+if __name__ == "__main__":
+    main()

@@ -1,0 +1,18 @@
+use Rattle.std.proofs.Common.{◌++◌, ap, subst, sym, ◌∙◌, List, ℕ}
+use Rattle.ftl_base.specs.Widths.{greatest_of_width}
+use Rattle.ftl_dep_table.specs.Meant.{meant}
+use Rattle.ftl_tree_rows.specs.ClassRows.{AreAttributePlaces}
+use Rattle.ftl_tree.specs.OwnerPlaces.{own_places}
+use Rattle.ftl_tree.proofs.Places.{places_are}
+use Rattle.ftl_tree.proofs.attribute_places.attribute_places.Goals as goal
+
+pub returns : goal.returns
+returns c =
+    let g = c.args.checked.now.grammar in
+    let are = c.in_ok-add_own.ensures.added
+    ∙ ap (λ xs. xs ++ own_places g) c.in_ok-add_shared.ensures.added in
+    record {
+      places =
+          subst (λ (xs : List ℕ). AreAttributePlaces (meant c.args.checked.now) xs) (sym are)
+          (places_are g c.grammar-lawful.ensures.lawful (greatest_of_width c.args.checked.now.width));
+    }
