@@ -1,14 +1,18 @@
 -- The rules of a class, from the front.
-use Rattle.std.proofs.Common.{◌≡◌, ℕ, ◌+◌, List, [], ◌∷◌, ◌++◌, length, map, drop, Option, Some, None, refl, sym, ◌∙◌, ap, append_assoc}
+use Rattle.std.proofs.Common.{◌≡◌, ℕ, ◌+◌, ◌<◌, List, [], ◌∷◌, ◌++◌, length, map, drop, get_or, Option, Some, None, refl, sym, ◌∙◌, ap, subst, append_assoc}
 use Rattle.std.specs.Option.{option_to_list}
+use Rattle.std.proofs.lemmas.List.{get_or-map, length-map}
 use Rattle.ftl_syntax.specs.declared.rules.Grammar.{Grammar}
 use Rattle.ftl_syntax.specs.declared.rules.Rule.{Rule}
 use Rattle.ftl_grammar_faults.specs.declared.fault.GrammarFault.{GrammarFault}
 use Rattle.ftl_grammar_faults.specs.declared.info.RuleInfo.{RuleInfo}
+use Rattle.ftl_grammar_faults.specs.Allowed.{Leaf, Position}
 use Rattle.ftl_grammar_faults.specs.Checked.{info_by}
 use Rattle.ftl_grammar_faults.specs.FirstFault.{first_there, rule_fault, rule_faults, rule_name}
 use Rattle.ftl_grammar_faults.specs.Numbering.{class_at}
 use Rattle.ftl_grammar_faults.specs.RuleForms.{Slot, slot_of}
+use Rattle.ftl_grammar_faults.proofs.Counting.{left_by}
+use Rattle.ftl_checked.specs.ReadNumbers.{rule_leaves}
 use Rattle.ftl_checked.specs.Slots.{slots_of}
 
 module _ (g : Grammar) (k : ℕ) (xs : List Rule) (i : ℕ) (x : Rule) (left : drop i xs ≡ x ∷ drop (i + 1) xs) where
@@ -49,6 +53,24 @@ module _ (g : Grammar) (k : ℕ) (xs : List Rule) (i : ℕ) (x : Rule) (left : d
       append_assoc told (info_by k (Some s) ∷ []) (map (λ (r : Rule). info_by k (slot_of g k r.target)) (drop (i + 1) xs))
       ∙ ap (λ o. told ++ (info_by k o ∷ map (λ (r : Rule). info_by k (slot_of g k r.target)) (drop (i + 1) xs))) (sym is)
       ∙ ap (λ rs. told ++ map (λ (r : Rule). info_by k (slot_of g k r.target)) rs) (sym left)
+
+  -- and what it reads
+  pub reads_more : (read : List (List (Position × List Leaf))) (parts : List (Position × List Leaf))
+      → parts ≡ rule_leaves g (k, x)
+      → (read ++ parts ∷ []) ++ map (λ (r : Rule). rule_leaves g (k, r)) (drop (i + 1) xs)
+      ≡ read ++ map (λ (r : Rule). rule_leaves g (k, r)) (drop i xs)
+  reads_more read parts is =
+      append_assoc read (parts ∷ []) (map (λ (r : Rule). rule_leaves g (k, r)) (drop (i + 1) xs))
+      ∙ ap (λ ps. read ++ (ps ∷ map (λ (r : Rule). rule_leaves g (k, r)) (drop (i + 1) xs))) is
+      ∙ ap (λ rs. read ++ map (λ (r : Rule). rule_leaves g (k, r)) rs) (sym left)
+
+-- what is left of a list made of another, by the first entry there
+pub left_of_map : {X Y : Type 0} (f : X → Y) (xs : List X) (ys : List Y) (i : ℕ) (x : X) → map f xs ≡ ys
+    → i < length xs → x ≡ get_or xs i x → drop i ys ≡ f x ∷ drop (i + 1) ys
+left_of_map f xs ys i x are within is =
+    subst (λ zs. drop i zs ≡ f x ∷ drop (i + 1) zs) are
+    (left_by (map f xs) i (f x) (subst (λ n. i < n) (sym (length-map xs f)) within)
+    (ap f is ∙ sym (get_or-map f xs i x (f x) within)))
 
 -- no rules are left
 pub rules_end : (g : Grammar) (k : ℕ) (earlier : List Slot) (xs : List Rule)

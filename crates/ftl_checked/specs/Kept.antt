@@ -3,6 +3,8 @@ use Rattle.std.specs.Prelude.{◌≡◌, ℕ, List, map, None}
 use Rattle.ftl_syntax.specs.declared.rules.Grammar.{Grammar}
 use Rattle.ftl_grammar_faults.specs.declared.info.AttrInfo.{AttrInfo}
 use Rattle.ftl_grammar_faults.specs.declared.info.RuleInfo.{RuleInfo}
+use Rattle.ftl_checked.specs.declared.numbered_read.PartReads.{PartReads}
+use Rattle.ftl_checked.specs.ReadNumbers.{leaves_in, rule_leaves}
 use Rattle.ftl_grammar_tables.specs.declared.tables.Tables.{Tables}
 use Rattle.ftl_grammar_faults.specs.Checked.{all_attributes, all_rules, attribute_info, rule_info}
 use Rattle.ftl_grammar_faults.specs.Counts.{HasSmallCounts}
@@ -12,7 +14,8 @@ use Rattle.ftl_grammar_faults.specs.Numbering.{interface_number}
 use Rattle.ftl_grammar_tables.specs.Tables.{tables_of}
 
 -- the grammar is lawful, and what is kept says what its numbers stand for
-pub record IsKept (g : Grammar) (kept : Tables) (told : List AttrInfo) (ruled : List RuleInfo) (first : ℕ) : Type 0
+pub record IsKept (g : Grammar) (kept : Tables) (told : List AttrInfo) (ruled : List RuleInfo)
+    (read : List (List PartReads)) (first : ℕ) : Type 0
   where
     pub lawful : first_fault g ≡ None
     pub small : HasSmallCounts g
@@ -20,4 +23,5 @@ pub record IsKept (g : Grammar) (kept : Tables) (told : List AttrInfo) (ruled : 
     pub tables : kept ≡ tables_of g
     pub attrs : told ≡ map (attribute_info g) (all_attributes g)
     pub rules : ruled ≡ map (rule_info g) (all_rules g)
+    pub reads : map (map leaves_in) read ≡ map (rule_leaves g) (all_rules g)
     pub root : first ≡ interface_number g g.root

@@ -1,5 +1,4 @@
 pub mod Positions
-pub mod FindsRules
 pub mod Slots
 pub mod Needs
 pub mod Kept

@@ -10,7 +10,9 @@ use Rattle.ftl_grammar_faults.specs.declared.fault.GrammarFault.{GrammarFault}
 use Rattle.ftl_grammar_faults.specs.declared.fault.GrammarFault.TheVariants as fault
 use Rattle.ftl_grammar_faults.specs.declared.info.RuleInfo.{RuleInfo}
 use Rattle.ftl_checked.specs.declared.needs.KidOf.{KidOf}
+use Rattle.ftl_grammar_faults.specs.Allowed.{Leaf, Position}
 use Rattle.ftl_grammar_faults.specs.Checked.{info_by}
+use Rattle.ftl_checked.specs.ReadNumbers.{rule_leaves}
 use Rattle.ftl_grammar_faults.specs.FirstFault.{fault_if, first_of, is_ruled, rule_name}
 use Rattle.ftl_grammar_faults.specs.Numbering.{child_attributes, class_at}
 use Rattle.ftl_grammar_faults.specs.RuleForms.{Slot, is_inherited, is_synthesized_or_local, kid_slot, own_slot, slot_of}
@@ -38,3 +40,7 @@ kid_in kid = (kid.number, kid.child.now)
 -- what is told of the rules of a class
 abbrev pub infos_of : Grammar → ℕ × Class → List RuleInfo
 infos_of g k = map (λ r. info_by k.0 (slot_of g k.0 r.target)) k.1.rules
+
+-- what its rules read
+abbrev pub reads_of_class : Grammar → ℕ × Class → List (List (Position × List Leaf))
+reads_of_class g k = map (λ r. rule_leaves g (k.0, r)) k.1.rules

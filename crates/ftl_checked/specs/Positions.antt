@@ -1,10 +1,9 @@
 -- Where an expression of a rule stands, as code has it.
-use Rattle.std.specs.Prelude.{ℕ, ◌<◌, length, Option}
-use Rattle.std.specs.Option.{option_map}
+use Rattle.std.specs.Prelude.{ℕ, ◌<◌, length}
 use Rattle.ftl_syntax.specs.declared.rules.Grammar.{Grammar}
 use Rattle.ftl_checked.specs.declared.reading.At.{At}
 use Rattle.ftl_checked.specs.declared.reading.At.TheVariants as at
-use Rattle.ftl_grammar_faults.specs.Allowed.{Position, prev_form, this_form, for_kids, for_later, for_self, for_single}
+use Rattle.ftl_grammar_faults.specs.Allowed.{Position, for_kids, for_later, for_self, for_single}
 use Rattle.ftl_grammar_faults.specs.Allowed.{in_step}
 use Rattle.ftl_grammar_faults.specs.Numbering.{class_at}
 
@@ -23,11 +22,3 @@ IsWithin g k at.ForSingle = Unit {0}
 IsWithin g k (at.ForKids c) = c < length (class_at g k).children
 IsWithin g k (at.ForLater c) = c < length (class_at g k).children
 IsWithin g k (at.InStep c) = c < length (class_at g k).children
-
--- the child whose kid is at hand
-abbrev pub this_kid : Position → Option ℕ
-this_kid at = option_map (λ form. form.0) (this_form at)
-
--- the child whose kid before may be read
-abbrev pub prev_kid : Position → Option ℕ
-prev_kid at = option_map (λ form. form.0) (prev_form at)

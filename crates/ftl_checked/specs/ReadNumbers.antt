@@ -1,5 +1,5 @@
 -- What the names that a rule reads stand for, part by part.
-use Rattle.std.specs.Prelude.{ℕ, List, [], map, flat_map, Option, Some, None}
+use Rattle.std.specs.Prelude.{ℕ, List, [], map, flat_map, slice_index_or, Option, Some, None}
 use Rattle.std.specs.Option.{option_and_then, option_to_list}
 use Rattle.ftl_model.specs.AttributeGrammar.{each_read, last_read, prev_read, self_read, single_read, this_read}
 use Rattle.ftl_syntax.specs.declared.expression.Expr.{Expr}
@@ -11,6 +11,7 @@ use Rattle.ftl_checked.specs.declared.numbered_read.NumberedRead.{NumberedRead}
 use Rattle.ftl_checked.specs.declared.numbered_read.NumberedRead.TheVariants as code
 use Rattle.ftl_checked.specs.declared.numbered_read.PartReads.{PartReads}
 use Rattle.ftl_grammar_faults.specs.Allowed.{Leaf, Position, accumulator, leaf_of, of_read}
+use Rattle.ftl_grammar_faults.specs.Checked.{all_rules}
 use Rattle.ftl_checked.specs.Positions.{position_of}
 use Rattle.ftl_grammar_faults.specs.RuleForms.{Form, form_of, parts_of, slot_of}
 
@@ -41,6 +42,14 @@ rule_parts g k r = parts_by (option_and_then (λ slot. form_of g k slot r.body) 
 abbrev pub part_leaves : Grammar → (class : ℕ) → Position × Expr → Position × List Leaf
 part_leaves g k part = (part.0, leaves_of g k part.0 part.1)
 
--- the same as code has it
+-- what a rule of a class reads, part by part
+abbrev pub rule_leaves : Grammar → ℕ × Rule → List (Position × List Leaf)
+rule_leaves g r = map (part_leaves g r.0) (rule_parts g r.0 r.1)
+
+-- the same of the rule of this number; past the end nothing
+abbrev pub leaves_told : Grammar → (rule : ℕ) → List (Position × List Leaf)
+leaves_told g n = slice_index_or (map (rule_leaves g) (all_rules g)) n []
+
+-- what an expression reads as code has it
 abbrev pub leaves_in : PartReads → Position × List Leaf
 leaves_in part = (position_of part.at, map leaf_in part.reads)

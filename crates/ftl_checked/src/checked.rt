@@ -1,5 +1,7 @@
 //! A lawful grammar, with its numbers.
-ghost use Rattle.std.specs.Prelude.{◌≡◌, ◌<◌, None, length, IfOk};
+ghost use Rattle.std.specs.Prelude.{◌≡◌, ◌<◌, None, length, map, IfOk};
+ghost use Rattle.std.specs.Option.{option_map};
+ghost use Rattle.ftl_grammar_faults.specs.Allowed.{leaf_of};
 ghost use Rattle.ftl_grammar_faults.specs.Checked.{all_attributes, all_rules, attribute_at};
 ghost use Rattle.ftl_grammar_faults.specs.Checked.{attribute_info, attribute_named};
 ghost use Rattle.ftl_grammar_faults.specs.Checked.{child_info, class_named, field_named};
@@ -7,17 +9,23 @@ ghost use Rattle.ftl_grammar_faults.specs.Checked.{owner_name_of, rule_told};
 ghost use Rattle.ftl_grammar_faults.specs.Counts.{HasSmallCounts};
 ghost use Rattle.ftl_grammar_faults.specs.FirstFault.{first_fault};
 ghost use Rattle.ftl_grammar_faults.specs.Kinds.{HasKinds};
+ghost use Rattle.ftl_checked.specs.Positions.{IsWithin, position_of};
+ghost use Rattle.ftl_checked.specs.ReadNumbers.{leaf_in, leaves_in, leaves_told};
 ghost use Rattle.ftl_checked.specs.Kept.{IsKept};
 ghost use Rattle.ftl_grammar_faults.specs.Numbering.{class_at, child_at, interface_number};
 ghost use Rattle.ftl_grammar_faults.specs.Numbering.{interface_of};
 ghost use Rattle.ftl_grammar_faults.specs.RuleNames.{rule_name_at};
 ghost use Rattle.ftl_grammar_tables.specs.Tables.{tables_of};
 
+use crate::numbered_read::{NumberedRead, PartReads, number_of};
+use crate::reading::At;
+use crate::rules::Told;
 use ftl_base::Width;
 use ftl_grammar_faults::{AttrInfo, ChildInfo, Field, RuleInfo, RuleName};
 use ftl_grammar_tables::{
     Tables, attr_name, attribute_in, child_of, class_table, field_in, owner_name, rule_name,
 };
+use ftl_postfix::ReadRef;
 use ftl_syntax::Grammar;
 use ftl_tokens::Name;
 use sqlite_items::Items;
@@ -32,6 +40,7 @@ pub struct Checked {
     tables: Tables,
     attrs: Items<AttrInfo>,
     rules: Items<RuleInfo>,
+    reads: Items<Items<PartReads>>,
     root: u32,
 }
 
@@ -47,7 +56,7 @@ impl Model for Checked {
 
     ghost view = { λ c. record { grammar = c.grammar; width = c.width } };
 
-    ghost invariant = { λ c. IsKept c.grammar c.tables c.attrs c.rules c.root };
+    ghost invariant = { λ c. IsKept c.grammar c.tables c.attrs c.rules c.reads c.root };
 }
 
 impl Checked {
@@ -56,10 +65,10 @@ impl Checked {
         width: Width,
         tables: Tables,
         attrs: Items<AttrInfo>,
-        rules: Items<RuleInfo>,
+        told: Told,
         root: u32,
     ) -> Checked
-        requires kept { IsKept grammar tables attrs rules root }
+        requires kept { IsKept grammar tables attrs told.infos told.reads root }
         ensures grammar { result.grammar ≡ grammar }
         ensures width { result.width ≡ width }
     {
@@ -68,7 +77,8 @@ impl Checked {
             width,
             tables,
             attrs,
-            rules,
+            rules: told.infos,
+            reads: told.reads,
             root,
         }
     }
@@ -188,6 +198,25 @@ impl Checked {
         ensures info { result ≡ rule_told self.now.grammar rule }
     {
         self.rules.as_slice()[rule as usize]
+    }
+
+    /// What a rule reads, part by part in the order of the text.
+    pub fn rule_reads(&self, rule: u32) -> &[PartReads]
+        requires within { rule < length (all_rules self.now.grammar) }
+        ensures reads { map leaves_in result.now ≡ leaves_told self.now.grammar rule }
+    {
+        self.reads.as_slice()[rule as usize].as_slice()
+    }
+
+    /// What a read stands for in an expression of this class in this position; none where it may
+    /// not stand there.
+    pub fn read_number(&self, class: u32, at: At, read: &ReadRef<'_>) -> Option<NumberedRead>
+        requires within { class < length self.now.grammar.classes }
+        requires at { IsWithin self.now.grammar class at }
+        ensures leaf { option_map leaf_in result
+            ≡ leaf_of self.now.grammar class (position_of at) read.now }
+    {
+        number_of(&self.grammar, &self.tables, class, at, read)
     }
 
     /// What a rule defines, by name, as faults name it.

@@ -1,6 +1,7 @@
 //! What a rule defines, and which expressions it has where.
 ghost use Rattle.std.specs.Prelude.{◌≡◌, ℕ, ◌<◌, length, IfSome, IfOk};
 ghost use Rattle.std.specs.Option.{option_map, option_and_then};
+ghost use Rattle.ftl_declarations.specs.FlatRules.{body_in};
 ghost use Rattle.ftl_grammar_faults.specs.Counts.{HasSmallCounts};
 ghost use Rattle.ftl_grammar_faults.specs.FirstFault.{rule_name};
 ghost use Rattle.ftl_grammar_faults.specs.Numbering.{class_at, class_attributes, child_attributes};
@@ -15,14 +16,15 @@ ghost use Rattle.ftl_grammar_tables.specs.Tables.{tables_of};
 
 use crate::reading::At;
 use crate::slots::RuleSlot;
+use ftl_declarations::{FlatBody, FlatExpr};
 use ftl_grammar_tables::{Tables, child, child_of, class, class_attr, inherits, shared_attr};
-use ftl_syntax::{AttrKind, Body, Expr, Grammar, Target};
+use ftl_syntax::{AttrKind, Grammar, Target};
 
 /// An expression of a rule, with its position.
 #[derive(Drop)]
 pub struct Part<'a> {
     pub at: At,
-    pub expr: &'a Expr,
+    pub expr: &'a FlatExpr<'a>,
 }
 
 /// The expressions of a rule, in the order of the text.
@@ -111,13 +113,13 @@ pub(crate) fn form<'a>(
     tables: &Tables,
     class: u32,
     slot: RuleSlot,
-    body: &'a Body,
+    body: &'a FlatBody<'a>,
 ) -> Option<RuleForm<'a>>
     requires tables { tables.now ≡ tables_of grammar.now }
     requires within { class < length grammar.now.classes }
     requires slot { IsSlotIn grammar.now class slot }
     ensures form { option_map parts_in result
-        ≡ option_map parts_of (form_of grammar.now class (slot_in slot) body.now) }
+        ≡ option_map parts_of (form_of grammar.now class (slot_in slot) (body_in body.now)) }
     ensures children { IfSome result (IsFormIn grammar.now class) }
 {
     match slot {
@@ -133,18 +135,18 @@ fn own_form<'a>(
     grammar: &Grammar,
     tables: &Tables,
     class: u32,
-    body: &'a Body,
+    body: &'a FlatBody<'a>,
 ) -> Option<RuleForm<'a>>
     requires tables { tables.now ≡ tables_of grammar.now }
     requires within { class < length grammar.now.classes }
     ensures form { (a : ℕ) → option_map parts_in result
-        ≡ option_map parts_of (form_of grammar.now class (own_slot a) body.now) }
+        ≡ option_map parts_of (form_of grammar.now class (own_slot a) (body_in body.now)) }
     ensures children { IfSome result (IsFormIn grammar.now class) }
 {
     match body {
-        Body::Plain(expr) => Some(one(At::ForSelf, expr)),
-        Body::FirstThen(_, _) => None,
-        Body::Fold(name, start, step) => match child(grammar, tables, class, name.text()) {
+        FlatBody::Plain(expr) => Some(one(At::ForSelf, expr)),
+        FlatBody::FirstThen(_, _) => None,
+        FlatBody::Fold(name, start, step) => match child(grammar, tables, class, name.text()) {
             Some(found) => {
                 if found.info.many {
                     Some(two(At::ForSelf, start, At::InStep(found.number), step))
@@ -157,32 +159,33 @@ fn own_form<'a>(
     }
 }
 
-fn kid_form<'a>(kid: u32, many: bool, body: &'a Body) -> Option<RuleForm<'a>>
+fn kid_form<'a>(kid: u32, many: bool, body: &'a FlatBody<'a>) -> Option<RuleForm<'a>>
     ensures form { (g : Grammar) (k a : ℕ) → many ≡ (child_at g k kid).many
-        → option_map parts_in result ≡ option_map parts_of (form_of g k (kid_slot kid a) body.now) }
+        → option_map parts_in result
+        ≡ option_map parts_of (form_of g k (kid_slot kid a) (body_in body.now)) }
     ensures children { (g : Grammar) (k : ℕ) → kid < length (class_at g k).children
         → IfSome result (IsFormIn g k) }
 {
     match body {
-        Body::Plain(expr) => {
+        FlatBody::Plain(expr) => {
             if many {
                 Some(one(At::ForKids(kid), expr))
             } else {
                 Some(one(At::ForSingle, expr))
             }
         }
-        Body::FirstThen(first, later) => {
+        FlatBody::FirstThen(first, later) => {
             if many {
                 Some(two(At::ForKids(kid), first, At::ForLater(kid), later))
             } else {
                 None
             }
         }
-        Body::Fold(_, _, _) => None,
+        FlatBody::Fold(_, _, _) => None,
     }
 }
 
-fn one<'a>(at: At, expr: &'a Expr) -> RuleForm<'a>
+fn one<'a>(at: At, expr: &'a FlatExpr<'a>) -> RuleForm<'a>
     ensures first { result.first ≡ record { at = at; expr = expr.entry } }
     ensures second { result.second ≡ None }
 {
@@ -192,7 +195,7 @@ fn one<'a>(at: At, expr: &'a Expr) -> RuleForm<'a>
     }
 }
 
-fn two<'a>(at: At, first: &'a Expr, then: At, second: &'a Expr) -> RuleForm<'a>
+fn two<'a>(at: At, first: &'a FlatExpr<'a>, then: At, second: &'a FlatExpr<'a>) -> RuleForm<'a>
     ensures first { result.first ≡ record { at = at; expr = first.entry } }
     ensures second { result.second ≡ Some (record { at = then; expr = second.entry }) }
 {

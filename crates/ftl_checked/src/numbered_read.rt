@@ -1,5 +1,5 @@
 //! What the reads of rules are, by number.
-ghost use Rattle.std.specs.Prelude.{◌≡◌, [], ◌∷◌, ◌<◌, length, map, IfOk};
+ghost use Rattle.std.specs.Prelude.{◌≡◌, ◌<◌, length};
 ghost use Rattle.std.specs.Option.{option_and_then, option_map};
 ghost use Rattle.ftl_model.specs.AttributeGrammar.{self_read};
 ghost use Rattle.ftl_grammar_faults.specs.Allowed.{last_leaf, leaf_by, leaf_of, prev_form};
@@ -8,19 +8,14 @@ ghost use Rattle.ftl_grammar_faults.specs.Counts.{HasSmallCounts};
 ghost use Rattle.ftl_checked.specs.Positions.{IsWithin, position_of};
 ghost use Rattle.ftl_grammar_faults.specs.Numbering.{child_at, child_attributes, class_at};
 ghost use Rattle.ftl_grammar_faults.specs.Numbering.{class_attributes, find_attribute, find_child};
-ghost use Rattle.ftl_checked.specs.ReadNumbers.{leaf_in, leaves_in, leaves_of, part_leaves};
-ghost use Rattle.ftl_checked.specs.ReadNumbers.{rule_parts};
-ghost use Rattle.ftl_checked.specs.Slots.{IsFormIn, part_in, parts_in};
+ghost use Rattle.ftl_checked.specs.ReadNumbers.{leaf_in};
 ghost use Rattle.ftl_grammar_tables.specs.Tables.{tables_of};
 
-use crate::checked::Checked;
-use crate::forms::{Part, RuleForm, form, slot};
 use crate::reading::{At, reads_acc, reads_last};
 use ftl_grammar_tables::{Tables, child, child_of, class_attr, shared_attr};
-use ftl_postfix::{ReadKind, ReadRef, reads};
-use ftl_syntax::{Grammar, Rule};
+use ftl_postfix::{ReadKind, ReadRef};
+use ftl_syntax::Grammar;
 use sqlite_items::Items;
-use std::alloc::{AllocError, Global};
 
 /// What a name in a rule stands for: the child, if there is one, and the attribute.
 #[derive(Clone, Copy, Debug, PartialEq, Eq)]
@@ -48,91 +43,9 @@ pub struct PartReads {
     pub reads: Items<NumberedRead>,
 }
 
-impl Checked {
-    /// What a read stands for in an expression of this class in this position; none where it may
-    /// not stand there.
-    pub fn read_number(&self, class: u32, at: At, read: &ReadRef<'_>) -> Option<NumberedRead>
-        requires within { class < length self.now.grammar.classes }
-        requires at { IsWithin self.now.grammar class at }
-        ensures leaf { option_map leaf_in result
-            ≡ leaf_of self.now.grammar class (position_of at) read.now }
-    {
-        number_of(self.grammar(), self.tables(), class, at, read)
-    }
-
-    /// What a rule of this class reads, part by part in the order of the text.
-    pub fn rule_reads(
-        &self,
-        alloc: Global,
-        class: u32,
-        rule: &Rule,
-    ) -> Result<Items<PartReads>, AllocError>
-        requires within { class < length self.now.grammar.classes }
-        ensures reads { IfOk result (λ parts. map leaves_in parts
-            ≡ map (part_leaves self.now.grammar class)
-            (rule_parts self.now.grammar class rule.now)) }
-    {
-        let (grammar, tables) = (self.grammar(), self.tables());
-        let Some(slot) = slot(grammar, tables, class, &rule.target) else {
-            return Ok(Items::new(alloc));
-        };
-        match form(grammar, tables, class, slot, &rule.body) {
-            Some(form) => form_numbers(alloc, grammar, tables, class, &form),
-            None => Ok(Items::new(alloc)),
-        }
-    }
-}
-
-fn form_numbers(
-    alloc: Global,
-    grammar: &Grammar,
-    tables: &Tables,
-    class: u32,
-    form: &RuleForm<'_>,
-) -> Result<Items<PartReads>, AllocError>
-    requires small { HasSmallCounts grammar.now }
-    requires tables { tables.now ≡ tables_of grammar.now }
-    requires within { class < length grammar.now.classes }
-    requires form { IsFormIn grammar.now class form.now }
-    ensures reads { IfOk result (λ parts. map leaves_in parts
-        ≡ map (part_leaves grammar.now class) (parts_in form.now)) }
-{
-    let mut parts = Items::new(alloc);
-    parts.push(part_numbers(alloc, grammar, tables, class, &form.first)?)?;
-    if let Some(second) = &form.second {
-        parts.push(part_numbers(alloc, grammar, tables, class, second)?)?;
-    }
-    Ok(parts)
-}
-
-fn part_numbers(
-    alloc: Global,
-    grammar: &Grammar,
-    tables: &Tables,
-    class: u32,
-    part: &Part<'_>,
-) -> Result<PartReads, AllocError>
-    requires small { HasSmallCounts grammar.now }
-    requires tables { tables.now ≡ tables_of grammar.now }
-    requires within { class < length grammar.now.classes }
-    requires at { IsWithin grammar.now class part.now.at }
-    ensures reads { IfOk result (λ r. leaves_in r
-        ≡ part_leaves grammar.now class (part_in part.now)) }
-{
-    let found = reads(alloc, part.expr)?;
-    let mut numbers = Items::new(alloc);
-    for read in &found {
-        if let Some(number) = number_of(grammar, tables, class, part.at, read) {
-            numbers.push(number)?;
-        }
-    }
-    Ok(PartReads {
-        at: part.at,
-        reads: numbers,
-    })
-}
-
-fn number_of(
+/// What a read stands for in an expression of this class in this position; none where it may not
+/// stand there, or names nothing.
+pub(crate) fn number_of(
     grammar: &Grammar,
     tables: &Tables,
     class: u32,

@@ -1,12 +1,12 @@
-//! The conditions on rules.
+//! The conditions on rules, and what their reads are by number.
 ghost use Rattle.std.specs.Prelude.{◌≡◌, ◌++◌, [], ◌<◌, false, Some, length, map, IfOk};
 ghost use Rattle.std.specs.List.{list_any};
 ghost use Rattle.std.specs.Option.{is_none};
+ghost use Rattle.ftl_declarations.specs.FlatRules.{rule_in};
 ghost use Rattle.ftl_grammar_faults.specs.Allowed.{leaf_of};
 ghost use Rattle.ftl_grammar_faults.specs.Checked.{info_by};
 ghost use Rattle.ftl_grammar_faults.specs.Counts.{HasSmallCounts};
-ghost use Rattle.ftl_grammar_faults.specs.Finds.{Finds};
-ghost use Rattle.ftl_checked.specs.FindsRules.{FindsRules, FindsRule};
+ghost use Rattle.ftl_grammar_faults.specs.Finds.{FindsInfos};
 ghost use Rattle.ftl_grammar_faults.specs.FirstFault.{bad_read, first_of, first_there, form_fault};
 ghost use Rattle.ftl_grammar_faults.specs.FirstFault.{rule_fault, rule_faults, rule_name};
 ghost use Rattle.ftl_grammar_faults.specs.FirstFault.{same_slot};
@@ -14,43 +14,60 @@ ghost use Rattle.ftl_grammar_faults.specs.FirstFault.{fault_if};
 ghost use Rattle.ftl_checked.specs.Positions.{IsWithin};
 ghost use Rattle.ftl_grammar_faults.specs.Numbering.{class_at};
 ghost use Rattle.ftl_grammar_faults.specs.RuleForms.{form_of, slot_of};
+ghost use Rattle.ftl_checked.specs.ReadNumbers.{leaf_in, leaves_in, part_leaves, parts_by};
+ghost use Rattle.ftl_checked.specs.ReadNumbers.{rule_leaves};
 ghost use Rattle.ftl_checked.specs.Slots.{IsFormIn, IsSlotIn, part_in, parts_in, slot_in, slots_of};
 ghost use Rattle.ftl_grammar_tables.specs.Tables.{tables_of};
 ghost use Rattle.ftl_grammar_faults.specs.declared.fault.GrammarFault.TheVariants as fault;
 
 use crate::forms::{Part, RuleForm, form, slot};
-use crate::reading::may_read;
+use crate::numbered_read::{NumberedRead, PartReads, number_of};
 use crate::slots::{RuleSlot, Ruled};
+use ftl_declarations::FlatRule;
 use ftl_grammar_faults::{GrammarFault, RuleInfo};
-use ftl_grammar_tables::{Tables, class, name_of};
-use ftl_postfix::{ReadRef, reads};
-use ftl_syntax::{Grammar, Rule, Target};
+use ftl_grammar_tables::{Tables, name_of};
+use ftl_postfix::ReadRef;
+use ftl_syntax::{Grammar, Target};
+use sqlite_items::Items;
 use std::alloc::Global;
 
-/// Looks at the rules of a class, and adds to `infos` what is told of each.
+/// What is told of rules, and what they read, in the order of their numbers.
+#[derive(Drop)]
+pub struct Told {
+    pub infos: Items<RuleInfo>,
+    pub reads: Items<Items<PartReads>>,
+}
+
+/// Looks at the rules of a class, and adds to `told` what is told of each and what it reads.
 pub(crate) fn class_rules(
     alloc: Global,
     grammar: &Grammar,
     tables: &Tables,
     number: u32,
-    infos: &mut Vec<RuleInfo>,
+    rules: &[FlatRule<'_>],
+    told: &mut Told,
 ) -> Result<Ruled, GrammarFault>
     requires small { HasSmallCounts grammar.now }
     requires tables { tables.now ≡ tables_of grammar.now }
     requires within { number < length grammar.now.classes }
-    ensures finds { FindsRules (first_there (rule_faults grammar.now number []
+    requires rules { map rule_in rules.now ≡ (class_at grammar.now number).rules }
+    ensures finds { FindsInfos (first_there (rule_faults grammar.now number []
         (class_at grammar.now number).rules)) result }
     ensures slots { IfOk result (λ r. r
         ≡ slots_of grammar.now number (class_at grammar.now number).rules) }
-    ensures infos { IfOk result (λ r. infos.new.items ≡ infos.old.items
+    ensures infos { IfOk result (λ r. told.new.infos ≡ told.old.infos
         ++ map (λ r. info_by number (slot_of grammar.now number r.target))
         (class_at grammar.now number).rules) }
+    ensures reads { IfOk result (λ r. map (map leaves_in) told.new.reads
+        ≡ map (map leaves_in) told.old.reads
+        ++ map (λ r. rule_leaves grammar.now (number, r)) (class_at grammar.now number).rules) }
 {
     let mut ruled = Ruled::new(alloc);
-    for rule in class(grammar, number).rules.as_slice() {
-        let slot = one_rule(alloc, grammar, tables, number, rule, &ruled)?;
+    for rule in rules {
+        let (slot, reads) = one_rule(alloc, grammar, tables, number, rule, &ruled)?;
         ruled.add(slot)?;
-        infos.push(info_of(number, slot))?;
+        told.infos.push(info_of(number, slot))?;
+        told.reads.push(reads)?;
     }
     Ok(ruled)
 }
@@ -72,69 +89,73 @@ fn info_of(number: u32, slot: RuleSlot) -> RuleInfo
     }
 }
 
-/// Looks at one rule, where earlier ones have those slots, and gives its slot.
+/// Looks at one rule, where earlier ones have those slots, and gives its slot and what it reads.
 fn one_rule(
     alloc: Global,
     grammar: &Grammar,
     tables: &Tables,
     number: u32,
-    rule: &Rule,
+    rule: &FlatRule<'_>,
     ruled: &Ruled,
-) -> Result<RuleSlot, GrammarFault>
+) -> Result<(RuleSlot, Items<PartReads>), GrammarFault>
     requires small { HasSmallCounts grammar.now }
     requires tables { tables.now ≡ tables_of grammar.now }
     requires within { number < length grammar.now.classes }
-    ensures finds { FindsRule (rule_fault grammar.now number
-        (rule_name (class_at grammar.now number) rule.now.target) ruled.now rule.now.body
-        (slot_of grammar.now number rule.now.target)) result }
-    ensures slot { IfOk result (λ s. slot_of grammar.now number rule.now.target
-        ≡ Some (slot_in s)) }
-    ensures new { IfOk result (λ s. list_any (same_slot (slot_in s)) ruled.now ≡ false) }
+    ensures finds { FindsInfos (rule_fault grammar.now number
+        (rule_name (class_at grammar.now number) (rule_in rule.now).target) ruled.now
+        (rule_in rule.now).body (slot_of grammar.now number (rule_in rule.now).target)) result }
+    ensures slot { IfOk result (λ r. slot_of grammar.now number (rule_in rule.now).target
+        ≡ Some (slot_in r.0)) }
+    ensures new { IfOk result (λ r. list_any (same_slot (slot_in r.0)) ruled.now ≡ false) }
+    ensures reads { IfOk result (λ r. map leaves_in r.1
+        ≡ rule_leaves grammar.now (number, rule_in rule.now)) }
 {
-    match slot(grammar, tables, number, &rule.target) {
+    match slot(grammar, tables, number, rule.target) {
         Some(slot) => {
-            slot_form(alloc, grammar, tables, number, rule, slot, ruled.has(slot))?;
-            Ok(slot)
+            let reads = slot_form(alloc, grammar, tables, number, rule, slot, ruled.has(slot))?;
+            Ok((slot, reads))
         }
         None => Err(GrammarFault::NotAssignable {
-            rule: name_of(alloc, grammar, number, &rule.target)?,
+            rule: name_of(alloc, grammar, number, rule.target)?,
         }),
     }
 }
 
-/// Looks at the form of a rule for this slot.
+/// Looks at the form of a rule for this slot, and gives what it reads.
 fn slot_form(
     alloc: Global,
     grammar: &Grammar,
     tables: &Tables,
     number: u32,
-    rule: &Rule,
+    rule: &FlatRule<'_>,
     slot: RuleSlot,
     is_second: bool,
-) -> Result<(), GrammarFault>
+) -> Result<Items<PartReads>, GrammarFault>
     requires small { HasSmallCounts grammar.now }
     requires tables { tables.now ≡ tables_of grammar.now }
     requires within { number < length grammar.now.classes }
     requires slot { IsSlotIn grammar.now number slot }
-    ensures finds { Finds (form_fault grammar.now number
-        (rule_name (class_at grammar.now number) rule.now.target) is_second
-        (form_of grammar.now number (slot_in slot) rule.now.body)) result }
+    ensures finds { FindsInfos (form_fault grammar.now number
+        (rule_name (class_at grammar.now number) (rule_in rule.now).target) is_second
+        (form_of grammar.now number (slot_in slot) (rule_in rule.now).body)) result }
     ensures first { IfOk result (λ done. is_second ≡ false) }
+    ensures reads { IfOk result (λ r. map leaves_in r ≡ map (part_leaves grammar.now number)
+        (parts_by (form_of grammar.now number (slot_in slot) (rule_in rule.now).body))) }
 {
     let Some(found) = form(grammar, tables, number, slot, &rule.body) else {
         return Err(GrammarFault::BadForm {
-            rule: name_of(alloc, grammar, number, &rule.target)?,
+            rule: name_of(alloc, grammar, number, rule.target)?,
         });
     };
     if is_second {
         return Err(GrammarFault::TwiceRuled {
-            rule: name_of(alloc, grammar, number, &rule.target)?,
+            rule: name_of(alloc, grammar, number, rule.target)?,
         });
     }
-    form_reads(alloc, grammar, tables, number, &rule.target, &found)
+    form_reads(alloc, grammar, tables, number, rule.target, &found)
 }
 
-/// Looks at the reads of a rule.
+/// Looks at the reads of a rule, and numbers them part by part.
 fn form_reads(
     alloc: Global,
     grammar: &Grammar,
@@ -142,19 +163,22 @@ fn form_reads(
     number: u32,
     target: &Target,
     form: &RuleForm<'_>,
-) -> Result<(), GrammarFault>
+) -> Result<Items<PartReads>, GrammarFault>
     requires small { HasSmallCounts grammar.now }
     requires tables { tables.now ≡ tables_of grammar.now }
     requires within { number < length grammar.now.classes }
     requires form { IsFormIn grammar.now number form.now }
-    ensures finds { Finds (first_of (bad_read grammar.now number
+    ensures finds { FindsInfos (first_of (bad_read grammar.now number
         (rule_name (class_at grammar.now number) target.now)) (parts_in form.now)) result }
+    ensures reads { IfOk result (λ r. map leaves_in r
+        ≡ map (part_leaves grammar.now number) (parts_in form.now)) }
 {
-    part_reads(alloc, grammar, tables, number, target, &form.first)?;
-    match &form.second {
-        Some(part) => part_reads(alloc, grammar, tables, number, target, part),
-        None => Ok(()),
+    let mut parts = Items::new(alloc);
+    parts.push(part_reads(alloc, grammar, tables, number, target, &form.first)?)?;
+    if let Some(part) = &form.second {
+        parts.push(part_reads(alloc, grammar, tables, number, target, part)?)?;
     }
+    Ok(parts)
 }
 
 #[tactic(auto, using(ftl_grammar_faults::proofs::First::first_steps))]
@@ -165,19 +189,24 @@ fn part_reads(
     number: u32,
     target: &Target,
     part: &Part<'_>,
-) -> Result<(), GrammarFault>
+) -> Result<PartReads, GrammarFault>
     requires small { HasSmallCounts grammar.now }
     requires tables { tables.now ≡ tables_of grammar.now }
     requires within { number < length grammar.now.classes }
     requires at { IsWithin grammar.now number part.now.at }
-    ensures finds { Finds (bad_read grammar.now number
+    ensures finds { FindsInfos (bad_read grammar.now number
         (rule_name (class_at grammar.now number) target.now) (part_in part.now)) result }
+    ensures reads { IfOk result (λ r. leaves_in r
+        ≡ part_leaves grammar.now number (part_in part.now)) }
 {
-    let found = reads(alloc, part.expr)?;
-    for read in &found {
-        one_read(alloc, grammar, tables, number, target, part, read)?;
+    let mut numbers = Items::new(alloc);
+    for read in part.expr.reads() {
+        numbers.push(one_read(alloc, grammar, tables, number, target, part, read)?)?;
     }
-    Ok(())
+    Ok(PartReads {
+        at: part.at,
+        reads: numbers,
+    })
 }
 
 fn one_read(
@@ -188,20 +217,22 @@ fn one_read(
     target: &Target,
     part: &Part<'_>,
     read: &ReadRef<'_>,
-) -> Result<(), GrammarFault>
+) -> Result<NumberedRead, GrammarFault>
     requires small { HasSmallCounts grammar.now }
     requires tables { tables.now ≡ tables_of grammar.now }
     requires within { number < length grammar.now.classes }
     requires at { IsWithin grammar.now number part.now.at }
-    ensures finds { Finds (fault_if (is_none (leaf_of grammar.now number
+    ensures finds { FindsInfos (fault_if (is_none (leaf_of grammar.now number
         (part_in part.now).0 read.now)) (fault.BadRead
         (rule_name (class_at grammar.now number) target.now) read.now)) result }
+    ensures leaf { IfOk result (λ n. leaf_of grammar.now number (part_in part.now).0 read.now
+        ≡ Some (leaf_in n)) }
 {
-    if may_read(grammar, tables, number, part.at, read) {
-        return Ok(());
+    match number_of(grammar, tables, number, part.at, read) {
+        Some(number) => Ok(number),
+        None => Err(GrammarFault::BadRead {
+            rule: name_of(alloc, grammar, number, target)?,
+            read: read.to_name()?,
+        }),
     }
-    Err(GrammarFault::BadRead {
-        rule: name_of(alloc, grammar, number, target)?,
-        read: read.to_name()?,
-    })
 }

@@ -1,2 +1,3 @@
 pub mod NameFaults
+pub mod FlatRules
 pub use Rattle.ftl_syntax.specs.Trees

@@ -2,8 +2,10 @@
 //! grammar as it is written, with its tables. Comes out: the first fault among these conditions.
 #![tactic(auto)]
 
+mod flat;
 mod limits;
 mod names;
 
+pub use flat::{FlatBody, FlatExpr, FlatRule};
 pub use limits::limits_hold;
 pub use names::names_stand;

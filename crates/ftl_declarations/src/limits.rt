@@ -1,24 +1,32 @@
 //! The first condition: how much there may be of anything.
-ghost use Rattle.std.specs.Prelude.{◌≡◌, ◌+◌, ◌<◌, length, filter, IfOk};
+ghost use Rattle.std.specs.Prelude.{◌≡◌, ◌+◌, ◌<◌, length, filter, map, IfOk};
 ghost use Rattle.std.specs.List.{All};
 ghost use Rattle.ftl_grammar_faults.specs.Counts.{IsSmall, HasSmallInterface, HasSmallRule};
 ghost use Rattle.ftl_grammar_faults.specs.Counts.{HasSmallClass, HasSmallCounts};
-ghost use Rattle.ftl_grammar_faults.specs.Finds.{Finds};
+ghost use Rattle.ftl_grammar_faults.specs.Finds.{Finds, FindsInfos};
 ghost use Rattle.ftl_grammar_faults.specs.Numbering.{own_count, shared_count};
 ghost use Rattle.ftl_grammar_faults.specs.FirstFault.{first_of, too_many, is_counted, read_count};
 ghost use Rattle.ftl_grammar_faults.specs.FirstFault.{class_limits, read_limits, limit_fault};
+ghost use Rattle.ftl_grammar_faults.specs.RuleForms.{expressions_of};
+ghost use Rattle.ftl_declarations.specs.FlatRules.{body_in, rule_in, rules_in, rules_of_each};
 ghost use Rattle.ftl_grammar_faults.specs.declared.fault.What.TheVariants as what;
 
+use crate::flat::{FlatBody, FlatExpr, FlatRule, flat_rule};
 use ftl_grammar_faults::{GrammarFault, What};
 use ftl_grammar_tables::shared;
-use ftl_postfix::{ReadKind, ReadRef, reads};
-use ftl_syntax::{Body, Class, Expr, Grammar, Interface, Rule};
+use ftl_postfix::{ReadKind, ReadRef};
+use ftl_syntax::{Class, Grammar, Interface, Rule};
+use sqlite_items::Items;
 use std::alloc::Global;
 
-/// Looks for more of anything than there may be.
-pub fn limits_hold(alloc: Global, grammar: &Grammar) -> Result<(), GrammarFault>
+/// Looks for more of anything than there may be, and gives the rules of each class, flattened.
+pub fn limits_hold<'a>(
+    alloc: Global,
+    grammar: &'a Grammar,
+) -> Result<Items<Items<FlatRule<'a>>>, GrammarFault>
     requires small { HasSmallCounts grammar.now }
-    ensures finds { Finds (limit_fault grammar.now) result }
+    ensures finds { FindsInfos (limit_fault grammar.now) result }
+    ensures rules { IfOk result (λ flat. rules_in flat ≡ rules_of_each grammar.now.classes) }
 {
     let interfaces = grammar.interfaces.as_slice();
     let classes = grammar.classes.as_slice();
@@ -27,7 +35,7 @@ pub fn limits_hold(alloc: Global, grammar: &Grammar) -> Result<(), GrammarFault>
     interface_limits(interfaces)?;
     classes_limits(classes)?;
     limit(What::AllAttributes, 2048, shared(interfaces) + own(classes))?;
-    all_read_limits(alloc, classes)
+    all_flat_rules(alloc, classes)
 }
 
 fn limit(what: What, most: usize, count: usize) -> Result<(), GrammarFault>
@@ -87,51 +95,61 @@ fn own(classes: &[Class]) -> usize
     count
 }
 
+/// Flattens the rules of all classes, and looks at how much each expression reads.
 #[tactic(auto, using(ftl_grammar_faults::proofs::First::first_steps))]
-fn all_read_limits(alloc: Global, classes: &[Class]) -> Result<(), GrammarFault>
+fn all_flat_rules<'a>(
+    alloc: Global,
+    classes: &'a [Class],
+) -> Result<Items<Items<FlatRule<'a>>>, GrammarFault>
     requires small { All HasSmallClass classes.now }
-    ensures finds { Finds (first_of (λ x. first_of read_limits x.rules) classes.now) result }
+    ensures finds { FindsInfos (first_of (λ x. first_of read_limits x.rules) classes.now) result }
+    ensures rules { IfOk result (λ flat. rules_in flat ≡ rules_of_each classes.now) }
 {
+    let mut flat = Items::new(alloc);
     for class in classes {
-        rules_limits(alloc, class.rules.as_slice())?;
+        flat.push(flat_rules(alloc, class.rules.as_slice())?)?;
     }
-    Ok(())
+    Ok(flat)
 }
 
 #[tactic(auto, using(ftl_grammar_faults::proofs::First::first_steps))]
-fn rules_limits(alloc: Global, rules: &[Rule]) -> Result<(), GrammarFault>
+fn flat_rules<'a>(alloc: Global, rules: &'a [Rule]) -> Result<Items<FlatRule<'a>>, GrammarFault>
     requires small { All HasSmallRule rules.now }
-    ensures finds { Finds (first_of read_limits rules.now) result }
+    ensures finds { FindsInfos (first_of read_limits rules.now) result }
+    ensures rules { IfOk result (λ flat. map rule_in flat ≡ rules.now) }
 {
+    let mut flat = Items::new(alloc);
     for rule in rules {
-        rule_limits(alloc, rule)?;
+        let one = flat_rule(alloc, rule)?;
+        body_limits(&one.body)?;
+        flat.push(one)?;
     }
-    Ok(())
+    Ok(flat)
 }
 
-fn rule_limits(alloc: Global, rule: &Rule) -> Result<(), GrammarFault>
-    requires small { HasSmallRule rule.now }
-    ensures finds { Finds (read_limits rule.now) result }
+fn body_limits(body: &FlatBody<'_>) -> Result<(), GrammarFault>
+    requires small { All (λ e. IsSmall (read_count e)) (expressions_of (body_in body.now)) }
+    ensures finds { Finds (first_of (λ e. too_many what.Reads 256 (read_count e))
+        (expressions_of (body_in body.now))) result }
 {
-    match &rule.body {
-        Body::Plain(expr) => expr_limit(alloc, expr),
-        Body::FirstThen(first, later) => {
-            expr_limit(alloc, first)?;
-            expr_limit(alloc, later)
+    match body {
+        FlatBody::Plain(expr) => expr_limit(expr),
+        FlatBody::FirstThen(first, later) => {
+            expr_limit(first)?;
+            expr_limit(later)
         }
-        Body::Fold(_, start, step) => {
-            expr_limit(alloc, start)?;
-            expr_limit(alloc, step)
+        FlatBody::Fold(_, start, step) => {
+            expr_limit(start)?;
+            expr_limit(step)
         }
     }
 }
 
-fn expr_limit(alloc: Global, expr: &Expr) -> Result<(), GrammarFault>
+fn expr_limit(expr: &FlatExpr<'_>) -> Result<(), GrammarFault>
     requires small { IsSmall (read_count expr.now) }
     ensures finds { Finds (too_many what.Reads 256 (read_count expr.now)) result }
 {
-    let found = reads(alloc, expr)?;
-    limit(What::Reads, 256, counted(found.as_slice()))
+    limit(What::Reads, 256, counted(expr.reads()))
 }
 
 /// How many reads these are, without `acc`.

@@ -1,5 +1,6 @@
 pub mod AttrKinds
 pub mod WrittenDeps
+pub mod RuleRows
 pub mod DepRows
 pub mod FirstRules
 pub mod ProductTests

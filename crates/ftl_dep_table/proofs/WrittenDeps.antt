@@ -6,42 +6,36 @@ use Rattle.std.proofs.lemmas.Grind.{flat_map-append}
 use Rattle.ftl_model.specs.AttributeGrammar.{AttributeGrammar, Read}
 use Rattle.ftl_syntax.specs.declared.expression.Expr.{Expr}
 use Rattle.ftl_syntax.specs.declared.rules.Grammar.{Grammar}
-use Rattle.ftl_syntax.specs.declared.rules.Rule.{Rule}
 use Rattle.ftl_formula.specs.Expressions.{formula_of}
 use Rattle.ftl_formula.specs.Formula.{reads_of}
 use Rattle.ftl_formula.specs.declared.read_name.ReadName.{ReadName}
 use Rattle.ftl_grammar_faults.specs.Allowed.{Leaf, Position, leaf_of}
-use Rattle.ftl_grammar_faults.specs.Checked.{CheckedGrammar}
-use Rattle.ftl_checked.specs.ReadNumbers.{leaf_in, leaves_in, part_leaves, rule_parts}
+use Rattle.ftl_checked.specs.ReadNumbers.{leaf_in, leaves_in, part_leaves}
 use Rattle.ftl_checked.specs.declared.numbered_read.NumberedRead.{NumberedRead}
 use Rattle.ftl_checked.specs.declared.numbered_read.PartReads.{PartReads}
 use Rattle.ftl_deps.specs.DepReads.{dep_read}
 use Rattle.ftl_meaning.specs.Meaning.{expression_reads, read_of}
-use Rattle.ftl_dep_table.specs.Meant.{deps_in, meant, part_deps, written_deps}
-
--- the reads that some names stand for
-abbrev among : List Leaf → List Read
-among leaves = flat_map (λ leaf. option_to_list (read_of leaf)) leaves
+use Rattle.ftl_dep_table.specs.Meant.{deps_by_leaves, deps_in, part_deps, reads_among}
 
 one_dep : (m : AttributeGrammar) (o : Option Read)
     → option_to_list (option_map (dep_read m) o) ≡ map (dep_read m) (option_to_list o)
 one_dep m None = refl
 one_dep m (Some r) = refl
 
-deps_are : (m : AttributeGrammar) (rs : List NumberedRead) → deps_in m rs ≡ map (dep_read m) (among (map leaf_in rs))
+deps_are : (m : AttributeGrammar) (rs : List NumberedRead) → deps_in m rs ≡ map (dep_read m) (reads_among (map leaf_in rs))
 deps_are m [] = refl
 deps_are m (r ∷ rs) =
     ap₂ (λ a b. a ++ b) (one_dep m (read_of (leaf_in r))) (deps_are m rs)
-    ∙ sym (map-append (dep_read m) (option_to_list (read_of (leaf_in r))) (among (map leaf_in rs)))
+    ∙ sym (map-append (dep_read m) (option_to_list (read_of (leaf_in r))) (reads_among (map leaf_in rs)))
 
 all_parts : (m : AttributeGrammar) (ps : List PartReads)
-    → flat_map (part_deps m) ps ≡ map (dep_read m) (flat_map (λ (q : Position × List Leaf). among q.1) (map leaves_in ps))
+    → flat_map (part_deps m) ps ≡ map (dep_read m) (flat_map (λ (q : Position × List Leaf). reads_among q.1) (map leaves_in ps))
 all_parts m [] = refl
 all_parts m (p ∷ ps) =
     ap₂ (λ a b. a ++ b) (deps_are m p.reads) (all_parts m ps)
-    ∙ sym (map-append (dep_read m) (among (map leaf_in p.reads)) (flat_map (λ (q : Position × List Leaf). among q.1) (map leaves_in ps)))
+    ∙ sym (map-append (dep_read m) (reads_among (map leaf_in p.reads)) (flat_map (λ (q : Position × List Leaf). reads_among q.1) (map leaves_in ps)))
 
-one_leaf : (o : Option Leaf) → among (option_to_list o) ≡ option_to_list (option_and_then read_of o)
+one_leaf : (o : Option Leaf) → reads_among (option_to_list o) ≡ option_to_list (option_and_then read_of o)
 one_leaf None = refl
 one_leaf (Some l) = by_read (read_of l)
   where
@@ -50,8 +44,8 @@ one_leaf (Some l) = by_read (read_of l)
     by_read (Some r) = refl
 
 module _ (g : Grammar) (k : ℕ) where
-  names_are : (at : Position) (names : List ReadName)
-      → among (flat_map (λ name. option_to_list (leaf_of g k at name)) names)
+  pub names_are : (at : Position) (names : List ReadName)
+      → reads_among (flat_map (λ name. option_to_list (leaf_of g k at name)) names)
       ≡ flat_map (λ name. option_to_list (option_and_then read_of (leaf_of g k at name))) names
   names_are at [] = refl
   names_are at (name ∷ names) =
@@ -59,17 +53,13 @@ module _ (g : Grammar) (k : ℕ) where
       (flat_map (λ name. option_to_list (leaf_of g k at name)) names)
       ∙ ap₂ (λ a b. a ++ b) (one_leaf (leaf_of g k at name)) (names_are at names)
 
-  expressions_are : (xs : List (Position × Expr))
-      → flat_map (λ (q : Position × List Leaf). among q.1) (map (part_leaves g k) xs)
+  pub expressions_are : (xs : List (Position × Expr))
+      → flat_map (λ (q : Position × List Leaf). reads_among q.1) (map (part_leaves g k) xs)
       ≡ flat_map (λ (part : Position × Expr). expression_reads g k part.0 part.1) xs
   expressions_are [] = refl
   expressions_are (x ∷ xs) = ap₂ (λ a b. a ++ b) (names_are x.0 (reads_of (formula_of x.1))) (expressions_are xs)
 
--- the reads of the parts are those of the rule as it is written
-pub parts_are : (c : CheckedGrammar) (k : ℕ) (r : Rule) (ps : List PartReads)
-    → map leaves_in ps ≡ map (part_leaves c.grammar k) (rule_parts c.grammar k r)
-    → flat_map (part_deps (meant c)) ps ≡ written_deps c k r
-parts_are c k r ps is =
-    all_parts (meant c) ps
-    ∙ ap (λ qs. map (dep_read (meant c)) (flat_map (λ (q : Position × List Leaf). among q.1) qs)) is
-    ∙ ap (map (dep_read (meant c))) (expressions_are c.grammar k (rule_parts c.grammar k r))
+-- the reads of the parts, by what these stand for
+pub parts_are : (m : AttributeGrammar) (ps : List PartReads) (leaves : List (Position × List Leaf)) → map leaves_in ps ≡ leaves
+    → flat_map (part_deps m) ps ≡ deps_by_leaves m leaves
+parts_are m ps leaves is = all_parts m ps ∙ ap (deps_by_leaves m) is

@@ -2,18 +2,18 @@
 use Rattle.std.specs.Prelude.{ℕ, ◌<◌, List, length, map, flat_map, IfSome}
 use Rattle.std.specs.Option.{option_map, option_to_list}
 use Rattle.ftl_base.specs.Widths.{greatest_of_width}
-use Rattle.ftl_model.specs.AttributeGrammar.{AttributeGrammar}
+use Rattle.ftl_model.specs.AttributeGrammar.{AttributeGrammar, Read}
 use Rattle.ftl_syntax.specs.declared.rules.Grammar.{Grammar}
-use Rattle.ftl_syntax.specs.declared.rules.Rule.{Rule}
+use Rattle.ftl_grammar_faults.specs.Allowed.{Leaf, Position}
 use Rattle.ftl_grammar_faults.specs.Checked.{CheckedGrammar}
 use Rattle.ftl_grammar_faults.specs.Numbering.{class_at}
-use Rattle.ftl_checked.specs.ReadNumbers.{leaf_in, rule_parts}
+use Rattle.ftl_checked.specs.ReadNumbers.{leaf_in}
 use Rattle.ftl_checked.specs.declared.numbered_read.NumberedRead.{NumberedRead}
 use Rattle.ftl_checked.specs.declared.numbered_read.PartReads.{PartReads}
 use Rattle.ftl_deps.specs.DepReads.{dep_read}
 use Rattle.ftl_deps.specs.declared.dep_read.DepRead.{DepRead}
 use Rattle.ftl_meaning.specs.GrammarOf.{grammar_of}
-use Rattle.ftl_meaning.specs.Meaning.{expression_reads, read_of}
+use Rattle.ftl_meaning.specs.Meaning.{read_of}
 
 -- the grammar with its names gone, in its width
 abbrev pub meant : CheckedGrammar → AttributeGrammar
@@ -27,10 +27,13 @@ deps_in m reads = flat_map (λ r. option_to_list (option_map (dep_read m) (read_
 abbrev pub part_deps : AttributeGrammar → PartReads → List DepRead
 part_deps m part = deps_in m part.reads
 
--- what the expressions of a rule read, one after the other
-abbrev pub written_deps : CheckedGrammar → (class : ℕ) → Rule → List DepRead
-written_deps c k r =
-    map (dep_read (meant c)) (flat_map (λ part. expression_reads c.grammar k part.0 part.1) (rule_parts c.grammar k r))
+-- the reads among what names stand for
+abbrev pub reads_among : List Leaf → List Read
+reads_among leaves = flat_map (λ leaf. option_to_list (read_of leaf)) leaves
+
+-- what a rule reads, one expression after the other
+abbrev pub deps_by_leaves : AttributeGrammar → List (Position × List Leaf) → List DepRead
+deps_by_leaves m parts = map (dep_read m) (flat_map (λ part. reads_among part.1) parts)
 
 -- the child that is read, where there is one, is a child of this class
 abbrev pub HasKnownChild : Grammar → (class : ℕ) → DepRead → Type 0

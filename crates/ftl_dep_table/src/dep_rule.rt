@@ -1,27 +1,27 @@
 //! The reads of one rule.
 ghost use Rattle.std.specs.Prelude.{◌≡◌, ◌<◌, ◌++◌, flat_map, length, IfOk, OnOk};
-ghost use Rattle.ftl_dep_table.specs.Meant.{deps_in, meant, part_deps, written_deps};
+ghost use Rattle.ftl_grammar_faults.specs.Checked.{all_rules};
+ghost use Rattle.ftl_checked.specs.ReadNumbers.{leaves_told};
+ghost use Rattle.ftl_dep_table.specs.Meant.{deps_by_leaves, deps_in, meant, part_deps};
 
 use crate::dep_sites::dep_of;
 use ftl_checked::{Checked, NumberedRead, PartReads};
 use ftl_deps::DepRead;
-use ftl_syntax::Rule;
 use sqlite_items::Items;
 use std::alloc::{AllocError, Global};
 
-/// What a rule of this class reads, in the order of the text.
+/// What the rule of this number reads, in the order of the text.
 #[tactic(auto, using(crate::proofs::WrittenDeps::parts_are))]
 pub(crate) fn rule_deps(
     alloc: Global,
     checked: &Checked,
-    class: u32,
-    rule: &Rule,
+    rule: u32,
 ) -> Result<Items<DepRead>, AllocError>
-    requires within { class < length checked.now.grammar.classes }
-    ensures deps { IfOk result (λ deps. deps ≡ written_deps checked.now class rule.now) }
+    requires within { rule < length (all_rules checked.now.grammar) }
+    ensures deps { IfOk result (λ deps. deps
+        ≡ deps_by_leaves (meant checked.now) (leaves_told checked.now.grammar rule)) }
 {
-    let parts = checked.rule_reads(alloc, class, rule)?;
-    deps_of_parts(alloc, checked, parts.as_slice())
+    deps_of_parts(alloc, checked, checked.rule_reads(rule))
 }
 
 fn deps_of_parts(

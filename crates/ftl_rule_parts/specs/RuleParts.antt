@@ -1,14 +1,10 @@
 -- The parts of rules by number, as code has them.
-use Rattle.std.specs.Prelude.{ℕ, List, [], ◌∷◌, flat_map, map}
-use Rattle.std.specs.Option.{option_to_list}
+use Rattle.std.specs.Prelude.{List, [], ◌∷◌, map}
 use Rattle.ftl_model.specs.AttributeGrammar.{AttributeGrammar, Parts, Read, RuleName, each_read, first_then, fold_over}
 use Rattle.ftl_model.specs.AttributeGrammar.{last_read, plain, prev_read, self_read, single_read, this_read}
 use Rattle.ftl_model.specs.Solves.{rule_named}
-use Rattle.ftl_syntax.specs.declared.rules.Rule.{Rule}
 use Rattle.ftl_grammar_faults.specs.Allowed.{Leaf, Position, for_kids, for_later, for_self, for_single, in_step}
-use Rattle.ftl_grammar_faults.specs.Checked.{CheckedGrammar}
-use Rattle.ftl_checked.specs.ReadNumbers.{part_leaves, rule_parts}
-use Rattle.ftl_meaning.specs.Meaning.{read_of}
+use Rattle.ftl_dep_table.specs.Meant.{reads_among}
 use Rattle.ftl_rule_parts.specs.declared.part_read.PartRead.{PartRead}
 use Rattle.ftl_rule_parts.specs.declared.part_read.PartRead.TheVariants as reads
 use Rattle.ftl_rule_parts.specs.declared.rule_parts.RuleParts.{RuleParts}
@@ -39,10 +35,6 @@ all_parts g = map (parts_named g) g.rules
 
 -- ---- rules as they are written
 
--- the reads among what names stand for
-abbrev pub reads_among : List Leaf → List Read
-reads_among leaves = flat_map (λ leaf. option_to_list (read_of leaf)) leaves
-
 -- the parts of a rule of two expressions, by where the second stands
 abbrev pub two_parts : Position → (first second : List Read) → Parts
 two_parts (in_step c) first second = fold_over c first second
@@ -56,7 +48,3 @@ abbrev pub parts_by_leaves : List (Position × List Leaf) → Parts
 parts_by_leaves [] = plain []
 parts_by_leaves (x ∷ []) = plain (reads_among x.1)
 parts_by_leaves (x ∷ (y ∷ rest)) = two_parts y.0 (reads_among x.1) (reads_among y.1)
-
--- the parts of a rule of this class as it is written
-abbrev pub parts_written : CheckedGrammar → (class : ℕ) → Rule → Parts
-parts_written c k r = parts_by_leaves (map (part_leaves c.grammar k) (rule_parts c.grammar k r))

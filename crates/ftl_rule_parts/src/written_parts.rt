@@ -1,31 +1,31 @@
-//! The parts of a rule as it is written.
+//! The parts of one rule.
 ghost use Rattle.std.specs.Prelude.{◌≡◌, ◌<◌, flat_map, length, map, IfOk};
 ghost use Rattle.std.specs.Option.{option_map, option_to_list};
-ghost use Rattle.ftl_checked.specs.ReadNumbers.{leaf_in, leaves_in};
+ghost use Rattle.ftl_checked.specs.ReadNumbers.{leaf_in, leaves_in, leaves_told};
+ghost use Rattle.ftl_dep_table.specs.Meant.{reads_among};
+ghost use Rattle.ftl_grammar_faults.specs.Checked.{all_rules};
 ghost use Rattle.ftl_meaning.specs.Meaning.{read_of};
-ghost use Rattle.ftl_rule_parts.specs.RuleParts.{parts_by_leaves, parts_meant, parts_written};
+ghost use Rattle.ftl_rule_parts.specs.RuleParts.{parts_by_leaves, parts_meant};
 ghost use Rattle.ftl_checked.specs.Positions.{position_of};
-ghost use Rattle.ftl_rule_parts.specs.RuleParts.{read_meant, reads_among, two_parts};
+ghost use Rattle.ftl_rule_parts.specs.RuleParts.{read_meant, two_parts};
 
 use crate::part_read::PartRead;
 use crate::rule_parts::RuleParts;
 use ftl_checked::{At, Checked, NumberedRead, PartReads};
-use ftl_syntax::Rule;
 use sqlite_items::Items;
 use std::alloc::{AllocError, Global};
 
-/// The parts of a rule of this class.
+/// The parts of the rule of this number.
 pub(crate) fn written_parts(
     alloc: Global,
     checked: &Checked,
-    class: u32,
-    rule: &Rule,
+    rule: u32,
 ) -> Result<RuleParts, AllocError>
-    requires within { class < length checked.now.grammar.classes }
-    ensures parts { IfOk result (λ p. parts_meant p ≡ parts_written checked.now class rule.now) }
+    requires within { rule < length (all_rules checked.now.grammar) }
+    ensures parts { IfOk result (λ p. parts_meant p
+        ≡ parts_by_leaves (leaves_told checked.now.grammar rule)) }
 {
-    let parts = checked.rule_reads(alloc, class, rule)?;
-    parts_of(alloc, parts.as_slice())
+    parts_of(alloc, checked.rule_reads(rule))
 }
 
 /// The parts of a rule with these expressions.

@@ -1,9 +1,7 @@
-use Rattle.std.proofs.Common.{◌≡◌, ◌++◌, drop}
-use Rattle.ftl_grammar_faults.specs.Numbering.{numbered}
-use Rattle.ftl_dep_table.proofs.DepRows.{rows_from}
+use Rattle.std.proofs.Common.{◌≡◌, take}
+use Rattle.ftl_deps.specs.DepReads.{dep_table}
+use Rattle.ftl_dep_table.specs.Meant.{meant}
 use Rattle.ftl_dep_table.proofs.dep_rows.all_rows.Given as goal
 
-abbrev pub invariant-loop-class : goal.invariant-loop-class
-invariant-loop-class l =
-    l.rows ++ rows_from l.checked (numbered l.class (drop l.class l.checked.grammar.classes))
-    ≡ rows_from l.checked (numbered 0 l.checked.grammar.classes)
+abbrev pub invariant-loop-rule : goal.invariant-loop-rule
+invariant-loop-rule l = l.rows ≡ take l.rule (dep_table (meant l.checked))

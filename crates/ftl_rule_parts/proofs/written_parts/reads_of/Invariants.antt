@@ -1,6 +1,7 @@
 use Rattle.std.proofs.Common.{◌≡◌, ◌++◌, drop, map}
 use Rattle.ftl_checked.specs.ReadNumbers.{leaf_in}
-use Rattle.ftl_rule_parts.specs.RuleParts.{read_meant, reads_among}
+use Rattle.ftl_dep_table.specs.Meant.{reads_among}
+use Rattle.ftl_rule_parts.specs.RuleParts.{read_meant}
 use Rattle.ftl_rule_parts.proofs.written_parts.reads_of.Given as goal
 
 abbrev pub invariant-loop-read : goal.invariant-loop-read
