@@ -20,7 +20,7 @@ fn first_words(alloc: Global) -> Result<Vec<u64>, AllocError>
 }
 
 /// Whether the words are those of these values.
-fn are_words_of(words: &[u64], values: &[i64]) -> bool {
+pub(crate) fn are_words_of(words: &[u64], values: &[i64]) -> bool {
     words
         .iter()
         .map(|word| val_of(*word))
