@@ -10,3 +10,5 @@ mod word;
 
 pub use laws::words_are_undone;
 pub use print::{print_boxes, shows_overflow};
+pub use shown::{shown_by, shown_rows};
+pub use word::{number_of_word, word_at};

@@ -11,14 +11,13 @@ ghost use Rattle.ftl_model.specs.Tree.{size};
 ghost use Rattle.ftl_dep_table.specs.Meant.{meant};
 ghost use Rattle.ftl_meaning.specs.GrammarOf.{names_of};
 ghost use Rattle.ftl_box_text.specs.Shows.{HasWords, fields_text, line_text, node_class};
-ghost use Rattle.ftl_box_text.specs.Shows.{node_shows, shown_rows};
+ghost use Rattle.ftl_box_text.specs.Shows.{node_shows};
 ghost use Rattle.ftl_box_text.specs.WordValues.{table_of_words, value_of_word};
 
-use crate::shown::shown_rows;
-use crate::word::number_of_word;
+use crate::shown::{shown_by, shown_rows};
+use crate::word::{number_of_word, word_at};
 use ftl_tree::Tree;
 use itoa::Buffer;
-use sqlite_items::Items;
 use std::alloc::{AllocError, Global};
 
 /// About how many bytes the line of a node takes.
@@ -53,19 +52,6 @@ pub fn shows_overflow(alloc: Global, tree: &Tree, words: &[u64]) -> Result<bool,
         }
     }
     Ok(false)
-}
-
-// What a node shows.
-fn shown_by<'r>(rows: &'r Items<Items<u32>>, tree: &Tree, node: u32) -> &'r [u32]
-    requires rows { rows.now ≡ shown_rows tree.now.checked.grammar }
-    requires node { node < size tree.now.tree }
-    ensures shown { result.now ≡ node_shows tree.now node }
-{
-    let checked = tree.checked();
-    // The interface is there, as the grammar is lawful.
-    checked.grammar();
-    let interface = checked.interface_of(tree.row(node).class);
-    rows.as_slice()[interface as usize].as_slice()
 }
 
 fn print_line(
@@ -144,17 +130,6 @@ fn attribute_name<'a>(tree: &'a Tree, node: u32, attr: u32) -> &'a [u8]
     ensures name { result.now ≡ (names_of tree.now.checked.grammar).attribute_name attr }
 {
     tree.checked().attr_name(attr).text().as_bytes()
-}
-
-// The word of an attribute that the node shows.
-fn word_at(tree: &Tree, words: &[u64], node: u32, attr: u32) -> u64
-    requires words { HasWords tree.now words.now }
-    requires node { node < size tree.now.tree }
-    requires attr { Contains (node_shows tree.now node) attr }
-    ensures value { value_of_word result ≡ table_of_words tree.now words.now
-        (instance_of (node_at tree.now.tree node) attr) }
-{
-    words[tree.instance(node, attr) as usize]
 }
 
 fn print_value(out: &mut Vec<u8>, word: u64) -> Result<(), AllocError>

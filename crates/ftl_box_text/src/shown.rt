@@ -1,19 +1,22 @@
-//! The attributes that each interface shows.
+//! The attributes that each interface shows, and each node.
 
 ghost use Rattle.std.specs.Prelude.{◌≡◌, ◌+◌, ◌<◌, ◌≤◌, ◌++◌, [], ◌∷◌, if◌then◌else◌, length, take};
 ghost use Rattle.std.specs.Prelude.{IfOk, OnOk};
 ghost use Rattle.ftl_grammar_faults.specs.Checked.{all_attributes, attribute_at, is_shown};
 ghost use Rattle.ftl_grammar_faults.specs.Numbering.{shared_count};
 ghost use Rattle.ftl_meaning.specs.GrammarOf.{shown_attributes};
-ghost use Rattle.ftl_box_text.specs.Shows.{shown_rows};
+ghost use Rattle.ftl_model.specs.Tree.{size};
+ghost use Rattle.ftl_box_text.specs.Shows.{node_shows, shown_rows};
 
 use ftl_checked::Checked;
+use ftl_tree::Tree;
 use sqlite_items::Items;
 use std::alloc::{AllocError, Global};
 
-/// The numbers of the shown attributes, a row for each interface.
+/// The numbers of the shown attributes, a row for each interface. A printer makes them once for a
+/// grammar, and asks `shown_by` at each node.
 #[tactic(auto, using(ftl_grammar_faults::proofs::Numbered::numbered_steps))]
-pub(crate) fn shown_rows(alloc: Global, checked: &Checked) -> Result<Items<Items<u32>>, AllocError>
+pub fn shown_rows(alloc: Global, checked: &Checked) -> Result<Items<Items<u32>>, AllocError>
     ensures rows { IfOk result (λ rows. rows ≡ shown_rows checked.now.grammar) }
 {
     let mut rows = Items::new(alloc);
@@ -24,6 +27,20 @@ pub(crate) fn shown_rows(alloc: Global, checked: &Checked) -> Result<Items<Items
         first = end;
     }
     Ok(rows)
+}
+
+/// The numbers of the attributes that a node shows, out of `shown_rows` of the tree's grammar. They
+/// are looked up in constant time.
+pub fn shown_by<'r>(rows: &'r Items<Items<u32>>, tree: &Tree, node: u32) -> &'r [u32]
+    requires rows { rows.now ≡ shown_rows tree.now.checked.grammar }
+    requires node { node < size tree.now.tree }
+    ensures shown { result.now ≡ node_shows tree.now node }
+{
+    let checked = tree.checked();
+    // The interface is there, as the grammar is lawful.
+    checked.grammar();
+    let interface = checked.interface_of(tree.row(node).class);
+    rows.as_slice()[interface as usize].as_slice()
 }
 
 // The number after those of an interface's attributes, which begin at `first`.

@@ -6,16 +6,14 @@ ghost use Rattle.ftl_model.specs.Tree.{size};
 ghost use Rattle.ftl_model.specs.Values.{Value};
 ghost use Rattle.ftl_dep_table.specs.Meant.{meant};
 ghost use Rattle.ftl_meaning.specs.GrammarOf.{names_of};
-ghost use Rattle.ftl_box_text.specs.Shows.{HasWords, node_shows, shown_rows};
+ghost use Rattle.ftl_box_text.specs.Shows.{HasWords, node_shows};
 ghost use Rattle.ftl_box_text.specs.WordValues.{table_of_words};
 ghost use Rattle.ftl_answer.specs.Summary.{shown_values};
 ghost use Rattle.ftl_summary_text.specs.Summed.{AreSumsOf, AreWithin, values_of};
 
-use crate::shown::shown_rows;
 use crate::sums::{Sums, no_sums, with_word};
-use crate::word::word_at;
+use ftl_box_text::{shown_by, shown_rows, word_at};
 use ftl_tree::Tree;
-use sqlite_items::Items;
 use std::alloc::{AllocError, Global};
 
 /// The sums of all values that a tree shows.
@@ -31,19 +29,6 @@ pub(crate) fn sums_of(alloc: Global, tree: &Tree, words: &[u64]) -> Result<Sums,
         sums = with_node(sums, tree, words, shown_by(&rows, tree, node), node);
     }
     Ok(sums)
-}
-
-/// What a node shows.
-fn shown_by<'r>(rows: &'r Items<Items<u32>>, tree: &Tree, node: u32) -> &'r [u32]
-    requires rows { rows.now ≡ shown_rows tree.now.checked.grammar }
-    requires node { node < size tree.now.tree }
-    ensures shown { result.now ≡ node_shows tree.now node }
-{
-    let checked = tree.checked();
-    // The interface is there, as the grammar is lawful.
-    checked.grammar();
-    let interface = checked.interface_of(tree.row(node).class);
-    rows.as_slice()[interface as usize].as_slice()
 }
 
 /// Says of a node that 32 bits count what it shows, as they number all attributes.

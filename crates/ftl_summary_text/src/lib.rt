@@ -6,8 +6,6 @@
 mod adding;
 mod arithmetic;
 mod print;
-mod shown;
 mod sums;
-mod word;
 
 pub use print::print_summary;

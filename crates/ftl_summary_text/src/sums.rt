@@ -6,7 +6,7 @@ ghost use Rattle.ftl_box_text.specs.WordValues.{value_of_word};
 ghost use Rattle.ftl_summary_text.specs.Summed.{AreSumsOf, AreWithin};
 
 use crate::arithmetic::{plus, weighted};
-use crate::word::number_of_word;
+use ftl_box_text::number_of_word;
 
 /// How many values there are, how many of them are Overflow, and the sums of the others: once each,
 /// and by the weights of their places.

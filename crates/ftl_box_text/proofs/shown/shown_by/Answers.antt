@@ -4,7 +4,7 @@ use Rattle.ftl_grammar_faults.specs.Numbering.{interface_of}
 use Rattle.ftl_box_text.specs.Shows.{node_class}
 use Rattle.ftl_box_text.proofs.Lines.{class_within, interface_within}
 use Rattle.ftl_box_text.proofs.ShownAmong.{length-rows, row_is}
-use Rattle.ftl_summary_text.proofs.adding.shown_by.Goals as goal
+use Rattle.ftl_box_text.proofs.shown.shown_by.Goals as goal
 
 pub interface_of-interface-requires : goal.interface_of-interface-requires
 interface_of-interface-requires c =

@@ -1,7 +1,7 @@
 use Rattle.std.proofs.Common.{arith}
 use Rattle.std.proofs.lemmas.Grind.{common_steps}
 use Rattle.ftl_box_text.proofs.Lines.{of_class, word_is, word_within}
-use Rattle.ftl_box_text.proofs.print.word_at.Goals as goal
+use Rattle.ftl_box_text.proofs.word.word_at.Goals as goal
 
 pub instance-requires-clause-attr : goal.instance-requires-clause-attr
 instance-requires-clause-attr c =
