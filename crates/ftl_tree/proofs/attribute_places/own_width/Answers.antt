@@ -11,7 +11,7 @@ overflow_cast-result c =
     let g = c.args.checked.now.grammar in
     let item = c.index-classes-class.result in
     let list = c.as_slice-classes.ensures ∙ ap (λ (x : Grammar). x.classes) c.grammar.ensures.grammar in
-    let is = c.index-classes-class.is ∙ ap (λ xs. get_or xs c.args.class item) list
+    let is = ap (λ xs. get_or xs c.args.class item) list
     ∙ get_or_default g.classes c.args.class item (trees.class [] [] [] [] []) c.requires.class in
     omega (
       arith,
@@ -25,7 +25,7 @@ returns-clause-few c =
     let g = c.args.checked.now.grammar in
     let item = c.index-classes-class.result in
     let list = c.as_slice-classes.ensures ∙ ap (λ (x : Grammar). x.classes) c.grammar.ensures.grammar in
-    let is = c.index-classes-class.is ∙ ap (λ xs. get_or xs c.args.class item) list
+    let is = ap (λ xs. get_or xs c.args.class item) list
     ∙ get_or_default g.classes c.args.class item (trees.class [] [] [] [] []) c.requires.class in
     omega (
       arith,

@@ -26,8 +26,7 @@ overflow_cast-result c =
     let item = c.index-interfaces-interface.result in
     let list = c.as_slice-interfaces.ensures ∙ ap (λ (x : Grammar). x.interfaces) c.grammar.ensures.grammar in
     let known = interface_known g c.grammar.ensures.lawful c.args.class c.requires.class in
-    let is = c.index-interfaces-interface.is
-    ∙ ap₂ (λ xs n. get_or xs n item) list c.interface_of-interface.ensures.interface
+    let is = ap₂ (λ xs n. get_or xs n item) list c.interface_of-interface.ensures.interface
     ∙ get_or_default g.interfaces i item (trees.interface [] [] []) known in
     omega (
       arith,
@@ -43,8 +42,7 @@ returns c =
     let item = c.index-interfaces-interface.result in
     let list = c.as_slice-interfaces.ensures ∙ ap (λ (x : Grammar). x.interfaces) c.grammar.ensures.grammar in
     let known = interface_known g c.grammar.ensures.lawful c.args.class c.requires.class in
-    let is = c.index-interfaces-interface.is
-    ∙ ap₂ (λ xs n. get_or xs n item) list c.interface_of-interface.ensures.interface
+    let is = ap₂ (λ xs n. get_or xs n item) list c.interface_of-interface.ensures.interface
     ∙ get_or_default g.interfaces i item (trees.interface [] [] []) known in
     let width = c.len.ensures ∙ ap (λ (x : Interface). length x.attrs) is in
     record {
