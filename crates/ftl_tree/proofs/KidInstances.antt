@@ -41,11 +41,14 @@ module _ (i : Inside) (t : CheckedTree) (h : Known i t) (node child : ℕ) where
   abbrev first : ℕ → ℕ
   first n = get_or i.first_instances.items n 0
 
-  number : ℕ → ℕ
+  abbrev number : ℕ → ℕ
   number k = number_of t.tree (kid k)
 
-  kid_first : ℕ → ℕ
+  abbrev kid_first : ℕ → ℕ
   kid_first k = first_instance (meant t.checked) t.tree (kid k)
+
+  abbrev count : ℕ
+  count = kids_at t.tree p child
 
   first_of_kid : (k : ℕ) → k < kids_at t.tree p child → first (number k) ≡ kid_first k
   first_of_kid k counted =
@@ -57,11 +60,11 @@ module _ (i : Inside) (t : CheckedTree) (h : Known i t) (node child : ℕ) where
       ext_get_or 0 (map first (kid_numbers t.tree p child)) (kid_first_instances (meant t.checked) t.tree p child)
       (lengths ∙ sym (length-map-range_with_len kid_first 0 count)) each
     where
-      count : ℕ
-      count = kids_at t.tree p child
+      known : length (kid_numbers t.tree p child) ≡ kids_at t.tree p child
+      known = length-map-range_with_len number 0 count
 
       lengths : length (map first (kid_numbers t.tree p child)) ≡ kids_at t.tree p child
-      lengths = length-map (kid_numbers t.tree p child) first ∙ length-map-range_with_len number 0 count
+      lengths = length-map (kid_numbers t.tree p child) first ∙ known
 
       each : (k : ℕ) → k < length (map first (kid_numbers t.tree p child))
           → get_or (map first (kid_numbers t.tree p child)) k 0
@@ -69,7 +72,7 @@ module _ (i : Inside) (t : CheckedTree) (h : Known i t) (node child : ℕ) where
       each k below =
           let counted : k < count = omega (arith, below, lengths) in
           get_or-map first (kid_numbers t.tree p child) k 0 0
-          (omega (arith, counted, length-map-range_with_len number 0 count))
+          (omega (arith, counted, known))
           ∙ ap first (get_or-map-range_with_len number 0 count k k 0 counted (omega arith))
           ∙ first_of_kid k counted
           ∙ sym (get_or-map-range_with_len kid_first 0 count k k 0 counted (omega arith))

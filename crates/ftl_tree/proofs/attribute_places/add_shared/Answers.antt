@@ -18,6 +18,16 @@ overflow_cast-len c =
     let is = c.interface-item.is ∙ ap (λ xs. get_or xs i item) list ∙ get_or_default g.interfaces i item (trees.interface [] [] []) known in
     omega (arith, c.len.ensures, ap (λ (x : Interface). length x.attrs) is, few_shared g c.grammar.ensures.lawful 0 i known)
 
+pub add_run-requires : goal.add_run-requires
+add_run-requires c =
+    let g = c.args.checked.now.grammar in
+    let i = c.loop-interface.interface-index in
+    let item = c.interface-item.result in
+    let list = c.as_slice-interfaces.ensures ∙ ap (λ (x : Grammar). x.interfaces) c.grammar.ensures.grammar in
+    let known : i < length g.interfaces = omega (arith, c.loop-interface-test.true, ap length list) in
+    let is = c.interface-item.is ∙ ap (λ xs. get_or xs i item) list ∙ get_or_default g.interfaces i item (trees.interface [] [] []) known in
+    record { few = omega (arith, c.len.ensures, ap (λ (x : Interface). length x.attrs) is, few_shared g c.grammar.ensures.lawful 0 i known) }
+
 pub loop-interface-preserved : goal.loop-interface-preserved
 loop-interface-preserved c =
     one_more (λ (x : Interface). range_with_len 0 (length x.attrs)) c.args.places.now.items c.loop-interface.places.items _

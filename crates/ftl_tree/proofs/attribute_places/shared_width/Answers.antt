@@ -1,4 +1,4 @@
-use Rattle.std.proofs.Common.{◌≡◌, ◌<◌, [], ap, arith, get_or, length, ◌∙◌}
+use Rattle.std.proofs.Common.{[], ap, ap₂, arith, get_or, length, ◌∙◌}
 use Rattle.std.proofs.lemmas.List.{get_or_default}
 use Rattle.ftl_syntax.specs.Trees as trees
 use Rattle.ftl_syntax.specs.declared.rules.Grammar.{Grammar}
@@ -18,3 +18,34 @@ bounds-interfaces-interface c =
       interface_known g c.grammar.ensures.lawful c.args.class c.requires.class,
       ap length list,
     )
+
+pub overflow_cast-result : goal.overflow_cast-result
+overflow_cast-result c =
+    let g = c.args.checked.now.grammar in
+    let i = interface_of g c.args.class in
+    let item = c.index-interfaces-interface.result in
+    let list = c.as_slice-interfaces.ensures ∙ ap (λ (x : Grammar). x.interfaces) c.grammar.ensures.grammar in
+    let known = interface_known g c.grammar.ensures.lawful c.args.class c.requires.class in
+    let is = ap₂ (λ xs n. get_or xs n item) list c.interface_of-interface.ensures.interface
+    ∙ get_or_default g.interfaces i item (trees.interface [] [] []) known in
+    omega (
+      arith,
+      c.len.ensures,
+      ap (λ (x : Interface). length x.attrs) is,
+      few_shared g c.grammar.ensures.lawful 0 i known,
+    )
+
+pub returns : goal.returns
+returns c =
+    let g = c.args.checked.now.grammar in
+    let i = interface_of g c.args.class in
+    let item = c.index-interfaces-interface.result in
+    let list = c.as_slice-interfaces.ensures ∙ ap (λ (x : Grammar). x.interfaces) c.grammar.ensures.grammar in
+    let known = interface_known g c.grammar.ensures.lawful c.args.class c.requires.class in
+    let is = ap₂ (λ xs n. get_or xs n item) list c.interface_of-interface.ensures.interface
+    ∙ get_or_default g.interfaces i item (trees.interface [] [] []) known in
+    let width = c.len.ensures ∙ ap (λ (x : Interface). length x.attrs) is in
+    record {
+      width = width;
+      few = omega (arith, width, few_shared g c.grammar.ensures.lawful 0 i known);
+    }

@@ -14,8 +14,9 @@ index-requires-2 c =
     let i = c.self.inside in
     let t = c.args.self.now in
     let k = known i t c.self.invariant c.self.view_is in
-    place_known i t k (class_at t.tree (node_at t.tree c.args.node)) c.args.attr
-    (class_within i t k c.args.node c.requires.node) c.requires.attr
+    let within = place_known i t k (class_at t.tree (node_at t.tree c.args.node)) c.args.attr
+    (class_within i t k c.args.node c.requires.node) c.requires.attr in
+    omega (arith, within)
 
 pub overflow_add-result : goal.overflow_add-result
 overflow_add-result c =

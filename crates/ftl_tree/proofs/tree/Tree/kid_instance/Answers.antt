@@ -56,8 +56,9 @@ index-requires c =
     let t = c.args.self.now in
     let h = known i t c.self.invariant c.self.view_is in
     let f = found i t h c.args.node c.args.child c.args.k c.args.attr c.requires.k c.requires.attr in
-    place_known i t h (class_at t.tree (down c.args.child c.args.k (node_at t.tree c.args.node))) c.args.attr f.known
-    c.requires.attr
+    let within = place_known i t h (class_at t.tree (down c.args.child c.args.k (node_at t.tree c.args.node)))
+    c.args.attr f.known c.requires.attr in
+    omega (arith, within)
 
 pub overflow_add-result : goal.overflow_add-result
 overflow_add-result c =
