@@ -1,7 +1,12 @@
 #!/usr/bin/env python3
-"""Lays out samples of 20,000 and 200,000 pieces of the six shipped grammars, and prints for each the nodes, the
-milliseconds of processor time of the whole run, and of `check` on the same page (reading and checking the grammar and
-finding the schedule), the peak memory in MB, and the growth of the time from the smaller sample to the larger.
+"""Lays out samples of 20,000 and 200,000 pieces of the six shipped grammars. Prints for each the nodes, the milliseconds
+of processor time of the whole run, of `check` on the same page (reading and checking the grammar and finding the
+schedule), of reading the document, and of the rest (making the plan, solving and printing the boxes), the peak memory
+in MB, and the growth of the time from the smaller sample to the larger. Then prints for the larger samples the
+milliseconds that pass by 1, 2 and 4 workers.
+
+The time of reading a document is that of a run on the same page without its last input, which is refused as soon as
+all of it was read, less that of `check`.
 
 usage: bench/pages.py [PROGRAM]     PROGRAM is crates/ftl_layout/out/ftl_layout if left out
 """
@@ -9,53 +14,84 @@ import os
 import subprocess
 import sys
 
+from plain_layout import GRAMMARS, sample
+
 TOP = os.path.dirname(os.path.dirname(os.path.abspath(__file__)))
-GRAMMARS = ["stack", "block", "inline", "float", "table", "flow"]
 SIZES = [20_000, 200_000]
+WORKERS = [1, 2, 4]
 RUNS = 3
 
 # Runs the program from a small process: a child's peak memory counts that of the process that it was forked from.
 MEASURE = """
-import os, subprocess, sys
-child = subprocess.Popen(sys.argv[1:], stdin=subprocess.PIPE if "check" in sys.argv else subprocess.DEVNULL, stdout=subprocess.PIPE)
-if "check" in sys.argv:
-    child.stdin.write(sys.stdin.buffer.read())
-    child.stdin.close()
-told = child.stdout.read().decode()
+import os, subprocess, sys, time
+begin = time.perf_counter()
+child = subprocess.Popen(sys.argv[1:], stdin=subprocess.PIPE, stdout=subprocess.PIPE)
+child.stdin.write(sys.stdin.buffer.read())
+child.stdin.close()
+size = len(child.stdout.read())
 _, status, usage = os.wait4(child.pid, 0)
-print(os.waitstatus_to_exitcode(status), usage.ru_utime + usage.ru_stime, usage.ru_maxrss * 1024, told)
+passed = time.perf_counter() - begin
+print(os.waitstatus_to_exitcode(status), usage.ru_utime + usage.ru_stime, passed, usage.ru_maxrss * 1024, size)
 """
 
 
-def run(words, page=b""):
-    """Seconds of processor time and peak memory of one run, and what it told."""
-    command = [sys.executable, "-c", MEASURE, *words]
-    told = subprocess.run(command, input=page, stdout=subprocess.PIPE, check=True).stdout.decode()
-    status, seconds, peak, text = told.split(" ", 3)
-    if status not in ("0", "8"):
-        sys.exit(f"{' '.join(words)} ended with status {status}: {text}")
-    return float(seconds), int(peak), text
+class Run:
+    """Seconds of processor time, seconds that passed, peak memory and bytes written of one run."""
+
+    def __init__(self, words, page, statuses):
+        command = [sys.executable, "-c", MEASURE, *words]
+        told = subprocess.run(command, input=page.encode(), stdout=subprocess.PIPE, check=True).stdout.split()
+        if int(told[0]) not in statuses:
+            sys.exit(f"{' '.join(words)} ended with status {told[0]}")
+        self.seconds, self.passed, self.peak = float(told[1]), float(told[2]), int(told[3])
 
 
-def least(words, page=b""):
-    return min((run(words, page) for _ in range(RUNS)), key=lambda told: told[0])
+def least(of, words, page="", statuses=(0, 8)):
+    return min((Run(words, page, statuses) for _ in range(RUNS)), key=of)
+
+
+def by_processor(run):
+    return run.seconds
+
+
+def without_last_input(page):
+    """The page without the last input of its document."""
+    begin = page.rindex(" ih = ")
+    return page[:begin] + page[page.index(" }", begin) :]
+
+
+def parts(program, grammar):
+    before = None
+    for size in SIZES:
+        page = sample(grammar, size)
+        whole = least(by_processor, [program, "run"], page)
+        check = least(by_processor, [program, "check"], page).seconds
+        read = least(by_processor, [program, "run"], without_last_input(page), (7,)).seconds - check
+        rest = whole.seconds - check - read
+        growth = f"x{whole.seconds / before:.1f}" if before else ""
+        before = whole.seconds
+        times = " ".join(f"{it * 1e3:8.1f}" for it in (whole.seconds, check, read, rest))
+        print(f"{grammar:8} {size:7} {times} {whole.peak / 1e6:8.1f} {growth:>7}", flush=True)
+
+
+def by_workers(program, grammar):
+    times = []
+    for workers in WORKERS:
+        words = [program, "sample", str(SIZES[-1]), "--grammar", grammar, "--workers", str(workers)]
+        times.append(least(lambda run: run.passed, words).passed)
+    print(f"{grammar:8} {SIZES[-1]:7} " + " ".join(f"{it * 1e3:9.1f}" for it in times), flush=True)
 
 
 def main():
     program = sys.argv[1] if len(sys.argv) > 1 else os.path.join(TOP, "crates/ftl_layout/out/ftl_layout")
     if not os.path.exists(program):
         sys.exit(f"{program} is not built: run ./layout once")
-    print(f"{'grammar':8} {'pieces':>7} {'nodes':>7} {'whole ms':>9} {'check ms':>9} {'peak MB':>8} {'growth':>7}")
+    print(f"{'grammar':8} {'pieces':>7} {'whole':>8} {'check':>8} {'read':>8} {'rest':>8} {'peak MB':>8} {'growth':>7}")
     for grammar in GRAMMARS:
-        page = f"%page 1\n%grammar {grammar}\n%schedule auto\n".encode()
-        before = None
-        for size in SIZES:
-            seconds, peak, text = least([program, "sample", str(size), "--grammar", grammar])
-            nodes = dict(field.split("=") for field in text.split())["nodes"]
-            checking, _, _ = least([program, "check"], page)
-            growth = f"x{seconds / before:.1f}" if before else ""
-            before = seconds
-            print(f"{grammar:8} {size:7} {nodes:>7} {seconds * 1e3:9.1f} {checking * 1e3:9.1f} {peak / 1e6:8.1f} {growth:>7}")
+        parts(program, grammar)
+    print(f"\n{'grammar':8} {'pieces':>7} " + " ".join(f"{it:>2} workers" for it in WORKERS))
+    for grammar in GRAMMARS:
+        by_workers(program, grammar)
 
 
 if __name__ == "__main__":
