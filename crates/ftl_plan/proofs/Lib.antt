@@ -4,5 +4,4 @@ pub mod Inputs
 pub mod RowsByStage
 pub mod StagesOfPlans
 pub mod WordRows
-pub mod FitsStage
-mod Filled
+pub mod Shared

@@ -5,4 +5,5 @@ pub mod PlannedStages
 pub mod PlanInside
 pub mod NodeWords
 pub mod StageTables
+pub mod StageWords
 pub use Rattle.ftl_plan_limits.specs.PlanFaults

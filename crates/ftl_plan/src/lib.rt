@@ -3,11 +3,13 @@
 //! words of the cells before the first stage; each stage as lawful work, `StageWork`, which means
 //! what `ftl_stage_laws` says that the stage means and drives a filler through an item with each
 //! step made once; and the words of the values that solve the tree, computed by one thread, stage
-//! after stage. `specs/StageParts.antt` says what a stage is made of, `specs/Driving.antt` where a
-//! filler stands around a step.
+//! after stage. `specs/StageParts.antt` says what a stage is made of, `specs/StageWords.antt` which
+//! words fit it, `specs/Driving.antt` where a filler stands around a step. The work of a stage may
+//! be shared by threads, as `proofs/Shared.antt` shows.
 #![tactic(auto)]
 
 mod alone;
+mod fitting;
 mod items;
 mod meant;
 mod parts;

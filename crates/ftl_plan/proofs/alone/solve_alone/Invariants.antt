@@ -1,4 +1,4 @@
-use Rattle.ftl_plan.proofs.FitsStage.{FitStage}
+use Rattle.ftl_plan.specs.StageWords.{FitStage}
 use Rattle.ftl_plan.proofs.alone.solve_alone.Given as goal
 
 abbrev pub invariant-loop-stage : goal.invariant-loop-stage

@@ -1,0 +1,59 @@
+//! All stages of a plan, one after the other, each by workers.
+ghost use Rattle.std.specs.Prelude.{◌<◌, ◌≤◌, IfOk};
+ghost use Rattle.ftl_cells.specs.State.{AreFirst, AreLast};
+ghost use Rattle.ftl_dep_table.specs.Meant.{meant};
+ghost use Rattle.ftl_items.specs.WordLaws.{HoldTheSolution};
+ghost use Rattle.ftl_solution.specs.Solution.{solution};
+
+use ftl_cells::{Cells, Work};
+use ftl_edge::Gate;
+use ftl_plan::{Plan, solve_alone};
+use ftl_steal::run_stage;
+use std::alloc::{AllocError, Global};
+use std::sync::Wait;
+use std::thread::Threads;
+
+/// The words of the solution, one for each cell. A stage is run by so many workers, or by fewer
+/// where it has fewer items. One worker is the calling thread: it starts no other and calls no
+/// gate.
+pub fn solve<R: Threads + Wait + Sync, G: Gate>(
+    rt: &R,
+    alloc: Global,
+    plan: &Plan<'_>,
+    workers: u32,
+    gate: &G,
+) -> Result<Vec<u64>, AllocError>
+    requires some { 0 < workers }
+    requires few { workers ≤ 64 }
+    ensures solution { IfOk result (λ v. HoldTheSolution
+        (solution (meant plan.now.checked) plan.now.tree) v.items) }
+{
+    if workers == 1 {
+        return solve_alone(alloc, plan);
+    }
+    plan.words_fit();
+    let mut words = plan.first_words(alloc)?;
+    for stage in 0..plan.stage_count() {
+        words = words_after(rt, alloc, plan.stage(stage), words, workers, gate)?;
+    }
+    Ok(words)
+}
+
+/// The words after a work, from those that fit it.
+fn words_after<R: Threads + Wait + Sync, W: Work + Drop, G: Gate>(
+    rt: &R,
+    alloc: Global,
+    work: W,
+    words: Vec<u64>,
+    workers: u32,
+    gate: &G,
+) -> Result<Vec<u64>, AllocError>
+    requires first { AreFirst (W.meaning work) words.items }
+    requires some { 0 < workers }
+    requires few { workers ≤ 64 }
+    ensures last { IfOk result (λ v. AreLast (W.meaning work) v.items) }
+{
+    let (cells, hand) = Cells::open(alloc, work, words)?;
+    let hand = run_stage(rt, alloc, &cells, hand, workers, gate)?;
+    Ok(cells.close(hand))
+}
