@@ -24,6 +24,7 @@ use Rattle.ftl_syntax.specs.contracts.rules.Grammar as Grammar
 use Rattle.ftl_grammar_tables.proofs.tables.Tables.TheSendSync as tables
 use Rattle.ftl_grammar_faults.proofs.info.AttrInfo.TheSendSync as attribute
 use Rattle.ftl_grammar_faults.proofs.info.RuleInfo.TheSendSync as rule
+use Rattle.ftl_checked.proofs.numbered_read.PartReads.TheSendSync as part_reads
 use Rattle.ftl_checked.specs.contracts.checked.Checked as Checked
 use Rattle.ftl_tree_rows.proofs.class_row.ClassRow.TheSendSync as class_row
 use Rattle.ftl_tree_rows.proofs.row.NodeRow.TheSendSync as node_row
@@ -79,13 +80,14 @@ checked_sync =
       tables.the_field_sync,
       attribute.the_sync,
       rule.the_sync,
+      part_reads.the_sync,
       items.the_sync,
       sendable,
     ) depth 30
 
 -- ---- the tree and its items
 
--- of each field: the grammar, and ten rows
+-- of each field: the grammar, and twelve rows
 tree_fields_sync : (κ : NamedLft) → AllSync (fields (tree_inside.the_type κ))
 tree_fields_sync κ =
     let numbers = Vec-sync u32 (search sendable) in
@@ -93,7 +95,10 @@ tree_fields_sync κ =
     let classes = Vec-sync ClassRow.the_row class_row.the_sync in
     let nodes = Vec-sync NodeRow.the_row node_row.the_sync in (
       search (checked_sync, sendable),
-      (classes, (numbers, (nodes, (numbers, (inputs, (numbers, (numbers, (numbers, (numbers, (numbers, tt)))))))))),
+      (
+        classes,
+        (numbers, (nodes, (numbers, (inputs, (numbers, (numbers, (numbers, (numbers, (numbers, (numbers, (numbers, tt))))))))))),
+      ),
     )
 
 tree_sync : (κ : NamedLft) → IsSync (Tree.the_field κ).row
