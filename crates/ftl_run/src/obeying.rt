@@ -14,7 +14,7 @@ use ftl_commands::Command;
 use std::alloc::{AllocError, Global};
 
 /// Obeys commands; the pages that they solve are solved by this.
-#[derive(Clone, Copy)]
+#[derive(Drop)]
 pub(crate) struct SolvedBy<V>(pub V);
 
 impl<V: Solver> Obey for SolvedBy<V> {

@@ -34,6 +34,7 @@ impl Solver for Alone {
 
 /// Solves by workers in threads of their own, who call the gate as they begin an item, and on the
 /// calling thread where one worker is asked for.
+#[derive(Drop)]
 pub(crate) struct Workers<'a, R, G> {
     pub rt: &'a R,
     pub gate: &'a G,
