@@ -75,7 +75,7 @@ fn lay_out<R: Threads + Wait + Sync, G: Gate>(
 }
 
 /// Prints whether two workers began an item each, and how often one worker called the gate.
-pub(crate) fn print_gates<R: Threads + Wait + Sync + Output + AllocGlobal>(
+pub(crate) fn print_gates<R: Threads + Wait + Sync + Print + AllocGlobal>(
     rt: &R,
 ) -> io::Result<()> {
     let meeting = Meeting {
