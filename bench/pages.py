@@ -1,5 +1,5 @@
 #!/usr/bin/env python3
-"""Lays out samples of 20,000 and 200,000 pieces of the six shipped grammars. Prints for each the nodes, the milliseconds
+"""Lays out samples of 20,000 and 200,000 pieces of the six shipped grammars. Prints for each the milliseconds
 of processor time of the whole run, of `check` on the same page (reading and checking the grammar and finding the
 schedule), of reading the document, and of the rest (making the plan, solving and printing the boxes), the peak memory
 in MB, and the growth of the time from the smaller sample to the larger. Then prints for the larger samples the

@@ -67,6 +67,17 @@ TWO_WORDS = b"""%page 1
 Sheet { body = Column { kids = [ Word { iw = 20 ih = 10 } Word { iw = 30 ih = 15 } ] } }
 """
 
+# Kids that read the kid before, in order.
+CHAIN = b"""%page 1
+%grammar
+root R; interface R { } interface K { inh a, b; show a, b; }
+class C : R { kids : [K]; kids.a := first 1 then prev.b; kids.b := first 2 then prev.a + prev.b; } class L : K { }
+%schedule
+inorder { K.a K.b }
+%document
+C { kids = [ L { } L { } L { } ] }
+"""
+
 # Documents that are read, a tree that is made with other inputs, and their texts.
 DOCUMENTS = b"""% stack bare two words
 Sheet { body = Column { kids = [ Word { iw = 20 ih = 10 } Word { iw = 30 ih = 15 } ] } }
@@ -79,6 +90,8 @@ Sheet { body = Column { kids = [ Word { iw = 20 ih = 10 } Word { iw = 30 ih = 15
 # The program, its words, its input, the status that want of memory has, and whether a front of the output may stand.
 CASES = [
     ("ftl_layout", ["run"], TWO_WORDS, 9, False),
+    ("ftl_layout", ["run", "--workers", "2", "--grain", "1"], TWO_WORDS, 9, False),
+    ("ftl_layout", ["run"], CHAIN, 9, False),
     ("ftl_layout", ["sample", "2"], b"", 9, False),
     ("ftl_document_cases", [], DOCUMENTS, 1, True),
 ]

@@ -1,5 +1,6 @@
 //! Gates that see which workers begin items of a page.
 
+use crate::told;
 use ftl_edge::{Gate, MemSink, MemSource};
 use ftl_run::layout_top;
 use std::alloc::{AllocError, Global};
@@ -19,24 +20,28 @@ Sheet { body = Column { kids = [ Word { iw = 20 ih = 10 } Word { iw = 30 ih = 15
 /// How long a worker waits for another.
 const TURNS: u64 = 400_000_000;
 
-/// Marks the workers that call it. The first of them waits there until two are marked.
+/// Marks the workers that call it. The first caller waits there until two are marked.
 #[derive(Drop)]
 struct Meeting {
+    called: AtomicU64,
     marks: [AtomicU64; 2],
+    marked: AtomicU64,
 }
 
 impl Meeting {
     fn both_came(&self) -> bool {
-        self.marks[0].load(Ordering::SeqCst) == 1 && self.marks[1].load(Ordering::SeqCst) == 1
+        self.marked.load(Ordering::SeqCst) == 2
     }
 }
 
 impl Gate for Meeting {
     fn before(&self, worker: u32, _item: u32) {
-        if worker > 1 {
+        if worker < 2 && self.marks[worker as usize].swap(1, Ordering::SeqCst) == 0 {
+            self.marked.fetch_add(1, Ordering::SeqCst);
+        }
+        if self.called.swap(1, Ordering::SeqCst) != 0 {
             return;
         }
-        self.marks[worker as usize].store(1, Ordering::SeqCst);
         for _ in 0..TURNS {
             if self.both_came() {
                 return;
@@ -57,13 +62,13 @@ impl Gate for Counting {
     }
 }
 
-/// Lays out the page by so many workers, and answers the status.
+/// Lays out the page by so many workers, and tells what was written and the status.
 fn lay_out<R: Threads + Wait + Sync, G: Gate>(
     rt: &R,
     alloc: Global,
     workers: &str,
     gate: &G,
-) -> Result<u8, AllocError> {
+) -> Result<String, AllocError> {
     let mut words = Vec::new(alloc);
     for &word in &["run", "--workers", workers, "--grain", "1"] {
         words.push(String::from_str(alloc, word)?)?;
@@ -71,27 +76,29 @@ fn lay_out<R: Threads + Wait + Sync, G: Gate>(
     let page = Vec::from_slice(alloc, PAGE.as_bytes())?;
     let mut source = MemSource::new(page, PAGE.len(), Vec::new(alloc));
     let mut sink = MemSink::new(alloc, PAGE.len(), Vec::new(alloc))?;
-    Ok(layout_top(rt, alloc, words.as_slice(), &mut source, &mut sink, gate).0)
+    let status = layout_top(rt, alloc, words.as_slice(), &mut source, &mut sink, gate);
+    told(alloc, &sink, status)
 }
 
-/// Prints whether two workers began an item each, and how often one worker called the gate.
+/// Prints what two workers wrote, and whether they began an item each, and what one wrote, and how
+/// often it called the gate.
 pub(crate) fn print_gates<R: Threads + Wait + Sync + Print + AllocGlobal>(
     rt: &R,
 ) -> io::Result<()> {
     let meeting = Meeting {
+        called: AtomicU64::new(0),
         marks: [AtomicU64::new(0), AtomicU64::new(0)],
+        marked: AtomicU64::new(0),
     };
-    let status = lay_out(rt, rt.alloc(), "2", &meeting)?;
+    let told = lay_out(rt, rt.alloc(), "2", &meeting)?;
     println!(rt;
-        "two workers: status {status}, both began an item: {}",
+        "{told}two workers, both began an item: {}",
         meeting.both_came()
     )?;
     let counting = Counting {
         calls: AtomicU64::new(0),
     };
-    let status = lay_out(rt, rt.alloc(), "1", &counting)?;
-    println!(rt;
-        "one worker: status {status}, calls of the gate: {}",
-        counting.calls.load(Ordering::SeqCst)
-    )
+    let told = lay_out(rt, rt.alloc(), "1", &counting)?;
+    let calls = counting.calls.load(Ordering::SeqCst);
+    println!(rt; "{told}one worker, calls of the gate: {calls}")
 }

@@ -37,7 +37,7 @@ fn read_text(rt: &impl Input, alloc: Global) -> Option<String> {
 }
 
 /// The text that was written, and the status.
-fn told(alloc: Global, sink: &MemSink, status: Status) -> Result<String, AllocError> {
+pub(crate) fn told(alloc: Global, sink: &MemSink, status: Status) -> Result<String, AllocError> {
     let written = Vec::from_slice(alloc, sink.written())?;
     let mut out = String::from_utf8(written).unwrap_or(String::new(alloc));
     writeln!(out, "status {}", status.0)?;

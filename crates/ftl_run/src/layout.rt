@@ -18,14 +18,15 @@ use std::thread::Threads;
 /// Does what the words say with the page that the source has left, and writes the boxes, the text
 /// that is asked for, or the one refusal line to the sink. A page is solved stage by stage, each by
 /// as many workers as the words say, or as it has items where these are fewer; with one worker no
-/// thread is started, and the gate is not called. All memory is taken before the first write.
+/// thread is started, and the gate is not called. It waits for its threads, so it owes no end. All
+/// memory is taken before the first write.
 ///
 /// For every page of either version, with any lawful grammar and any ordered schedule or the
 /// automatic one, for every number of workers and every grain, exactly one table gives each
 /// attribute of each node the value of its rule, and the bytes written are that table's boxes in
 /// preorder, with values out of range as `overflow`; otherwise they are the one refusal line that
 /// the definitions name. This speaks of the command `run`, of sources and sinks that tell their
-/// bytes and don't fail, and of enough memory.
+/// bytes and don't fail, of enough memory, and of a call that returned.
 pub fn layout_top<R: Threads + Wait + Sync, S: Source, K: Sink, G: Gate>(
     rt: &R,
     alloc: Global,
