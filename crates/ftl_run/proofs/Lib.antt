@@ -11,3 +11,4 @@ mod Statuses
 mod Bytes
 mod Tables
 mod ToldAnswers
+mod ReadBytes

@@ -18,7 +18,7 @@ are_told (Some bytes) = refl
 -- of the answer that was decided
 pub of_decided : (words : List (List ℕ)) (told : Option (List ℕ)) (a : Answer) (P : Answer → Type 0)
     → OfTheBytes told (λ bytes. IsAnswer words bytes a) → P a → OfTheAnswer words told P
-of_decided words told a P (bytes, are, is) holds = (bytes, are, a, is, holds)
+of_decided words told a P (bytes, are, is) holds = (bytes, are, (a, is, holds))
 
 -- of any answer
 pub of_any : (words : List (List ℕ)) (told : Option (List ℕ)) (P : Answer → Type 0)
@@ -26,7 +26,7 @@ pub of_any : (words : List (List ℕ)) (told : Option (List ℕ)) (P : Answer �
     → ((bytes : List ℕ) (a : Answer) → IsAnswer words bytes a → P a) → OfTheAnswer words told P
 of_any words told P one holds =
     let bytes = bytes_told told in
-    let x = (one words bytes).some in (bytes, are_told told, x.0, x.1, holds bytes x.0 x.1)
+    let x = (one words bytes).some in (bytes, are_told told, (x.0, x.1, holds bytes x.0 x.1))
 
 module _ (written after : Option (List ℕ)) (reads : Bool) (told left : Option (List ℕ)) (write_rose read_rose : Type 0)
     (a : Answer) (fine : IsAnswered a.status) where
