@@ -24,13 +24,11 @@ use crate::growing::tree_of;
 use crate::read::read_page;
 use crate::scheduling::schedule_of;
 use crate::shown::{Shown, table_shown};
-use crate::solver::Solver;
 use crate::status::Status;
 use ftl_checked::Checked;
-use ftl_commands::Solving;
 use ftl_order::{reads_end_by_rank, values_are_in_range};
 use ftl_page::{Need, Page, Text};
-use ftl_plan::{Plan, PlanFault};
+use ftl_plan::{Plan, PlanFault, solve_alone};
 use ftl_solution::solution_solves;
 use ftl_tree::Tree;
 use ftl_verify::Accepted;
@@ -45,17 +43,16 @@ const WHOLE_PAGE: Need = Need {
 };
 
 /// The table of a page, shown, or the page's refusal.
-pub(crate) fn solved<V: Solver>(
+pub(crate) fn solved(
     alloc: Global,
-    solver: &V,
     shown: &Shown,
-    how: Solving,
+    grain: u32,
     bytes: Vec<u8>,
 ) -> Result<Decided, AllocError>
     ensures outcome { IfOk result
         (λ d. solved bytes.items (text_shown shown.now) (ends (answer_of d))) }
 {
-    match told_of_bytes(alloc, solver, shown, how, bytes) {
+    match told_of_bytes(alloc, shown, grain, bytes) {
         Ok(told) => Ok(told),
         Err(Undecided::Refused(refusal)) => Ok(refusal),
         Err(Undecided::OutOfMemory) => Err(AllocError),
@@ -72,17 +69,16 @@ pub(crate) fn bad_sample(alloc: Global) -> Result<Decided, AllocError>
     })
 }
 
-fn told_of_bytes<V: Solver>(
+fn told_of_bytes(
     alloc: Global,
-    solver: &V,
     shown: &Shown,
-    how: Solving,
+    grain: u32,
     bytes: Vec<u8>,
 ) -> Result<Decided, Undecided>
     ensures outcome { EndsIn (solved bytes.items (text_shown shown.now)) result }
 {
     match page_of(alloc, bytes) {
-        Ok(page) => told_of_page(alloc, solver, shown, how, page),
+        Ok(page) => told_of_page(alloc, shown, grain, page),
         Err(end) => Err(end),
     }
 }
@@ -95,13 +91,7 @@ fn page_of(alloc: Global, bytes: Vec<u8>) -> Result<Page, Undecided>
     read_page(alloc, bytes.as_slice(), WHOLE_PAGE)
 }
 
-fn told_of_page<V: Solver>(
-    alloc: Global,
-    solver: &V,
-    shown: &Shown,
-    how: Solving,
-    page: Page,
-) -> Result<Decided, Undecided>
+fn told_of_page(alloc: Global, shown: &Shown, grain: u32, page: Page) -> Result<Decided, Undecided>
     requires short { HasTextsUpTo 67108864 page }
     ensures outcome { EndsIn (told_of_page shown.now page) result }
 {
@@ -115,7 +105,7 @@ fn told_of_page<V: Solver>(
     match grammar_of(alloc, width, grammar) {
         Ok(checked) => {
             let document = text_of(alloc, document);
-            told_of_grammar(alloc, solver, shown, how, &checked, schedule, document)
+            told_of_grammar(alloc, shown, grain, &checked, schedule, document)
         }
         Err(end) => Err(end),
     }
@@ -133,11 +123,10 @@ fn text_of(alloc: Global, text: Option<Text>) -> String
     }
 }
 
-fn told_of_grammar<V: Solver>(
+fn told_of_grammar(
     alloc: Global,
-    solver: &V,
     shown: &Shown,
-    how: Solving,
+    grain: u32,
     checked: &Checked,
     order: Option<Text>,
     document: String,
@@ -149,16 +138,15 @@ fn told_of_grammar<V: Solver>(
         (string_bytes document)) result }
 {
     match schedule_of(alloc, checked, order) {
-        Ok(accepted) => told_of_schedule(alloc, solver, shown, how, checked, &accepted, document),
+        Ok(accepted) => told_of_schedule(alloc, shown, grain, checked, &accepted, document),
         Err(end) => Err(end),
     }
 }
 
-fn told_of_schedule<V: Solver>(
+fn told_of_schedule(
     alloc: Global,
-    solver: &V,
     shown: &Shown,
-    how: Solving,
+    grain: u32,
     checked: &Checked,
     accepted: &Accepted,
     document: String,
@@ -171,16 +159,15 @@ fn told_of_schedule<V: Solver>(
         (string_bytes document)) result }
 {
     match tree_of(alloc, checked, accepted, document) {
-        Ok(tree) => told_of_tree(alloc, solver, shown, how, checked, accepted, &tree),
+        Ok(tree) => told_of_tree(alloc, shown, grain, checked, accepted, &tree),
         Err(end) => Err(end),
     }
 }
 
-fn told_of_tree<V: Solver>(
+fn told_of_tree(
     alloc: Global,
-    solver: &V,
     shown: &Shown,
-    how: Solving,
+    grain: u32,
     checked: &Checked,
     accepted: &Accepted,
     tree: &Tree<'_>,
@@ -192,15 +179,14 @@ fn told_of_tree<V: Solver>(
     requires fits { first_fault (meant checked.now) (stages_of accepted.now) tree.now.tree ≡ None }
     ensures outcome { EndsIn (shown_by (text_shown shown.now) checked.now tree.now.tree) result }
 {
-    let words = words_of(alloc, solver, how, checked, accepted, tree)?;
+    let words = words_of(alloc, grain, checked, accepted, tree)?;
     Ok(table_shown(alloc, shown, tree, words.as_slice())?)
 }
 
 /// The words of the values that solve a tree.
-fn words_of<V: Solver>(
+fn words_of(
     alloc: Global,
-    solver: &V,
-    how: Solving,
+    grain: u32,
     checked: &Checked,
     accepted: &Accepted,
     tree: &Tree<'_>,
@@ -213,31 +199,30 @@ fn words_of<V: Solver>(
     ensures solved { IfOk result (λ v. IsSolvedBy tree.now v.items) }
 {
     let programs = compile(alloc, checked)?;
-    let grain = in_range(how.grain, 1_048_576);
+    let grain = grain_in_range(grain);
     match Plan::new(alloc, checked, accepted, &programs, tree, grain) {
-        Ok(plan) => solved_words(alloc, solver, how.workers, &plan, tree),
+        Ok(plan) => solved_words(alloc, &plan, tree),
         Err(PlanFault::OutOfMemory) => Err(AllocError),
         Err(_) => unreachable!(),
     }
 }
 
-/// The number, or the nearest one from 1 to the most.
-fn in_range(number: u32, most: u32) -> u32
-    requires some { 1 ≤ most }
+/// The grain, or the nearest one that a plan may have.
+fn grain_in_range(grain: u32) -> u32
     ensures some { 1 ≤ result }
-    ensures most { result ≤ most }
+    ensures most { result ≤ 1048576 }
 {
-    number.max(1).min(most)
+    if grain == 0 {
+        1
+    } else if grain > 1_048_576 {
+        1_048_576
+    } else {
+        grain
+    }
 }
 
 /// The words of the values that solve the tree of a plan.
-fn solved_words<V: Solver>(
-    alloc: Global,
-    solver: &V,
-    workers: u32,
-    plan: &Plan<'_>,
-    tree: &Tree<'_>,
-) -> Result<Vec<u64>, AllocError>
+fn solved_words(alloc: Global, plan: &Plan<'_>, tree: &Tree<'_>) -> Result<Vec<u64>, AllocError>
     requires grammar { tree.now.checked ≡ plan.now.checked }
     requires tree { tree.now.tree ≡ plan.now.tree }
     ensures solved { IfOk result (λ v. IsSolvedBy tree.now v.items) }
@@ -246,5 +231,5 @@ fn solved_words<V: Solver>(
     values_are_in_range();
     reads_end_by_rank();
     let _can_be_planned = plan.stage_count();
-    solver.solve(alloc, plan, in_range(workers, 64))
+    solve_alone(alloc, plan)
 }

@@ -8,7 +8,6 @@ ghost use Rattle.ftl_run.specs.Outcomes.{answer_of};
 
 use crate::decision::Decided;
 use crate::shown::Shown;
-use crate::solver::Solver;
 use crate::solving::{bad_sample, solved};
 use ftl_boxes::{SampleFault, sample_page};
 use ftl_commands::Solving;
@@ -16,21 +15,15 @@ use ftl_tokens::Name;
 use std::alloc::{AllocError, Global};
 
 /// The boxes of a page. The page's bytes are let go as soon as its sections are there.
-pub fn obey_run<V: Solver>(
-    alloc: Global,
-    solver: &V,
-    how: Solving,
-    bytes: Vec<u8>,
-) -> Result<Decided, AllocError>
+pub fn obey_run(alloc: Global, how: Solving, bytes: Vec<u8>) -> Result<Decided, AllocError>
     ensures outcome { IfOk result (λ d. obeyed (command.Run how) bytes.items (ends (answer_of d))) }
 {
-    solved(alloc, solver, &Shown::Boxes, how, bytes)
+    solved(alloc, &Shown::Boxes, how.grain, bytes)
 }
 
 /// The summary of a sample of so many pieces in the shipped grammar of this name.
-pub fn obey_sample<V: Solver>(
+pub fn obey_sample(
     alloc: Global,
-    solver: &V,
     pieces: u32,
     grammar: Name,
     how: Solving,
@@ -41,9 +34,8 @@ pub fn obey_sample<V: Solver>(
     match sample_page(alloc, pieces, grammar.text()) {
         Ok(text) => solved(
             alloc,
-            solver,
             &Shown::Summary(grammar),
-            how,
+            how.grain,
             text.into_bytes(),
         ),
         Err(SampleFault::OutOfMemory) => Err(AllocError),

@@ -3,14 +3,14 @@ use Rattle.ftl_run.proofs.Solved.{if_ok, solved_by}
 use Rattle.ftl_run.proofs.solving.solved_words.Goals as goal
 
 pub returns : goal.returns
-returns g c =
+returns c =
     let p = c.args.plan.now in
     record {
       solved =
-          if_ok c.solve.result
+          if_ok c.solve_alone.result
           (λ v held.
           solved_by c.args.tree.now p.checked p.tree (stages_of p.schedule) c.requires.grammar c.requires.tree
           c.stage_count-can_be_planned.ensures.plan c.solution_solves.ensures.ordered
           c.values_are_in_range.ensures.in_range c.reads_end_by_rank.ensures.reads_end v.items held)
-          c.solve.ensures.solution;
+          c.solve_alone.ensures.solution;
     }

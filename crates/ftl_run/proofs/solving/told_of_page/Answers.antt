@@ -7,7 +7,7 @@ use Rattle.ftl_run.proofs.Endings.{end_second}
 use Rattle.ftl_run.proofs.solving.told_of_page.Goals as goal
 
 pub returns-in-Ok : goal.returns-in-Ok
-returns-in-Ok g c =
+returns-in-Ok c =
     let p = c.args.page in
     record {
       outcome =

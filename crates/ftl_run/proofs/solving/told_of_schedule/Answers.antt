@@ -6,7 +6,7 @@ use Rattle.ftl_run.proofs.Endings.{end_second}
 use Rattle.ftl_run.proofs.solving.told_of_schedule.Goals as goal
 
 pub returns-in-Ok : goal.returns-in-Ok
-returns-in-Ok g c = record {
+returns-in-Ok c = record {
   outcome =
       end_second (tree c.args.checked.now c.args.accepted.now (string_bytes c.args.document))
       (shown_by (text_shown c.args.shown.now) c.args.checked.now) c.in-Ok.tree.tree c.told_of_tree.result

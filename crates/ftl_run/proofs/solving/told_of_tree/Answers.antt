@@ -7,7 +7,7 @@ use Rattle.ftl_run.specs.ShownTables.{text_shown}
 use Rattle.ftl_run.proofs.solving.told_of_tree.Goals as goal
 
 pub returns : goal.returns
-returns g c = record {
+returns c = record {
   outcome =
       subst
       (λ (k : CheckedGrammar). shown_by (text_shown c.args.shown.now) k c.args.tree.now.tree
