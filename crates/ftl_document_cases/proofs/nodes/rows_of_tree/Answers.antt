@@ -1,6 +1,6 @@
-use Rattle.std.proofs.Common.{◌≡◌, ◌<◌, ℕ, ap, arith, length, map, refl, sym, ◌∙◌}
+use Rattle.std.proofs.Common.{◌≡◌, ◌<◌, ◌++◌, [], ◌∷◌, ℕ, ap, ap₂, arith, length, map, refl, sym, ◌∙◌}
 use Rattle.std.specs.List.{range_with_len}
-use Rattle.std.proofs.lemmas.List.FromFn.{fill_by_all}
+use Rattle.std.proofs.lemmas.List.FromFn.{fill_by_all, map-range_with_len_more}
 use Rattle.ftl_dep_table.specs.Meant.{meant}
 use Rattle.ftl_model.specs.AttributeGrammar.{AttributeGrammar}
 use Rattle.ftl_model.specs.Path.{node_at}
@@ -21,6 +21,14 @@ by_number g t is =
     fill_by_all (λ (n : ℕ). row_of t (node_at t n)) (rows_of t) (size t) no_row
     (length-by_node g t (row_of t) (rows_of t) is refl)
     (λ k h. at_node g t (row_of t) (rows_of t) k no_row is refl h)
+
+pub loop-node-preserved : goal.loop-node-preserved
+loop-node-preserved c =
+    let t = c.args.tree.now.tree in
+    let n = c.loop-node.node in
+    c.in_ok-push.ensures.items
+    ∙ ap₂ (λ xs (x : NodeRow). xs ++ x ∷ []) c.loop-node.invariant c.row.ensures.row
+    ∙ sym (map-range_with_len_more (λ (m : ℕ). row_of t (node_at t m)) 0 n n (omega arith))
 
 pub returns : goal.returns
 returns c =

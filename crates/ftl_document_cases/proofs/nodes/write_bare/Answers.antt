@@ -14,7 +14,7 @@ bare_tree-requires c =
       rows = (
         t.tree,
         subst (λ (rows : List NodeRow). AreBareRows (meant c.checked.result.now) t.tree rows)
-            (sym (c.as_slice.ensures ∙ c.in_ok-rows.ensures.rows))
+            (sym (c.as_slice.ensures.value ∙ c.in_ok-rows.ensures.rows))
             (subst (λ (g : CheckedGrammar). AreBareRows (meant g) t.tree _) (sym c.checked.ensures.grammar) (record {
               is_tree = c.node_count-nodes.ensures.is_tree;
               rows_are = refl;
