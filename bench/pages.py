@@ -2,8 +2,7 @@
 """Lays out samples of 20,000 and 200,000 pieces of the six shipped grammars. Prints for each the milliseconds
 of processor time of the whole run, of `check` on the same page (reading and checking the grammar and finding the
 schedule), of reading the document, and of the rest (making the plan, solving and printing the boxes), the peak memory
-in MB, and the growth of the time from the smaller sample to the larger. Then prints for the larger samples the
-milliseconds that pass by 1, 2 and 4 workers.
+in MB, and the growth of the time from the smaller sample to the larger.
 
 The time of reading a document is that of a run on the same page without its last input, which is refused as soon as
 all of it was read, less that of `check`.
