@@ -1,9 +1,10 @@
-use Rattle.std.proofs.Common.{◌≡◌, ap, sym, ◌∙◌, subst, refl, List}
+use Rattle.std.proofs.Common.{◌≤◌, ℕ, sym, ◌∙◌, subst, refl, List}
 use Rattle.ftl_base.specs.Widths.{greatest_of_width}
 use Rattle.ftl_dep_table.specs.Meant.{meant}
 use Rattle.ftl_model.specs.Tree.{Forest}
 use Rattle.ftl_grammar_faults.specs.Checked.{CheckedGrammar}
 use Rattle.ftl_tree.specs.Bare.{AreBareRows}
+use Rattle.ftl_tree_rows.specs.Rows.{rows_of}
 use Rattle.ftl_tree_rows.specs.declared.row.NodeRow.{NodeRow}
 use Rattle.ftl_document_cases.proofs.nodes.write_bare.Goals as goal
 
@@ -15,11 +16,13 @@ bare_tree-requires c =
         t.tree,
         subst (λ (rows : List NodeRow). AreBareRows (meant c.checked.result.now) t.tree rows)
             (sym (c.as_slice.ensures.value ∙ c.in_ok-rows.ensures.rows))
-            (subst (λ (g : CheckedGrammar). AreBareRows (meant g) t.tree _) (sym c.checked.ensures.grammar) (record {
+            (subst (λ (g : CheckedGrammar). AreBareRows (meant g) t.tree (rows_of t.tree)) (sym c.checked.ensures.grammar) (record {
               is_tree = c.node_count-nodes.ensures.is_tree;
               rows_are = refl;
-              few_nodes = c.node_count-nodes.ensures.bound;
-              few_instances = c.instance_count-instances.ensures.bound;
+              few_nodes = subst (λ (n : ℕ). n ≤ 1048576) c.node_count-nodes.ensures.count c.node_count-nodes.ensures.bound;
+              few_instances =
+                  subst (λ (n : ℕ). n ≤ 33554432) c.instance_count-instances.ensures.count
+                  c.instance_count-instances.ensures.bound;
             })),
       );
     }
