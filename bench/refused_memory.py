@@ -1,9 +1,8 @@
 #!/usr/bin/env python3
 """Refuses each allocation in turn: for N from 1 on, the Nth call by which the program asks for memory gets none, until
-a run makes fewer calls. Each such run has to end as want of memory does, or as the run with ample memory: the layout
-program with status 9 and nothing written, the program that prints documents with status 1 and a front of its output.
+a run makes fewer calls. Each such run has to end with status 9 and nothing written, or as the run with ample memory.
 
-usage: bench/refused_memory.py [NAME..]     NAME is ftl_layout or ftl_document_cases; both if left out
+usage: bench/refused_memory.py [PROGRAM]     PROGRAM is crates/ftl_layout/out/ftl_layout if left out
 
 It needs Linux with glibc, and a C compiler as $CC or cc, for what stands between the program and malloc. `rt try
 --fail-alloc N` does the same for one N on a checked build, which it makes anew each time.
@@ -78,22 +77,12 @@ inorder { K.a K.b }
 C { kids = [ L { } L { } L { } ] }
 """
 
-# Documents that are read, a tree that is made with other inputs, and their texts.
-DOCUMENTS = b"""% stack bare two words
-Sheet { body = Column { kids = [ Word { iw = 20 ih = 10 } Word { iw = 30 ih = 15 } ] } }
-% stack set the height of the first word
-Sheet { body = Column { kids = [ Word { iw = 20 ih = 10 } Word { iw = 30 ih = 15 } ] } }
-==
-2 ih 7
-"""
-
-# The program, its words, its input, the status that want of memory has, and whether a front of the output may stand.
+# The words of the layout program, and its input.
 CASES = [
-    ("ftl_layout", ["run"], TWO_WORDS, 9, False),
-    ("ftl_layout", ["run", "--workers", "2", "--grain", "1"], TWO_WORDS, 9, False),
-    ("ftl_layout", ["run"], CHAIN, 9, False),
-    ("ftl_layout", ["sample", "2"], b"", 9, False),
-    ("ftl_document_cases", [], DOCUMENTS, 1, True),
+    (["run"], TWO_WORDS),
+    (["run", "--workers", "2", "--grain", "1"], TWO_WORDS),
+    (["run"], CHAIN),
+    (["sample", "2"], b""),
 ]
 
 
@@ -118,7 +107,7 @@ def run(library, command, text, call):
     return done.returncode, done.stdout, came
 
 
-def refuse_each(library, command, text, wanted, front):
+def refuse_each(library, command, text):
     """How many calls there are, how many of them are answered by want of memory if refused, and which are wrong."""
     status, output, _came = run(library, command, text, 0)
     call, refusals, wrong = 0, 0, []
@@ -127,27 +116,23 @@ def refuse_each(library, command, text, wanted, front):
         ended, told, came = run(library, command, text, call)
         if not came:
             return call - 1, refusals, wrong
-        if ended == wanted and (output.startswith(told) if front else not told):
+        if ended == 9 and not told:
             refusals += 1
         elif (ended, told) != (status, output):
             wrong.append((call, ended, len(told)))
 
 
 def main():
-    names = sys.argv[1:] or sorted({case[0] for case in CASES})
+    program = sys.argv[1] if len(sys.argv) > 1 else os.path.join(TOP, "crates/ftl_layout/out/ftl_layout")
+    if not os.path.exists(program):
+        sys.exit(f"{program} is not built: run ./layout once")
     failed = False
     with tempfile.TemporaryDirectory() as folder:
         library = built(folder)
-        for name, words, text, wanted, front in CASES:
-            program = os.path.join(TOP, "crates", name, "out", name)
-            if name not in names:
-                continue
-            if not os.path.exists(program):
-                sys.exit(f"{program} is not built: run 'rt run' in crates/{name} once")
-            calls, refusals, wrong = refuse_each(library, [program] + words, text, wanted, front)
+        for words, text in CASES:
+            calls, refusals, wrong = refuse_each(library, [program] + words, text)
             rest = calls - refusals - len(wrong)
-            title = " ".join([name] + words)
-            print(f"{title}: {calls} calls, {refusals} refused with status {wanted}, {rest} as before")
+            print(f"{' '.join(words)}: {calls} calls, {refusals} refused with status 9, {rest} as before")
             for call, ended, length in wrong:
                 print(f"  call {call} refused: status {ended}, {length} bytes written")
             failed = failed or bool(wrong) or not calls
