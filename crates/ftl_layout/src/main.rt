@@ -1,8 +1,8 @@
 //! The program: words from the command line, a page from standard input, boxes to standard output.
 #![tactic(auto)]
 
-use ftl_edge::{StdSink, StdSource};
-use ftl_run::{Status, layout_alone};
+use ftl_edge::{OpenGate, StdSink, StdSource};
+use ftl_run::{Status, layout_top};
 use std::io::ErrorKind;
 use std::process::ExitCode;
 use std::rt::Env;
@@ -30,7 +30,14 @@ fn main(rt: HostRuntime) -> ExitCode {
         Ok(words) => {
             let mut source = StdSource::new(&rt);
             let mut sink = StdSink::new(&rt);
-            layout_alone(rt.alloc(), words.as_slice(), &mut source, &mut sink)
+            layout_top(
+                &rt,
+                rt.alloc(),
+                words.as_slice(),
+                &mut source,
+                &mut sink,
+                &OpenGate,
+            )
         }
         Err(_) => Status::OUT_OF_MEMORY,
     };

@@ -1,19 +1,24 @@
-//! Prints what the program answers on one thread to words and pages in memory. Each case on
-//! standard input begins by a line with `===` and the words, below which stands the page. Before
-//! the words may stand `sink N` or `source N`, where that call of the sink or the source fails,
-//! `spaces N`, where the page is so many spaces, or `byte N`, where it is that byte. A line of a
-//! page that begins with `*N` and a space stands there N times. Printed is the line, the text
-//! that was written, and the status.
+//! Prints what the program answers to words and pages in memory. Each case on standard input begins
+//! by a line with `===` and the words, below which stands the page. Before the words may stand
+//! `sink N` or `source N`, where that call of the sink or the source fails, `spaces N`, where the
+//! page is so many spaces, or `byte N`, where it is that byte. A line of a page that begins with
+//! `*N` and a space stands there N times. Printed is the line, the text that was written, and the
+//! status; and where one thread alone answers otherwise than the workers that the words ask for,
+//! what it answers. Before the cases stands what gates saw of the workers.
 #![tactic(auto)]
 
 mod case;
+mod gates;
 
 use case::Case;
-use ftl_edge::{MemSink, MemSource, StdSource, read_all};
-use ftl_run::layout_alone;
+use ftl_edge::{MemSink, MemSource, OpenGate, StdSource, read_all};
+use ftl_run::{Status, layout_alone, layout_top};
+use gates::print_gates;
 use std::alloc::{AllocError, Global};
 use std::fmt::Write;
 use std::io;
+use std::sync::Wait;
+use std::thread::Threads;
 
 /// The most bytes of all cases.
 const MAX_TEXT: usize = 1048576;
@@ -31,21 +36,44 @@ fn read_text(rt: &impl Input, alloc: Global) -> Option<String> {
     String::from_utf8(bytes).ok()
 }
 
-/// What is written in a case, and its status.
-fn answer(alloc: Global, case: Case) -> Result<String, AllocError> {
-    let Case {
-        words,
-        page,
-        failing_reads,
-        failing_writes,
-    } = case;
-    let mut source = MemSource::new(page, READ_BYTES, failing_reads);
-    let mut sink = MemSink::new(alloc, WRITE_BYTES, failing_writes)?;
-    let status = layout_alone(alloc, words.as_slice(), &mut source, &mut sink);
+/// The text that was written, and the status.
+fn told(alloc: Global, sink: &MemSink, status: Status) -> Result<String, AllocError> {
     let written = Vec::from_slice(alloc, sink.written())?;
     let mut out = String::from_utf8(written).unwrap_or(String::new(alloc));
     writeln!(out, "status {}", status.0)?;
     Ok(out)
+}
+
+/// The source of a case.
+fn source_of(alloc: Global, case: &Case) -> Result<MemSource, AllocError> {
+    let page = Vec::from_slice(alloc, case.page.as_slice())?;
+    let failing = Vec::from_slice(alloc, case.failing_reads.as_slice())?;
+    Ok(MemSource::new(page, READ_BYTES, failing))
+}
+
+/// The sink of a case.
+fn sink_of(alloc: Global, case: &Case) -> Result<MemSink, AllocError> {
+    let failing = Vec::from_slice(alloc, case.failing_writes.as_slice())?;
+    MemSink::new(alloc, WRITE_BYTES, failing)
+}
+
+/// What is written in a case, and its status.
+fn answer<R: Threads + Wait + Sync>(
+    rt: &R,
+    alloc: Global,
+    case: &Case,
+) -> Result<String, AllocError> {
+    let (mut source, mut sink) = (source_of(alloc, case)?, sink_of(alloc, case)?);
+    let words = case.words.as_slice();
+    let status = layout_top(rt, alloc, words, &mut source, &mut sink, &OpenGate);
+    told(alloc, &sink, status)
+}
+
+/// The same by one thread alone.
+fn answer_alone(alloc: Global, case: &Case) -> Result<String, AllocError> {
+    let (mut source, mut sink) = (source_of(alloc, case)?, sink_of(alloc, case)?);
+    let status = layout_alone(alloc, case.words.as_slice(), &mut source, &mut sink);
+    told(alloc, &sink, status)
 }
 
 fn main(rt: HostRuntime) -> io::Result<()> {
@@ -53,13 +81,16 @@ fn main(rt: HostRuntime) -> io::Result<()> {
         println!(rt; "no text")?;
         return Ok(());
     };
+    print_gates(&rt)?;
     for case in text.as_str().split("=== ").skip(1) {
         let (heading, page) = case.split_once('\n').unwrap_or((case, ""));
-        println!(rt; "=== {heading}")?;
-        print!(rt;
-            "{}",
-            answer(rt.alloc(), Case::new(rt.alloc(), heading, page)?)?
-        )?;
+        let case = Case::new(rt.alloc(), heading, page)?;
+        let answer = answer(&rt, rt.alloc(), &case)?;
+        let alone = answer_alone(rt.alloc(), &case)?;
+        print!(rt; "=== {heading}\n{answer}")?;
+        if alone.as_str() != answer.as_str() {
+            print!(rt; "alone {alone}")?;
+        }
     }
     Ok(())
 }

@@ -1,10 +1,10 @@
 -- How whole commands follow their stages.
 use Rattle.std.proofs.Common.{inl, inr, refl, Result, Ok, Err}
 use Rattle.ftl_answer.specs.Stages.{Stage, Then, hands_on}
-use Rattle.ftl_run.specs.Outcomes.{IsOutcome, answer_of}
-use Rattle.ftl_run.specs.declared.decision.Decided.{Decided}
-use Rattle.ftl_run.specs.declared.decision.Undecided.{Undecided}
-use Rattle.ftl_run.specs.declared.decision.Undecided.TheVariants.{OutOfMemory, Refused}
+use Rattle.ftl_sections.specs.Outcomes.{IsOutcome, answer_of}
+use Rattle.ftl_sections.specs.declared.decision.Decided.{Decided}
+use Rattle.ftl_sections.specs.declared.decision.Undecided.{Undecided}
+use Rattle.ftl_sections.specs.declared.decision.Undecided.TheVariants.{OutOfMemory, Refused}
 use Rattle.ftl_run.specs.Asked.{EndsIn}
 
 -- the failure, as a result of this type

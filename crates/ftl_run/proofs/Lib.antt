@@ -1,14 +1,7 @@
-mod Ways
-mod Told
-mod ToldSchedules
-mod AutomaticSmall
-mod ReadSmall
 mod Endings
 mod Words
 mod Solved
 mod Passes
-mod Statuses
-mod Bytes
-mod Tables
-mod ToldAnswers
 mod ReadBytes
+mod Leading
+mod Telling

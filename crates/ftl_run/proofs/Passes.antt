@@ -3,7 +3,7 @@ use Rattle.std.proofs.Common.{◌≤◌, ◌∙◌, ap, subst, [], length, get_o
 use Rattle.std.proofs.lemmas.List.{get_or-map, length-map}
 use Rattle.std.proofs.lemmas.List.Elements.{All-from_get_or}
 use Rattle.ftl_plan.specs.PlannedStages.{HaveFewPasses}
-use Rattle.ftl_run.specs.Small.{IsSmall}
+use Rattle.ftl_sections.specs.Small.{IsSmall}
 use Rattle.ftl_stages.specs.Stages.{pass_of, stages_of}
 use Rattle.ftl_stages.specs.declared.types.Schedule.{Schedule}
 use Rattle.ftl_stages.specs.declared.types.Stage.{Stage}

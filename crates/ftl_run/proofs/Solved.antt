@@ -1,5 +1,5 @@
 -- The words of the solution are those of values that solve.
-use Rattle.std.proofs.Common.{◌≡◌, ◌<◌, sym, subst, ℕ, List, length, Result, Ok, Err, IfOk}
+use Rattle.std.proofs.Common.{◌≡◌, ◌<◌, sym, subst, ℕ, List, Result, Ok, Err, IfOk}
 use Rattle.ftl_dep_table.specs.Meant.{meant}
 use Rattle.ftl_items.specs.WordLaws.{HoldTheSolution}
 use Rattle.ftl_grammar_faults.specs.Checked.{CheckedGrammar}

@@ -8,7 +8,7 @@ use Rattle.ftl_model.specs.Solves.{Instance}
 use Rattle.ftl_model.specs.Table.{instance_count, value_in}
 use Rattle.ftl_model.specs.Values.{IsValue, Value, overflow, word_of_value}
 use Rattle.ftl_tree.specs.CheckedTree.{CheckedTree}
-use Rattle.ftl_answer.specs.Answer.{Answer, answer}
+use Rattle.ftl_answer.specs.Answer.{answer}
 use Rattle.ftl_answer.specs.Answers.{shown_answer}
 use Rattle.ftl_meaning.specs.GrammarOf.{names_of}
 use Rattle.ftl_model.specs.Boxes.{shows_overflow}

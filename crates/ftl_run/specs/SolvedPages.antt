@@ -1,22 +1,47 @@
--- The stages behind a page.
-use Rattle.std.specs.Prelude.{ℕ, List, Option}
+-- Pages whose tables can be computed.
+use Rattle.std.specs.Prelude.{ℕ, ◌≤◌, List, length, Result, Ok, Err, IfSome}
+use Rattle.ftl_dep_table.specs.Meant.{meant}
 use Rattle.ftl_grammar_faults.specs.Checked.{CheckedGrammar}
-use Rattle.ftl_page.specs.declared.page.Page.{Page}
+use Rattle.ftl_model.specs.Tree.{Forest}
+use Rattle.ftl_model.specs.Values.{Value}
+use Rattle.ftl_order.specs.Ordered.{IsOrdered}
+use Rattle.ftl_programs.specs.Compilable.{HasCode}
+use Rattle.ftl_stages.specs.Stages.{stages_of}
 use Rattle.ftl_stages.specs.declared.types.Schedule.{Schedule}
-use Rattle.ftl_answer.specs.Answers.{document_text, shown_by}
-use Rattle.ftl_answer.specs.Stages.{Stage, Then}
-use Rattle.ftl_answer.specs.Texts.{grammar, schedule, tree}
-use Rattle.ftl_run.specs.ShownTables.{text_shown}
-use Rattle.ftl_run.specs.declared.shown.Shown.{Shown}
+use Rattle.ftl_answer.specs.Answers.{shown_by, solved, text_or_none}
+use Rattle.ftl_answer.specs.Stages.{Outcome, Stage, Then, ends}
+use Rattle.ftl_answer.specs.Texts.{tree}
+use Rattle.ftl_sections.specs.Outcomes.{answer_of}
+use Rattle.ftl_sections.specs.Small.{IsSmall}
+use Rattle.ftl_sections.specs.declared.decision.Undecided.{Undecided}
+use Rattle.ftl_sections.specs.declared.decision.Undecided.TheVariants.{OutOfMemory, Refused}
+use Rattle.ftl_run.specs.declared.solving.Rules.{Rules}
+
+-- the text of a table
+abbrev pub TableText : Type 0
+TableText = CheckedGrammar → Forest → List Value → List ℕ
+
+-- trees of this grammar can be planned under this schedule
+pub record IsPlannable (c : CheckedGrammar) (s : Schedule) : Type 0 where
+  pub code : HasCode c.grammar
+  pub ordered : IsOrdered (meant c) (stages_of s)
+  pub small : IsSmall (stages_of s)
+
+-- what is asked of the rules of a page, and of its document
+pub record AreReady (r : Rules) : Type 0 where
+  pub may : IsPlannable r.checked r.accepted
+  pub short : IfSome r.document (λ t. length t ≤ 67108864)
 
 -- the tree of a document, and its table shown
-abbrev pub told_of_schedule : Shown → CheckedGrammar → Schedule → (document : List ℕ) → Stage ⊥
-told_of_schedule how c s document = Then (tree c s document) (shown_by (text_shown how) c)
+abbrev pub behind : CheckedGrammar → Schedule → (document : List ℕ) → TableText → Stage ⊥
+behind c s document text = Then (tree c s document) (shown_by text c)
 
--- the schedule of a text, and what is told of it
-abbrev pub told_of_grammar : Shown → CheckedGrammar → (order : Option (List ℕ)) → (document : List ℕ) → Stage ⊥
-told_of_grammar how c order document = Then (schedule c order) (λ s. told_of_schedule how c s document)
+-- the same of the rules of a page, and its document
+abbrev pub behind_rules : Rules → TableText → Stage ⊥
+behind_rules r text = behind r.checked r.accepted (text_or_none r.document) text
 
--- the grammar of a page, and what is told of it
-abbrev pub told_of_page : Shown → Page → Stage ⊥
-told_of_page how p = Then (grammar p.width p.grammar) (λ c. told_of_grammar how c p.schedule (document_text p))
+-- the page comes to what its rules lead to, or to the refusal, unless memory ran out
+abbrev pub LeadsTo : (bytes : List ℕ) → Result Rules Undecided → Type 0
+LeadsTo bytes (Ok r) = (text : TableText) (end : Outcome ⊥) → behind_rules r text end → solved bytes text end
+LeadsTo bytes (Err (Refused d)) = (text : TableText) → solved bytes text (ends (answer_of d))
+LeadsTo bytes (Err OutOfMemory) = Unit {0}

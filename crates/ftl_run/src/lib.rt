@@ -1,30 +1,19 @@
-//! The top call: words and a page in, boxes or one refusal line out, with a status. What is written
-//! is the answer of `ftl_answer`, stage after stage: the grammar, the schedule and the tree of a
-//! page, and what each command comes to. `specs/Headline.antt` has what is promised, whatever obeys
-//! commands as the trait `Obey` says; `layout_alone` obeys them on the calling thread.
+//! The top calls: words and a page in, boxes or one refusal line out, with a status. What is written
+//! is the answer of `ftl_answer`; `ftl_headline` has what is promised of both calls. What the words
+//! and the page ask for is found first, then a page that is to be solved is solved, by workers in
+//! threads of their own or on the calling thread, and then the answer is written.
 #![tactic(auto)]
 
 mod alone;
-mod automatic;
-mod checking;
-mod decide;
-mod decision;
-mod growing;
-mod laws;
+mod ending;
 mod layout;
-mod limits;
-mod obey;
-mod read;
+mod request;
+mod requested;
 mod rules;
-mod rules_commands;
-mod scheduling;
 mod shown;
 mod solving;
-mod solving_commands;
-mod status;
+mod workers;
 mod write;
-mod written;
 
-pub use laws::{answers_have_statuses, bytes_do_not_matter, one_table};
-pub use layout::layout_alone;
-pub use status::Status;
+pub use ftl_sections::Status;
+pub use layout::{layout_alone, layout_top};

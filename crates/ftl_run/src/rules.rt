@@ -1,6 +1,6 @@
 //! What is asked of the rules of a page.
 
-ghost use Rattle.std.specs.Prelude.{◌≡◌, ◌≤◌, length, string_bytes, IfOk, IfSome};
+ghost use Rattle.std.specs.Prelude.{◌≡◌, ◌≤◌, length, IfOk, IfSome};
 ghost use Rattle.ftl_answer.specs.Answers.{rules_alone};
 ghost use Rattle.ftl_answer.specs.Stages.{Then, ends};
 ghost use Rattle.ftl_answer.specs.Texts.{page, schedule};
@@ -8,17 +8,14 @@ ghost use Rattle.ftl_dep_table.specs.Meant.{meant};
 ghost use Rattle.ftl_page.specs.Texts.{HasTextsUpTo};
 ghost use Rattle.ftl_schedule_faults.specs.FaultLaws.{AreComputed};
 ghost use Rattle.ftl_stages.specs.Stages.{stages_of};
-ghost use Rattle.ftl_run.specs.Outcomes.{answer_of};
+ghost use Rattle.ftl_sections.specs.Outcomes.{answer_of};
 ghost use Rattle.ftl_run.specs.Asked.{EndsIn, text_asked, told, told_of_page};
 
-use crate::checking::grammar_of;
-use crate::decision::{Decided, Undecided};
-use crate::read::read_page;
-use crate::scheduling::schedule_of;
-use crate::status::Status;
+use crate::ending::ended;
 use ftl_checked::Checked;
 use ftl_page::{Need, Page, Text};
 use ftl_schedule::{Schedule, known_entries, print_schedule};
+use ftl_sections::{Decided, Status, Undecided, grammar_of, read_page, schedule_of};
 use std::alloc::{AllocError, Global};
 
 /// What is asked of a grammar and a schedule.
@@ -38,15 +35,11 @@ const RULES_ALONE: Need = Need {
 };
 
 /// What is asked of the rules of a page, or its refusal.
-pub(crate) fn decided(alloc: Global, asked: Asked, bytes: &[u8]) -> Result<Decided, AllocError>
+pub(crate) fn rules_told(alloc: Global, asked: Asked, bytes: &[u8]) -> Result<Decided, AllocError>
     ensures outcome { IfOk result
         (λ d. Then (page rules_alone bytes.now) (told_of_page asked) (ends (answer_of d))) }
 {
-    match told_of_bytes(alloc, asked, bytes) {
-        Ok(told) => Ok(told),
-        Err(Undecided::Refused(refusal)) => Ok(refusal),
-        Err(Undecided::OutOfMemory) => Err(AllocError),
-    }
+    ended(told_of_bytes(alloc, asked, bytes))
 }
 
 fn told_of_bytes(alloc: Global, asked: Asked, bytes: &[u8]) -> Result<Decided, Undecided>

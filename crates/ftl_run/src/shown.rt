@@ -6,12 +6,11 @@ ghost use Rattle.ftl_answer.specs.Stages.{ends};
 ghost use Rattle.ftl_box_text.specs.WordValues.{table_of_words};
 ghost use Rattle.ftl_dep_table.specs.Meant.{meant};
 ghost use Rattle.ftl_model.specs.Table.{instance_count};
-ghost use Rattle.ftl_run.specs.Outcomes.{answer_of};
+ghost use Rattle.ftl_sections.specs.Outcomes.{answer_of};
 ghost use Rattle.ftl_run.specs.ShownTables.{IsSolvedBy, text_by, text_shown};
 
-use crate::decision::Decided;
-use crate::status::Status;
 use ftl_box_text::{print_boxes, shows_overflow, words_are_undone};
+use ftl_sections::{Decided, Status};
 use ftl_summary_text::print_summary;
 use ftl_tokens::Name;
 use ftl_tree::Tree;

@@ -1,38 +1,28 @@
-//! The stages of a page that is solved.
+//! A page that is to be solved: its rules, its tree, and the plan of its tree.
 
 ghost use Rattle.std.specs.Prelude.{◌≡◌, ◌≤◌, length, None, string_bytes, string_len, IfOk, IfSome};
-ghost use Rattle.ftl_answer.specs.Answer as answer;
-ghost use Rattle.ftl_answer.specs.Answers.{shown_by, solved, text_or_none, whole_page};
-ghost use Rattle.ftl_answer.specs.Stages.{ends};
-ghost use Rattle.ftl_answer.specs.Texts.{page};
-ghost use Rattle.ftl_run.specs.Outcomes.{IsOutcome, answer_of};
+ghost use Rattle.ftl_answer.specs.Answers.{text_or_none, whole_page};
+ghost use Rattle.ftl_answer.specs.Texts.{page, tree};
 ghost use Rattle.ftl_dep_table.specs.Meant.{meant};
-ghost use Rattle.ftl_order.specs.Ordered.{IsOrdered};
+ghost use Rattle.ftl_items.specs.WordLaws.{HoldTheSolution};
 ghost use Rattle.ftl_page.specs.Texts.{HasTextsUpTo};
+ghost use Rattle.ftl_programs.specs.RuleCode.{rule_codes};
 ghost use Rattle.ftl_plan_limits.specs.PlanFaults.{first_fault};
-ghost use Rattle.ftl_programs.specs.Compilable.{HasCode};
-ghost use Rattle.ftl_refusals.specs.PageLines.{words_line};
-ghost use Rattle.ftl_run.specs.Asked.{EndsIn};
-ghost use Rattle.ftl_run.specs.Small.{IsSmall};
+ghost use Rattle.ftl_run.specs.ShownTables.{IsSolvedBy};
+ghost use Rattle.ftl_run.specs.SolvedPages.{AreReady, LeadsTo, IsPlannable};
+ghost use Rattle.ftl_sections.specs.Outcomes.{IsOutcome};
+ghost use Rattle.ftl_solution.specs.Solution.{solution};
 ghost use Rattle.ftl_stages.specs.Stages.{stages_of};
-ghost use Rattle.ftl_run.specs.ShownTables.{IsSolvedBy, text_shown};
-ghost use Rattle.ftl_run.specs.SolvedPages.{told_of_grammar, told_of_page, told_of_schedule};
 
-use crate::checking::grammar_of;
-use crate::decision::{Decided, Undecided};
-use crate::growing::tree_of;
-use crate::read::read_page;
-use crate::scheduling::schedule_of;
-use crate::shown::{Shown, table_shown};
-use crate::status::Status;
 use ftl_checked::Checked;
 use ftl_order::{reads_end_by_rank, values_are_in_range};
 use ftl_page::{Need, Page, Text};
-use ftl_plan::{Plan, PlanFault, solve_alone};
+use ftl_plan::{Plan, PlanFault};
+use ftl_programs::Programs;
+use ftl_sections::{Undecided, grammar_of, read_page, schedule_of};
 use ftl_solution::solution_solves;
 use ftl_tree::Tree;
 use ftl_verify::Accepted;
-use ftl_visit::compile;
 use std::alloc::{AllocError, Global};
 
 /// The sections that are needed.
@@ -42,45 +32,34 @@ const WHOLE_PAGE: Need = Need {
     edits: false,
 };
 
-/// The table of a page, shown, or the page's refusal.
-pub(crate) fn solved(
-    alloc: Global,
-    shown: &Shown,
-    grain: u32,
-    bytes: Vec<u8>,
-) -> Result<Decided, AllocError>
-    ensures outcome { IfOk result
-        (λ d. solved bytes.items (text_shown shown.now) (ends (answer_of d))) }
-{
-    match told_of_bytes(alloc, shown, grain, bytes) {
-        Ok(told) => Ok(told),
-        Err(Undecided::Refused(refusal)) => Ok(refusal),
-        Err(Undecided::OutOfMemory) => Err(AllocError),
-    }
+/// The grammar and the schedule of a page, and the text of its document.
+#[derive(Drop)]
+pub(crate) struct Rules {
+    pub checked: Checked,
+    pub accepted: Accepted,
+    pub document: Option<Text>,
 }
 
-/// The refusal of a sample that there is none of.
-pub(crate) fn bad_sample(alloc: Global) -> Result<Decided, AllocError>
-    ensures refused { IfOk result (λ d. answer_of d ≡ answer.refused 2 words_line) }
+/// The rules of a page, or its refusal. The page's bytes are let go as soon as its sections are
+/// there.
+pub(crate) fn rules_of(alloc: Global, bytes: Vec<u8>) -> Result<Rules, Undecided>
+    ensures outcome { LeadsTo bytes.items result }
+    ensures ready { IfOk result AreReady }
 {
-    Ok(Decided {
-        status: Status::BAD_WORDS,
-        text: Vec::from_slice(alloc, b"refused words\n")?,
+    let Page {
+        width,
+        grammar,
+        schedule,
+        document,
+        edits: _,
+    } = page_of(alloc, bytes)?;
+    let checked = grammar_of(alloc, width, grammar)?;
+    let accepted = schedule_of(alloc, &checked, schedule)?;
+    Ok(Rules {
+        checked,
+        accepted,
+        document,
     })
-}
-
-fn told_of_bytes(
-    alloc: Global,
-    shown: &Shown,
-    grain: u32,
-    bytes: Vec<u8>,
-) -> Result<Decided, Undecided>
-    ensures outcome { EndsIn (solved bytes.items (text_shown shown.now)) result }
-{
-    match page_of(alloc, bytes) {
-        Ok(page) => told_of_page(alloc, shown, grain, page),
-        Err(end) => Err(end),
-    }
 }
 
 /// The sections of a page, whose bytes are let go.
@@ -91,28 +70,8 @@ fn page_of(alloc: Global, bytes: Vec<u8>) -> Result<Page, Undecided>
     read_page(alloc, bytes.as_slice(), WHOLE_PAGE)
 }
 
-fn told_of_page(alloc: Global, shown: &Shown, grain: u32, page: Page) -> Result<Decided, Undecided>
-    requires short { HasTextsUpTo 67108864 page }
-    ensures outcome { EndsIn (told_of_page shown.now page) result }
-{
-    let Page {
-        width,
-        grammar,
-        schedule,
-        document,
-        edits: _,
-    } = page;
-    match grammar_of(alloc, width, grammar) {
-        Ok(checked) => {
-            let document = text_of(alloc, document);
-            told_of_grammar(alloc, shown, grain, &checked, schedule, document)
-        }
-        Err(end) => Err(end),
-    }
-}
-
 /// The text of a section; empty where there is none.
-fn text_of(alloc: Global, text: Option<Text>) -> String
+pub(crate) fn text_of(alloc: Global, text: Option<Text>) -> String
     requires short { IfSome text (λ t. length t ≤ 67108864) }
     ensures text { string_bytes result ≡ text_or_none text }
     ensures short { string_len result ≤ 67108864 }
@@ -123,113 +82,56 @@ fn text_of(alloc: Global, text: Option<Text>) -> String
     }
 }
 
-fn told_of_grammar(
+/// The plan of a tree, with items of at most so many nodes, or of the nearest number that a plan
+/// may have.
+pub(crate) fn plan_of<'a>(
     alloc: Global,
-    shown: &Shown,
     grain: u32,
-    checked: &Checked,
-    order: Option<Text>,
-    document: String,
-) -> Result<Decided, Undecided>
-    requires code { HasCode checked.now.grammar }
-    requires order { IfSome order (λ t. length t ≤ 67108864) }
-    requires document { string_len document ≤ 67108864 }
-    ensures outcome { EndsIn (told_of_grammar shown.now checked.now order
-        (string_bytes document)) result }
-{
-    match schedule_of(alloc, checked, order) {
-        Ok(accepted) => told_of_schedule(alloc, shown, grain, checked, &accepted, document),
-        Err(end) => Err(end),
-    }
-}
-
-fn told_of_schedule(
-    alloc: Global,
-    shown: &Shown,
-    grain: u32,
-    checked: &Checked,
-    accepted: &Accepted,
-    document: String,
-) -> Result<Decided, Undecided>
-    requires code { HasCode checked.now.grammar }
-    requires ordered { IsOrdered (meant checked.now) (stages_of accepted.now) }
-    requires small { IsSmall (stages_of accepted.now) }
-    requires document { string_len document ≤ 67108864 }
-    ensures outcome { EndsIn (told_of_schedule shown.now checked.now accepted.now
-        (string_bytes document)) result }
-{
-    match tree_of(alloc, checked, accepted, document) {
-        Ok(tree) => told_of_tree(alloc, shown, grain, checked, accepted, &tree),
-        Err(end) => Err(end),
-    }
-}
-
-fn told_of_tree(
-    alloc: Global,
-    shown: &Shown,
-    grain: u32,
-    checked: &Checked,
-    accepted: &Accepted,
-    tree: &Tree<'_>,
-) -> Result<Decided, Undecided>
-    requires code { HasCode checked.now.grammar }
-    requires ordered { IsOrdered (meant checked.now) (stages_of accepted.now) }
-    requires small { IsSmall (stages_of accepted.now) }
+    checked: &'a Checked,
+    accepted: &'a Accepted,
+    programs: &'a Programs,
+    tree: &'a Tree<'a>,
+) -> Result<Plan<'a>, AllocError>
+    requires may { IsPlannable checked.now accepted.now }
+    requires rules { programs.now.rules ≡ rule_codes checked.now.grammar }
+    requires width { programs.now.width ≡ checked.now.width }
     requires grammar { tree.now.checked ≡ checked.now }
     requires fits { first_fault (meant checked.now) (stages_of accepted.now) tree.now.tree ≡ None }
-    ensures outcome { EndsIn (shown_by (text_shown shown.now) checked.now tree.now.tree) result }
+    ensures grammar { IfOk result (λ p. p.checked ≡ checked.now) }
+    ensures tree { IfOk result (λ p. p.tree ≡ tree.now.tree) }
 {
-    let words = words_of(alloc, grain, checked, accepted, tree)?;
-    Ok(table_shown(alloc, shown, tree, words.as_slice())?)
-}
-
-/// The words of the values that solve a tree.
-fn words_of(
-    alloc: Global,
-    grain: u32,
-    checked: &Checked,
-    accepted: &Accepted,
-    tree: &Tree<'_>,
-) -> Result<Vec<u64>, AllocError>
-    requires code { HasCode checked.now.grammar }
-    requires ordered { IsOrdered (meant checked.now) (stages_of accepted.now) }
-    requires small { IsSmall (stages_of accepted.now) }
-    requires grammar { tree.now.checked ≡ checked.now }
-    requires fits { first_fault (meant checked.now) (stages_of accepted.now) tree.now.tree ≡ None }
-    ensures solved { IfOk result (λ v. IsSolvedBy tree.now v.items) }
-{
-    let programs = compile(alloc, checked)?;
-    let grain = grain_in_range(grain);
-    match Plan::new(alloc, checked, accepted, &programs, tree, grain) {
-        Ok(plan) => solved_words(alloc, &plan, tree),
+    let grain = in_range(grain, 1_048_576);
+    match Plan::new(alloc, checked, accepted, programs, tree, grain) {
+        Ok(plan) => Ok(plan),
         Err(PlanFault::OutOfMemory) => Err(AllocError),
         Err(_) => unreachable!(),
     }
 }
 
-/// The grain, or the nearest one that a plan may have.
-fn grain_in_range(grain: u32) -> u32
+/// The number, or the nearest one from 1 to the most.
+pub(crate) fn in_range(number: u32, most: u32) -> u32
+    requires some { 1 ≤ most }
     ensures some { 1 ≤ result }
-    ensures most { result ≤ 1048576 }
+    ensures most { result ≤ most }
 {
-    if grain == 0 {
+    if number == 0 {
         1
-    } else if grain > 1_048_576 {
-        1_048_576
+    } else if number > most {
+        most
     } else {
-        grain
+        number
     }
 }
 
-/// The words of the values that solve the tree of a plan.
-fn solved_words(alloc: Global, plan: &Plan<'_>, tree: &Tree<'_>) -> Result<Vec<u64>, AllocError>
+/// Says of the words of the solution of a plan that they are those of values that solve its tree.
+pub(crate) fn is_solved(plan: &Plan<'_>, tree: &Tree<'_>, words: &[u64])
     requires grammar { tree.now.checked ≡ plan.now.checked }
     requires tree { tree.now.tree ≡ plan.now.tree }
-    ensures solved { IfOk result (λ v. IsSolvedBy tree.now v.items) }
+    requires held { HoldTheSolution (solution (meant plan.now.checked) plan.now.tree) words.now }
+    ensures solved { IsSolvedBy tree.now words.now }
 {
     solution_solves();
     values_are_in_range();
     reads_end_by_rank();
     let _can_be_planned = plan.stage_count();
-    solve_alone(alloc, plan)
 }

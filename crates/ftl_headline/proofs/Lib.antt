@@ -1,0 +1,3 @@
+mod Statuses
+mod Bytes
+mod Tables

@@ -1,0 +1,107 @@
+//! Gates that see which workers begin items of a page.
+
+use crate::told;
+use ftl_edge::{Gate, MemSink, MemSource};
+use ftl_run::layout_top;
+use std::alloc::{AllocError, Global};
+use std::io;
+use std::sync::Wait;
+use std::sync::atomic::{AtomicU64, Ordering};
+use std::thread::Threads;
+
+/// A page of two items that wait for none.
+const PAGE: &str = "%page 1
+%grammar stack
+%schedule auto
+%document
+Sheet { body = Column { kids = [ Word { iw = 20 ih = 10 } Word { iw = 30 ih = 15 } ] } }
+";
+
+/// How long a worker waits for another.
+const TURNS: u64 = 400_000_000;
+
+/// Marks the workers that call it. The first caller waits there until two are marked.
+#[derive(Drop)]
+struct Meeting {
+    marks: [AtomicU64; 2],
+    marked: AtomicU64,
+}
+
+impl Meeting {
+    fn new() -> Meeting {
+        Meeting {
+            marks: [AtomicU64::new(0), AtomicU64::new(0)],
+            marked: AtomicU64::new(0),
+        }
+    }
+
+    fn both_came(&self) -> bool {
+        self.marked.load(Ordering::SeqCst) == 2
+    }
+}
+
+impl Gate for Meeting {
+    fn before(&self, worker: u32, _item: u32) {
+        if worker > 1
+            || self.marks[worker as usize].swap(1, Ordering::SeqCst) == 1
+            || self.marked.fetch_add(1, Ordering::SeqCst) > 0
+        {
+            return;
+        }
+        for _ in 0..TURNS {
+            if self.both_came() {
+                return;
+            }
+        }
+    }
+}
+
+/// Counts its calls.
+#[derive(Drop)]
+struct Counting {
+    calls: AtomicU64,
+}
+
+impl Gate for Counting {
+    fn before(&self, _worker: u32, _item: u32) {
+        self.calls.fetch_add(1, Ordering::SeqCst);
+    }
+}
+
+/// Lays out the page by so many workers. The text that was written, and the status.
+fn lay_out<R: Threads + Wait + Sync, G: Gate>(
+    rt: &R,
+    alloc: Global,
+    workers: &str,
+    gate: &G,
+) -> Result<String, AllocError> {
+    let mut words = Vec::new(alloc);
+    for &word in &["run", "--workers", workers, "--grain", "1"] {
+        words.push(String::from_str(alloc, word)?)?;
+    }
+    let page = Vec::from_slice(alloc, PAGE.as_bytes())?;
+    let mut source = MemSource::new(page, PAGE.len(), Vec::new(alloc));
+    let mut sink = MemSink::new(alloc, PAGE.len(), Vec::new(alloc))?;
+    let status = layout_top(rt, alloc, words.as_slice(), &mut source, &mut sink, gate);
+    told(alloc, &sink, status)
+}
+
+/// Prints whether two workers began an item each, and how often one worker called the gate, with
+/// what was written.
+pub(crate) fn print_gates<R: Threads + Wait + Sync + Print + AllocGlobal>(
+    rt: &R,
+) -> io::Result<()> {
+    let meeting = Meeting::new();
+    let answer = lay_out(rt, rt.alloc(), "2", &meeting)?;
+    println!(rt; "two workers began an item each: {}", meeting.both_came())?;
+    print!(rt; "{answer}")?;
+    let counting = Counting {
+        calls: AtomicU64::new(0),
+    };
+    let answer = lay_out(rt, rt.alloc(), "1", &counting)?;
+    println!(rt;
+        "one worker called the gate: {}",
+        counting.calls.load(Ordering::SeqCst)
+    )?;
+    print!(rt; "{answer}")
+}

@@ -1,0 +1,16 @@
+use Rattle.std.proofs.Common.{subst}
+use Rattle.ftl_answer.specs.Answers.{shown_by}
+use Rattle.ftl_answer.specs.Stages.{ends}
+use Rattle.ftl_grammar_faults.specs.Checked.{CheckedGrammar}
+use Rattle.ftl_sections.specs.Outcomes.{answer_of}
+use Rattle.ftl_run.specs.ShownTables.{text_shown}
+use Rattle.ftl_run.proofs.workers.tree_told.Goals as goal
+
+pub returns : goal.returns
+returns g c = record {
+  outcome =
+      subst
+      (λ (k : CheckedGrammar). shown_by (text_shown c.args.shown.now) k c.args.tree.now.tree
+      (ends (answer_of c.in_ok-table_shown.field-0)))
+      c.requires.grammar c.in_ok-table_shown.ensures.outcome;
+}

@@ -1,0 +1,5 @@
+mod Ways
+mod Told
+mod ToldSchedules
+mod AutomaticSmall
+mod ReadSmall

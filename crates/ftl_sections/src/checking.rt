@@ -1,0 +1,106 @@
+//! The grammar of a text, checked.
+
+ghost use Rattle.std.specs.Prelude.{◌≤◌, length, string_bytes, string_len, IfOk};
+ghost use Rattle.ftl_answer.specs.Answer as answer;
+ghost use Rattle.ftl_answer.specs.Stages.{Then};
+ghost use Rattle.ftl_answer.specs.Texts.{grammar, lawful_grammar, spelled_grammar};
+ghost use Rattle.ftl_grammar_faults.specs.Counts.{HasSmallCounts};
+ghost use Rattle.ftl_grammar_faults.specs.Kinds.{HasKinds};
+ghost use Rattle.ftl_grammar_faults.specs.declared.fault.GrammarFault.TheVariants as faults;
+ghost use Rattle.ftl_programs.specs.Compilable.{HasCode};
+ghost use Rattle.ftl_refusals.specs.GrammarLines.{grammar_line};
+ghost use Rattle.ftl_refusals.specs.TextLines.{syntax_line};
+ghost use Rattle.ftl_sections.specs.Outcomes.{Ends, IsOutcome};
+ghost use Rattle.ftl_sections.specs.Telling.{Tells};
+
+use crate::decision::{Undecided, refused};
+use crate::read::section_tokens;
+use crate::status::Status;
+use ftl_base::Width;
+use ftl_checked::{Checked, check_grammar};
+use ftl_counts::small_counts;
+use ftl_grammar::{SyntaxFault, read_grammar};
+use ftl_grammar_faults::GrammarFault;
+use ftl_page::{Section, Text};
+use ftl_programs::has_code;
+use ftl_refusals::{write_grammar_fault, write_syntax_fault};
+use ftl_syntax::Grammar;
+use ftl_tokens::Scanned;
+use std::alloc::Global;
+
+/// The lawful grammar that the text spells, in this width.
+pub fn grammar_of(alloc: Global, width: Width, text: Text) -> Result<Checked, Undecided>
+    requires short { length text ≤ 67108864 }
+    ensures outcome { IsOutcome (grammar width text) (λ c. c) result }
+    // what compiling its rules asks for
+    ensures code { IfOk result (λ c. HasCode c.grammar) }
+{
+    grammar_of_text(alloc, width, text.into_string())
+}
+
+fn grammar_of_text(alloc: Global, width: Width, text: String) -> Result<Checked, Undecided>
+    requires short { string_len text ≤ 67108864 }
+    ensures outcome { IsOutcome (grammar width (string_bytes text)) (λ c. c) result }
+    ensures code { IfOk result (λ c. HasCode c.grammar) }
+{
+    match section_tokens(alloc, Section::Grammar, text) {
+        Ok(scanned) => grammar_of_tokens(alloc, width, &scanned),
+        Err(end) => Err(end),
+    }
+}
+
+/// The lawful grammar that the tokens spell.
+fn grammar_of_tokens(alloc: Global, width: Width, scanned: &Scanned) -> Result<Checked, Undecided>
+    requires short { length scanned.now.text ≤ 67108864 }
+    ensures outcome { IsOutcome (Then (spelled_grammar scanned.now) (lawful_grammar width))
+        (λ c. c) result }
+    ensures code { IfOk result (λ c. HasCode c.grammar) }
+{
+    match read_grammar(alloc, scanned) {
+        Ok(grammar) => {
+            small_counts(scanned, &grammar);
+            has_code(scanned, &grammar);
+            without_fault(alloc, width, grammar)
+        }
+        Err(SyntaxFault::OutOfMemory) => Err(Undecided::OutOfMemory),
+        Err(fault) => Err(syntax_refused(alloc, fault)),
+    }
+}
+
+/// The grammar, checked.
+#[tactic(auto, using(crate::proofs::Told::may_tell, crate::proofs::Told::code_kept, crate::proofs::Told::grammar_handed, crate::proofs::Told::grammar_told))]
+fn without_fault(alloc: Global, width: Width, grammar: Grammar) -> Result<Checked, Undecided>
+    requires small { HasSmallCounts grammar }
+    requires kinds { HasKinds grammar }
+    requires code { HasCode grammar }
+    ensures outcome { IsOutcome (lawful_grammar width grammar) (λ c. c) result }
+    ensures code { IfOk result (λ c. HasCode c.grammar) }
+{
+    match check_grammar(alloc, grammar, width) {
+        Ok(checked) => Ok(checked),
+        Err(fault) => Err(grammar_refused(alloc, &fault)),
+    }
+}
+
+fn syntax_refused(alloc: Global, fault: SyntaxFault) -> Undecided
+    ensures ends { Ends (answer.refused 5 (syntax_line fault)) result }
+{
+    let mut line = Vec::new(alloc);
+    match write_syntax_fault(&mut line, fault) {
+        Ok(()) => refused(Status::GRAMMAR_REFUSED, line),
+        Err(_) => Undecided::OutOfMemory,
+    }
+}
+
+fn grammar_refused(alloc: Global, fault: &GrammarFault) -> Undecided
+    ensures ends { Tells faults.OutOfMemory (λ f. answer.refused 5 (grammar_line f)) fault.now result }
+{
+    if let GrammarFault::OutOfMemory = fault {
+        return Undecided::OutOfMemory;
+    }
+    let mut line = Vec::new(alloc);
+    match write_grammar_fault(&mut line, fault) {
+        Ok(()) => refused(Status::GRAMMAR_REFUSED, line),
+        Err(_) => Undecided::OutOfMemory,
+    }
+}
