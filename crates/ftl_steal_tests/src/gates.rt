@@ -15,6 +15,7 @@ const TURNS: u64 = 400_000_000;
 struct Meeting {
     from: u32,
     marks: [AtomicU64; 2],
+    marked: AtomicU64,
 }
 
 impl Meeting {
@@ -22,11 +23,12 @@ impl Meeting {
         Meeting {
             from,
             marks: [AtomicU64::new(0), AtomicU64::new(0)],
+            marked: AtomicU64::new(0),
         }
     }
 
     fn both_came(&self) -> bool {
-        self.marks[0].load(Ordering::SeqCst) == 1 && self.marks[1].load(Ordering::SeqCst) == 1
+        self.marked.load(Ordering::SeqCst) == 2
     }
 }
 
@@ -35,7 +37,11 @@ impl Gate for Meeting {
         if item < self.from || worker > 1 {
             return;
         }
-        self.marks[worker as usize].store(1, Ordering::SeqCst);
+        if self.marks[worker as usize].swap(1, Ordering::SeqCst) == 1
+            || self.marked.fetch_add(1, Ordering::SeqCst) > 0
+        {
+            return;
+        }
         for _ in 0..TURNS {
             if self.both_came() {
                 return;
