@@ -1,8 +1,9 @@
 #!/usr/bin/env python3
-"""Lays out samples of 20,000 and 200,000 pieces of the six shipped grammars. Prints for each the milliseconds
+"""Lays out samples of 20,000 and 200,000 pieces of the six shipped grammars. Prints for each the nodes, the milliseconds
 of processor time of the whole run, of `check` on the same page (reading and checking the grammar and finding the
 schedule), of reading the document, and of the rest (making the plan, solving and printing the boxes), the peak memory
-in MB, and the growth of the time from the smaller sample to the larger.
+in MB, and the growth of the time from the smaller sample to the larger. Then prints for the larger samples the
+milliseconds that pass by 1, 2 and 4 workers.
 
 The time of reading a document is that of a run on the same page without its last input, which is refused as soon as
 all of it was read, less that of `check`.
@@ -17,6 +18,7 @@ from plain_layout import GRAMMARS, sample
 
 TOP = os.path.dirname(os.path.dirname(os.path.abspath(__file__)))
 SIZES = [20_000, 200_000]
+WORKERS = [1, 2, 4]
 RUNS = 3
 
 # Runs the program from a small process: a child's peak memory counts that of the process that it was forked from.
@@ -72,6 +74,14 @@ def parts(program, grammar):
         print(f"{grammar:8} {size:7} {times} {whole.peak / 1e6:8.1f} {growth:>7}", flush=True)
 
 
+def by_workers(program, grammar):
+    times = []
+    for workers in WORKERS:
+        words = [program, "sample", str(SIZES[-1]), "--grammar", grammar, "--workers", str(workers)]
+        times.append(least(lambda run: run.passed, words).passed)
+    print(f"{grammar:8} {SIZES[-1]:7} " + " ".join(f"{it * 1e3:9.1f}" for it in times), flush=True)
+
+
 def main():
     program = sys.argv[1] if len(sys.argv) > 1 else os.path.join(TOP, "crates/ftl_layout/out/ftl_layout")
     if not os.path.exists(program):
@@ -79,6 +89,9 @@ def main():
     print(f"{'grammar':8} {'pieces':>7} {'whole':>8} {'check':>8} {'read':>8} {'rest':>8} {'peak MB':>8} {'growth':>7}")
     for grammar in GRAMMARS:
         parts(program, grammar)
+    print(f"\n{'grammar':8} {'pieces':>7} " + " ".join(f"{it:>2} workers" for it in WORKERS))
+    for grammar in GRAMMARS:
+        by_workers(program, grammar)
 
 
 if __name__ == "__main__":
