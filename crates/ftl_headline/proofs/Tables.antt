@@ -28,6 +28,6 @@ accepted_one bytes c t x =
 pub one_table_of : (c : Option Command) (told : Option (List ℕ)) → OneTableOf c told
 one_table_of None told = tt
 one_table_of (Some (command.Run how)) told = λ bytes are. accepted_one bytes
-one_table_of (Some command.Check) told = tt
-one_table_of (Some command.Schedule) told = tt
+one_table_of (Some command.Check) told = λ bytes are. accepted_one bytes
+one_table_of (Some command.Schedule) told = λ bytes are. accepted_one bytes
 one_table_of (Some (command.Sample pieces name how)) told = λ text is. accepted_one text

@@ -119,10 +119,11 @@ pub record IsAccepted (bytes : List ℕ) (c : CheckedGrammar) (t : Forest) : Typ
 abbrev pub HasOneTable : (bytes : List ℕ) → Type 0
 HasOneTable bytes = (c : CheckedGrammar) (t : Forest) → IsAccepted bytes c t → ExactlyOneList (meant c) t
 
--- the same of the page that a command solves: the one that is read, whatever it is where the source doesn't tell, or the
--- sample
+-- the same of the page of a command: the one that is read, whatever it is where the source doesn't tell, or the sample
 abbrev pub OneTableOf : Option Command → (told : Option (List ℕ)) → Type 0
 OneTableOf (Some (command.Run how)) told = (bytes : List ℕ) → AreTold told bytes → HasOneTable bytes
+OneTableOf (Some command.Check) told = (bytes : List ℕ) → AreTold told bytes → HasOneTable bytes
+OneTableOf (Some command.Schedule) told = (bytes : List ℕ) → AreTold told bytes → HasOneTable bytes
 OneTableOf (Some (command.Sample pieces name how)) told =
     (text : List ℕ) → sample_page_of name pieces ≡ Ok text → HasOneTable text
-OneTableOf c told = Unit {0}
+OneTableOf None told = Unit {0}

@@ -1,4 +1,5 @@
-//! Gates that see which workers begin items of a page.
+//! Gates that see which workers begin items of a page. A top call that solves every page on the
+//! calling thread never has two workers meet here.
 
 use crate::told;
 use ftl_edge::{Gate, MemSink, MemSource};
@@ -25,6 +26,7 @@ const TURNS: u64 = 400_000_000;
 struct Meeting {
     marks: [AtomicU64; 2],
     marked: AtomicU64,
+    met: AtomicU64,
 }
 
 impl Meeting {
@@ -32,11 +34,13 @@ impl Meeting {
         Meeting {
             marks: [AtomicU64::new(0), AtomicU64::new(0)],
             marked: AtomicU64::new(0),
+            met: AtomicU64::new(0),
         }
     }
 
+    /// Whether the first caller saw the other within its turns.
     fn both_came(&self) -> bool {
-        self.marked.load(Ordering::SeqCst) == 2
+        self.met.load(Ordering::SeqCst) == 1
     }
 }
 
@@ -49,7 +53,8 @@ impl Gate for Meeting {
             return;
         }
         for _ in 0..TURNS {
-            if self.both_came() {
+            if self.marked.load(Ordering::SeqCst) == 2 {
+                self.met.store(1, Ordering::SeqCst);
                 return;
             }
         }

@@ -1,25 +1,25 @@
 -- How the stages of a page that is solved follow each other.
-use Rattle.std.proofs.Common.{◌≡◌, refl, sym, subst, inl, inr, ℕ, List, Result, Ok, Err, IfOk}
-use Rattle.std.specs.Prelude.{IsErr, IsErrAnd}
+use Rattle.std.proofs.Common.{◌≡◌, refl, sym, subst, inl, inr, ℕ, List, Result, Ok, Err}
+use Rattle.std.specs.Prelude.{IsErrAnd}
 use Rattle.std.proofs.lemmas.Result.{err_from_is_err_and}
 use Rattle.ftl_grammar_faults.specs.Checked.{CheckedGrammar}
 use Rattle.ftl_page.specs.declared.page.Page.{Page}
 use Rattle.ftl_stages.specs.declared.types.Schedule.{Schedule}
 use Rattle.ftl_answer.specs.Answers.{shown_by, text_or_none, whole_page}
-use Rattle.ftl_answer.specs.Stages.{Stage, Then, ends, hands_on}
+use Rattle.ftl_answer.specs.Stages.{Then, ends, hands_on}
 use Rattle.ftl_answer.specs.Texts.{grammar, page, schedule, tree}
 use Rattle.ftl_sections.specs.Outcomes.{IsOutcome, answer_of}
 use Rattle.ftl_sections.specs.declared.decision.Decided.{Decided}
 use Rattle.ftl_sections.specs.declared.decision.Undecided.{Undecided}
 use Rattle.ftl_sections.specs.declared.decision.Undecided.TheVariants.{OutOfMemory, Refused}
-use Rattle.ftl_run.specs.Asked.{EndsIn, IsEndOf}
-use Rattle.ftl_run.specs.Requests.{IsAnsweredBy, problem_stage}
-use Rattle.ftl_run.specs.ShownTables.{text_shown}
-use Rattle.ftl_run.specs.SolvedPages.{LeadsTo, behind_rules}
-use Rattle.ftl_run.specs.declared.request.Problem.{Problem}
-use Rattle.ftl_run.specs.declared.request.Request.{Request}
-use Rattle.ftl_run.specs.declared.request.Request.TheVariants.{Solve}
-use Rattle.ftl_run.specs.declared.request.Undone.{Undone}
+use Rattle.ftl_requests.specs.Asked.{EndsIn}
+use Rattle.ftl_requests.specs.Requests.{IsAnsweredBy, problem_stage}
+use Rattle.ftl_requests.specs.ShownTexts.{text_shown}
+use Rattle.ftl_run.specs.SolvedPages.{LeadsTo, rules_stage}
+use Rattle.ftl_requests.specs.declared.request.Problem.{Problem}
+use Rattle.ftl_requests.specs.declared.request.Request.{Request}
+use Rattle.ftl_requests.specs.declared.request.Request.TheVariants.{Solve}
+use Rattle.ftl_requests.specs.declared.request.Undone.{Undone}
 use Rattle.ftl_run.specs.declared.solving.Rules.{Rules}
 
 -- the failure, as a result of this type
@@ -56,7 +56,7 @@ module _ (bytes : List ℕ) (p : Page) (read : page whole_page bytes (hands_on p
   pub rules_lead : (r : Rules) → grammar p.width p.grammar (hands_on r.checked)
       → schedule r.checked p.schedule (hands_on r.accepted) → r.document ≡ p.document → LeadsTo bytes (Ok r)
   rules_lead r lawful ordered same =
-      λ text end behind.
+      λ text end document_stage.
       inr (
         p,
         read,
@@ -68,7 +68,7 @@ module _ (bytes : List ℕ) (p : Page) (read : page whole_page bytes (hands_on p
             ordered,
             subst
                 (λ document. Then (tree r.checked r.accepted (text_or_none document)) (shown_by text r.checked) end)
-                same behind,
+                same document_stage,
           ),
         ),
       )
@@ -80,25 +80,12 @@ rules_end p (Refused d) leads = leads (text_shown p.shown)
 rules_end p OutOfMemory leads = tt
 
 pub rules_told : (p : Problem) (r : Rules) (result : Result Decided Undecided) → LeadsTo p.bytes.items (Ok r)
-    → EndsIn (behind_rules r (text_shown p.shown)) result → EndsIn (problem_stage p) result
+    → EndsIn (rules_stage r (text_shown p.shown)) result → EndsIn (problem_stage p) result
 rules_told p r (Ok d) leads may = leads (text_shown p.shown) (ends (answer_of d)) may
 rules_told p r (Err (Refused d)) leads may = leads (text_shown p.shown) (ends (answer_of d)) may
 rules_told p r (Err OutOfMemory) leads may = tt
 
 -- ---- the end
-
-no_ok : {X E : Type 0} (r : Result X E) (P : X → Type 0) → IsErr r → IfOk r P
-no_ok (Ok x) P is = absurd cc
-no_ok (Err e) P is = tt
-
--- the answer that the stages ended with
-pub if_ended : {E : Type 0} (stage : Stage ⊥) (told : Result Decided Undecided) (r : Result Decided E)
-    → EndsIn stage told → IsEndOf told r → IfOk r (λ d. stage (ends (answer_of d)))
-if_ended {E = E} stage (Ok d) r holds is =
-    subst (λ (x : Result Decided E). IfOk x (λ d. stage (ends (answer_of d)))) (sym is) holds
-if_ended {E = E} stage (Err (Refused d)) r holds is =
-    subst (λ (x : Result Decided E). IfOk x (λ d. stage (ends (answer_of d)))) (sym is) holds
-if_ended stage (Err OutOfMemory) r holds is = no_ok r (λ d. stage (ends (answer_of d))) is
 
 -- a page that was asked for is answered
 pub page_answered : (q : Result Request Undone) (r : Request) (p : Problem) (d : Decided) → q ≡ Ok r → r ≡ Solve p

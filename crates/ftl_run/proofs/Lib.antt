@@ -1,7 +1,5 @@
-mod Endings
 mod Words
 mod Solved
 mod Passes
-mod ReadBytes
 mod Leading
 mod Telling

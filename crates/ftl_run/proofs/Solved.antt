@@ -1,5 +1,5 @@
 -- The words of the solution are those of values that solve.
-use Rattle.std.proofs.Common.{◌≡◌, ◌<◌, sym, subst, ℕ, List, Result, Ok, Err, IfOk}
+use Rattle.std.proofs.Common.{◌≡◌, ◌<◌, sym, subst, ℕ, List}
 use Rattle.ftl_dep_table.specs.Meant.{meant}
 use Rattle.ftl_items.specs.WordLaws.{HoldTheSolution}
 use Rattle.ftl_grammar_faults.specs.Checked.{CheckedGrammar}
@@ -40,8 +40,3 @@ solved_by t k f s same_grammar same_tree can solves ranges ends words held =
     solves ranges ends words
     (subst (λ (c : CheckedGrammar). HoldTheSolution (solution (meant c) t.tree) words) (sym same_grammar)
     (subst (λ (x : Forest). HoldTheSolution (solution (meant k) x) words) (sym same_tree) held))
-
--- what holds of a value where the call succeeds
-pub if_ok : {X E : Type 0} {P Q : X → Type 0} (r : Result X E) → ((x : X) → P x → Q x) → IfOk r P → IfOk r Q
-if_ok (Ok x) each holds = each x holds
-if_ok (Err e) each holds = tt

@@ -12,11 +12,11 @@ use Rattle.ftl_headline.specs.Headline.{bytes_answered, words_read}
 use Rattle.ftl_refusals.specs.PageLines.{too_long_line}
 use Rattle.ftl_sections.specs.Outcomes.{answer_of}
 use Rattle.ftl_sections.specs.declared.decision.Decided.{Decided}
-use Rattle.ftl_run.specs.Requests.{Comes, IsAnswerTo, IsAnsweredBy, IsAsked, IsTooLong, IsWritten}
-use Rattle.ftl_run.specs.declared.request.Request.{Request}
-use Rattle.ftl_run.specs.declared.request.Request.TheVariants.{Answered, Solve}
-use Rattle.ftl_run.specs.declared.request.Undone.{Undone}
-use Rattle.ftl_run.specs.declared.request.Undone.TheVariants.{OutOfMemory, ReadFault}
+use Rattle.ftl_requests.specs.Requests.{MayEndAs, IsAnswerTo, IsAnsweredBy, IsAsked, IsTooLong, IsWritten}
+use Rattle.ftl_requests.specs.declared.request.Request.{Request}
+use Rattle.ftl_requests.specs.declared.request.Request.TheVariants.{Answered, Solve}
+use Rattle.ftl_requests.specs.declared.request.Undone.{Undone}
+use Rattle.ftl_requests.specs.declared.request.Undone.TheVariants.{OutOfMemory, ReadFault}
 
 -- the bytes that are told; where none are, none
 abbrev bytes_told : Option (List ℕ) → List ℕ
@@ -110,8 +110,8 @@ module _ (words : List (List ℕ)) (old left : Option (List ℕ)) (before later 
   -- ---- an answer was decided
 
   module _ (r : Request) (d : Decided) (answers : IsAnswerTo r (answer_of d)) where
-    comes_back : (stage : Stage ⊥) → Comes stage r → stage (ends (answer_of d))
-    unfolding Comes
+    comes_back : (stage : Stage ⊥) → MayEndAs stage r → stage (ends (answer_of d))
+    unfolding MayEndAs
     comes_back stage comes = comes (answer_of d) answers
 
     answer_told : Asked r → (words_read words ≡ true → ToTheEnd r) → IsWritten (Ok d) s written after write_rose → Told

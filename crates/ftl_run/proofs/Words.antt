@@ -12,9 +12,10 @@ use Rattle.ftl_answer.specs.Answer.{answer}
 use Rattle.ftl_answer.specs.Answers.{shown_answer}
 use Rattle.ftl_meaning.specs.GrammarOf.{names_of}
 use Rattle.ftl_model.specs.Boxes.{shows_overflow}
-use Rattle.ftl_run.specs.ShownTables.{IsSolvedBy, text_by, text_shown}
-use Rattle.ftl_run.specs.declared.shown.Shown.{Shown}
-use Rattle.ftl_run.specs.declared.shown.Shown.TheVariants as shown
+use Rattle.ftl_run.specs.ShownTables.{IsSolvedBy, text_by}
+use Rattle.ftl_requests.specs.ShownTexts.{text_shown}
+use Rattle.ftl_requests.specs.declared.shown.Shown.{Shown}
+use Rattle.ftl_requests.specs.declared.shown.Shown.TheVariants as shown
 
 back : WordsAreUndone → (values : List Value) → ((i : ℕ) → i < length values → IsValue (get_or values i overflow))
     → map value_of_word (map word_of_value values) ≡ values

@@ -1,4 +1,2 @@
-pub mod Asked
 pub mod ShownTables
 pub mod SolvedPages
-pub mod Requests

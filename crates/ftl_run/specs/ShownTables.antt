@@ -1,24 +1,16 @@
--- What is shown of a table, and when the result of a call is the end of a stage.
+-- What is shown of a tree whose values are given by instance, and which words are those of values that solve it.
 use Rattle.std.specs.Prelude.{ℕ, ◌<◌, List, length, slice_index_or}
-use Rattle.ftl_grammar_faults.specs.Checked.{CheckedGrammar}
 use Rattle.ftl_dep_table.specs.Meant.{meant}
 use Rattle.ftl_items.specs.WordLaws.{HoldTheSolution}
 use Rattle.ftl_meaning.specs.GrammarOf.{names_of}
 use Rattle.ftl_model.specs.Boxes.{boxes}
 use Rattle.ftl_model.specs.Solves.{Instance}
 use Rattle.ftl_model.specs.Table.{SolvesList}
-use Rattle.ftl_model.specs.Tree.{Forest}
 use Rattle.ftl_model.specs.Values.{IsValue, Value, overflow}
 use Rattle.ftl_tree.specs.CheckedTree.{CheckedTree}
-use Rattle.ftl_answer.specs.Answers.{boxes_of, summary_of}
 use Rattle.ftl_answer.specs.Summary.{summary}
-use Rattle.ftl_run.specs.declared.shown.Shown.{Shown}
-use Rattle.ftl_run.specs.declared.shown.Shown.TheVariants as shown
-
--- the text of a table
-abbrev pub text_shown : Shown → CheckedGrammar → Forest → List Value → List ℕ
-text_shown shown.Boxes = boxes_of
-text_shown (shown.Summary name) = summary_of name
+use Rattle.ftl_requests.specs.declared.shown.Shown.{Shown}
+use Rattle.ftl_requests.specs.declared.shown.Shown.TheVariants as shown
 
 -- the text of a tree by the values of its instances
 abbrev pub text_by : Shown → CheckedTree → (Instance → Value) → List ℕ

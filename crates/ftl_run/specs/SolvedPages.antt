@@ -17,7 +17,7 @@ use Rattle.ftl_sections.specs.declared.decision.Undecided.{Undecided}
 use Rattle.ftl_sections.specs.declared.decision.Undecided.TheVariants.{OutOfMemory, Refused}
 use Rattle.ftl_run.specs.declared.solving.Rules.{Rules}
 
--- the text of a table
+-- what shows a table as a text
 abbrev pub TableText : Type 0
 TableText = CheckedGrammar → Forest → List Value → List ℕ
 
@@ -27,21 +27,21 @@ pub record IsPlannable (c : CheckedGrammar) (s : Schedule) : Type 0 where
   pub ordered : IsOrdered (meant c) (stages_of s)
   pub small : IsSmall (stages_of s)
 
--- what is asked of the rules of a page, and of its document
+-- the trees of the rules can be planned, and the text of the document is short
 pub record AreReady (r : Rules) : Type 0 where
   pub may : IsPlannable r.checked r.accepted
   pub short : IfSome r.document (λ t. length t ≤ 67108864)
 
 -- the tree of a document, and its table shown
-abbrev pub behind : CheckedGrammar → Schedule → (document : List ℕ) → TableText → Stage ⊥
-behind c s document text = Then (tree c s document) (shown_by text c)
+abbrev pub document_stage : CheckedGrammar → Schedule → (document : List ℕ) → TableText → Stage ⊥
+document_stage c s document text = Then (tree c s document) (shown_by text c)
 
 -- the same of the rules of a page, and its document
-abbrev pub behind_rules : Rules → TableText → Stage ⊥
-behind_rules r text = behind r.checked r.accepted (text_or_none r.document) text
+abbrev pub rules_stage : Rules → TableText → Stage ⊥
+rules_stage r text = document_stage r.checked r.accepted (text_or_none r.document) text
 
 -- the page comes to what its rules lead to, or to the refusal, unless memory ran out
 abbrev pub LeadsTo : (bytes : List ℕ) → Result Rules Undecided → Type 0
-LeadsTo bytes (Ok r) = (text : TableText) (end : Outcome ⊥) → behind_rules r text end → solved bytes text end
+LeadsTo bytes (Ok r) = (text : TableText) (end : Outcome ⊥) → rules_stage r text end → solved bytes text end
 LeadsTo bytes (Err (Refused d)) = (text : TableText) → solved bytes text (ends (answer_of d))
 LeadsTo bytes (Err OutOfMemory) = Unit {0}

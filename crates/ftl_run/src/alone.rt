@@ -4,19 +4,19 @@ ghost use Rattle.std.specs.Prelude.{◌≡◌, ◌≤◌, None, string_bytes, st
 ghost use Rattle.ftl_answer.specs.Answers.{shown_by};
 ghost use Rattle.ftl_dep_table.specs.Meant.{meant};
 ghost use Rattle.ftl_plan_limits.specs.PlanFaults.{first_fault};
-ghost use Rattle.ftl_run.specs.Asked.{EndsIn};
-ghost use Rattle.ftl_run.specs.Requests.{IsAnsweredBy, problem_stage};
-ghost use Rattle.ftl_run.specs.ShownTables.{IsSolvedBy, text_shown};
-ghost use Rattle.ftl_run.specs.SolvedPages.{AreReady, IsPlannable, behind, behind_rules};
+ghost use Rattle.ftl_requests.specs.Asked.{EndsIn};
+ghost use Rattle.ftl_requests.specs.Requests.{IsAnsweredBy, problem_stage};
+ghost use Rattle.ftl_requests.specs.ShownTexts.{text_shown};
+ghost use Rattle.ftl_run.specs.ShownTables.{IsSolvedBy};
+ghost use Rattle.ftl_run.specs.SolvedPages.{AreReady, IsPlannable, document_stage, rules_stage};
 ghost use Rattle.ftl_stages.specs.Stages.{stages_of};
 
-use crate::ending::ended;
-use crate::request::{Problem, Request, Undone};
-use crate::shown::{Shown, table_shown};
+use crate::shown::table_shown;
 use crate::solving::{Rules, is_solved, plan_of, rules_of, text_of};
 use ftl_checked::Checked;
 use ftl_plan::solve_alone;
 use ftl_programs::compile;
+use ftl_requests::{Problem, Request, Shown, Undone, ended};
 use ftl_sections::{Decided, Undecided, tree_of};
 use ftl_tree::Tree;
 use ftl_verify::Accepted;
@@ -48,7 +48,7 @@ fn told_alone(alloc: Global, problem: Problem) -> Result<Decided, Undecided>
 
 fn rules_told(alloc: Global, shown: &Shown, grain: u32, rules: Rules) -> Result<Decided, Undecided>
     requires ready { AreReady rules }
-    ensures outcome { EndsIn (behind_rules rules (text_shown shown.now)) result }
+    ensures outcome { EndsIn (rules_stage rules (text_shown shown.now)) result }
 {
     let Rules {
         checked,
@@ -69,7 +69,7 @@ fn document_told(
 ) -> Result<Decided, Undecided>
     requires may { IsPlannable checked.now accepted.now }
     requires short { string_len document ≤ 67108864 }
-    ensures outcome { EndsIn (behind checked.now accepted.now (string_bytes document)
+    ensures outcome { EndsIn (document_stage checked.now accepted.now (string_bytes document)
         (text_shown shown.now)) result }
 {
     match tree_of(alloc, checked, accepted, document) {

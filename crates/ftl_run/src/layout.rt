@@ -6,12 +6,11 @@ ghost use Rattle.ftl_headline.specs.Headline.{FaultsHaveCauses, IsTold, OfTheAns
 ghost use Rattle.ftl_headline.specs.Headline.{ReadsInput, bytes_answered, texts, words_read};
 
 use crate::alone::answered_alone;
-use crate::requested::requested;
 use crate::workers::answered_by_workers;
-use crate::write::written;
 use ftl_answer::one_answer;
 use ftl_edge::{Gate, Sink, Source};
 use ftl_headline::{answers_have_statuses, one_table};
+use ftl_requests::{requested, written};
 use ftl_sections::Status;
 use std::alloc::Global;
 use std::sync::Wait;
@@ -27,7 +26,7 @@ use std::thread::Threads;
 /// attribute of each node the value of its rule, and the bytes written are that table's boxes in
 /// preorder, with values out of range as `overflow`; otherwise they are the one refusal line that
 /// the definitions name. This speaks of the command `run`, of sources and sinks that tell their
-/// bytes and don't fail, and of enough memory.
+/// bytes and don't fail, of enough memory, and of a call that returns.
 pub fn layout_top<R: Threads + Wait + Sync, S: Source, K: Sink, G: Gate>(
     rt: &R,
     alloc: Global,

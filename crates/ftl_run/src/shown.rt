@@ -1,4 +1,4 @@
-//! What is shown of a table.
+//! Tables, shown.
 
 ghost use Rattle.std.specs.Prelude.{◌≡◌, length, IfOk, if◌then◌else◌};
 ghost use Rattle.ftl_answer.specs.Answers.{shown_by};
@@ -7,23 +7,15 @@ ghost use Rattle.ftl_box_text.specs.WordValues.{table_of_words};
 ghost use Rattle.ftl_dep_table.specs.Meant.{meant};
 ghost use Rattle.ftl_model.specs.Table.{instance_count};
 ghost use Rattle.ftl_sections.specs.Outcomes.{answer_of};
-ghost use Rattle.ftl_run.specs.ShownTables.{IsSolvedBy, text_by, text_shown};
+ghost use Rattle.ftl_requests.specs.ShownTexts.{text_shown};
+ghost use Rattle.ftl_run.specs.ShownTables.{IsSolvedBy, text_by};
 
 use ftl_box_text::{print_boxes, shows_overflow, words_are_undone};
+use ftl_requests::Shown;
 use ftl_sections::{Decided, Status};
 use ftl_summary_text::print_summary;
-use ftl_tokens::Name;
 use ftl_tree::Tree;
 use std::alloc::{AllocError, Global};
-
-/// What is shown of a table.
-#[derive(Drop)]
-pub(crate) enum Shown {
-    /// Its boxes.
-    Boxes,
-    /// Its summary, by the name of the grammar.
-    Summary(Name),
-}
 
 /// The table of these words, shown.
 pub(crate) fn table_shown(

@@ -1,4 +1,4 @@
-//! A page that is to be solved: its rules, its tree, and the plan of its tree.
+//! A page that is to be solved: its rules, and the plan of its tree.
 
 ghost use Rattle.std.specs.Prelude.{◌≡◌, ◌≤◌, length, None, string_bytes, string_len, IfOk, IfSome};
 ghost use Rattle.ftl_answer.specs.Answers.{text_or_none, whole_page};
@@ -82,8 +82,8 @@ pub(crate) fn text_of(alloc: Global, text: Option<Text>) -> String
     }
 }
 
-/// The plan of a tree, with items of at most so many nodes, or of the nearest number that a plan
-/// may have.
+/// The plan of a tree, with subtrees of at most so many nodes as items, or of the nearest number
+/// that a plan may have.
 pub(crate) fn plan_of<'a>(
     alloc: Global,
     grain: u32,

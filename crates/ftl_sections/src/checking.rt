@@ -93,7 +93,8 @@ fn syntax_refused(alloc: Global, fault: SyntaxFault) -> Undecided
 }
 
 fn grammar_refused(alloc: Global, fault: &GrammarFault) -> Undecided
-    ensures ends { Tells faults.OutOfMemory (λ f. answer.refused 5 (grammar_line f)) fault.now result }
+    ensures ends { Tells faults.OutOfMemory (λ f. answer.refused 5 (grammar_line f))
+        fault.now result }
 {
     if let GrammarFault::OutOfMemory = fault {
         return Undecided::OutOfMemory;

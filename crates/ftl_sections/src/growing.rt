@@ -64,7 +64,8 @@ fn greatest_of(width: Width) -> u64
 /// The text of a document with its tokens.
 fn scanned_document(alloc: Global, width: Width, text: String) -> Result<WideScanned, Undecided>
     requires short { string_len text ≤ 67108864 }
-    ensures outcome { IsOutcome (tokens section.Document (greatest_of_width width) (string_bytes text))
+    ensures outcome { IsOutcome
+        (tokens section.Document (greatest_of_width width) (string_bytes text))
         (λ s. s.tokenized) result }
     ensures greatest { IfOk result (λ s. s.greatest ≡ greatest_of_width width) }
 {

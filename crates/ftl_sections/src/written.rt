@@ -1,6 +1,7 @@
 //! The schedule of a text.
 
-ghost use Rattle.std.specs.Prelude.{◌≡◌, ◌≤◌, length, None, Ok, Some, string_bytes, string_len, IfOk};
+ghost use Rattle.std.specs.Prelude.{◌≡◌, ◌≤◌, length, None, Ok, Some, IfOk};
+ghost use Rattle.std.specs.Prelude.{string_bytes, string_len};
 ghost use Rattle.ftl_answer.specs.Answer as answer;
 ghost use Rattle.ftl_answer.specs.Stages.{Then};
 ghost use Rattle.ftl_answer.specs.Texts.{ordered_schedule, spelled_schedule};
@@ -39,7 +40,8 @@ pub(crate) fn written_schedule(
     text: String,
 ) -> Result<Accepted, Undecided>
     requires short { string_len text ≤ 67108864 }
-    ensures outcome { IsOutcome (texts.schedule checked.now (Some (string_bytes text))) (λ s. s) result }
+    ensures outcome { IsOutcome (texts.schedule checked.now (Some (string_bytes text)))
+        (λ s. s) result }
     ensures computed { IfOk result (λ s. AreComputed (meant checked.now) (stages_of s)) }
     ensures ordered { IfOk result (λ s. IsOrdered (meant checked.now) (stages_of s)) }
     ensures small { IfOk result (λ s. IsSmall (stages_of s)) }
@@ -113,7 +115,8 @@ fn is_ordered(checked: &Checked, accepted: &Accepted)
 }
 
 fn schedule_refused(alloc: Global, fault: &ScheduleFault) -> Undecided
-    ensures ends { Tells faults.OutOfMemory (λ f. answer.refused 6 (schedule_line f)) fault.now result }
+    ensures ends { Tells faults.OutOfMemory (λ f. answer.refused 6 (schedule_line f))
+        fault.now result }
 {
     if let ScheduleFault::OutOfMemory = fault {
         return Undecided::OutOfMemory;

@@ -16,6 +16,7 @@ struct Meeting {
     from: u32,
     marks: [AtomicU64; 2],
     marked: AtomicU64,
+    met: AtomicU64,
 }
 
 impl Meeting {
@@ -24,11 +25,13 @@ impl Meeting {
             from,
             marks: [AtomicU64::new(0), AtomicU64::new(0)],
             marked: AtomicU64::new(0),
+            met: AtomicU64::new(0),
         }
     }
 
+    /// Whether the first caller saw the other within its turns.
     fn both_came(&self) -> bool {
-        self.marked.load(Ordering::SeqCst) == 2
+        self.met.load(Ordering::SeqCst) == 1
     }
 }
 
@@ -43,7 +46,8 @@ impl Gate for Meeting {
             return;
         }
         for _ in 0..TURNS {
-            if self.both_came() {
+            if self.marked.load(Ordering::SeqCst) == 2 {
+                self.met.store(1, Ordering::SeqCst);
                 return;
             }
         }

@@ -1,6 +1,7 @@
 use Rattle.std.proofs.Common.{Ok}
-use Rattle.ftl_run.specs.Requests.{problem_stage}
-use Rattle.ftl_run.proofs.Leading.{if_ended, page_answered}
+use Rattle.ftl_requests.specs.Requests.{problem_stage}
+use Rattle.ftl_requests.proofs.Endings.{if_ended}
+use Rattle.ftl_run.proofs.Leading.{page_answered}
 use Rattle.ftl_run.proofs.alone.answered_alone.Goals as goal
 
 pub returns-in_ok-ended-in-Solve : goal.returns-in_ok-ended-in-Solve

@@ -3,7 +3,7 @@ use Rattle.ftl_answer.specs.Answers.{shown_by}
 use Rattle.ftl_answer.specs.Stages.{ends}
 use Rattle.ftl_grammar_faults.specs.Checked.{CheckedGrammar}
 use Rattle.ftl_sections.specs.Outcomes.{answer_of}
-use Rattle.ftl_run.specs.ShownTables.{text_shown}
+use Rattle.ftl_requests.specs.ShownTexts.{text_shown}
 use Rattle.ftl_run.proofs.alone.tree_told.Goals as goal
 
 pub returns : goal.returns

@@ -1,8 +1,8 @@
 use Rattle.std.proofs.Common.{string_bytes}
 use Rattle.ftl_answer.specs.Answers.{shown_by}
 use Rattle.ftl_answer.specs.Texts.{tree}
-use Rattle.ftl_run.specs.ShownTables.{text_shown}
-use Rattle.ftl_run.proofs.Endings.{end_second}
+use Rattle.ftl_requests.specs.ShownTexts.{text_shown}
+use Rattle.ftl_requests.proofs.Endings.{end_second}
 use Rattle.ftl_run.proofs.workers.document_told.Goals as goal
 
 pub returns-in-Ok : goal.returns-in-Ok
