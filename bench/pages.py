@@ -1,6 +1,6 @@
 #!/usr/bin/env python3
-"""Lays out samples of 20,000 and 200,000 pieces of the six shipped grammars. Prints for each the nodes, the milliseconds
-of processor time of the whole run, of `check` on the same page (reading and checking the grammar and finding the
+"""Lays out samples of 20,000 and 200,000 pieces of the six shipped grammars. Prints for each the milliseconds of
+processor time of the whole run, of `check` on the same page (reading and checking the grammar and finding the
 schedule), of reading the document, and of the rest (making the plan, solving and printing the boxes), the peak memory
 in MB, and the growth of the time from the smaller sample to the larger. Then prints for the larger samples the
 milliseconds that pass by 1, 2 and 4 workers.
@@ -79,7 +79,7 @@ def by_workers(program, grammar):
     for workers in WORKERS:
         words = [program, "sample", str(SIZES[-1]), "--grammar", grammar, "--workers", str(workers)]
         times.append(least(lambda run: run.passed, words).passed)
-    print(f"{grammar:8} {SIZES[-1]:7} " + " ".join(f"{it * 1e3:9.1f}" for it in times), flush=True)
+    print(f"{grammar:8} {SIZES[-1]:7} " + " ".join(f"{it * 1e3:10.1f}" for it in times), flush=True)
 
 
 def main():
