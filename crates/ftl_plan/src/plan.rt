@@ -1,5 +1,5 @@
 //! Plans.
-ghost use Rattle.std.specs.Prelude.{◌≡◌, ◌<◌, length, None, IfOk};
+ghost use Rattle.std.specs.Prelude.{◌≡◌, ◌<◌, length, IfOk};
 ghost use Rattle.ftl_dep_table.specs.Meant.{meant};
 ghost use Rattle.ftl_items.specs.WordLaws.{first_words};
 ghost use Rattle.ftl_model.specs.Outcome.{Gives};
@@ -7,18 +7,17 @@ ghost use Rattle.ftl_stage_laws.specs.StageMeanings.{CanBePlanned};
 ghost use Rattle.ftl_stages.specs.Stages.{stages_of};
 ghost use Rattle.ftl_plan.specs.Planned.{MayBePlanned, planned};
 ghost use Rattle.ftl_plan.specs.StageTables.{AreTablesOf, stage_in};
-ghost use Rattle.ftl_plan_limits.specs.PlanFaults.{first_fault};
 ghost use Rattle.ftl_plan_limits.specs.declared.fault.PlanFault.TheVariants.{OutOfMemory};
 
 use crate::parts::StageParts;
-use crate::sound::{fault_of, is_sound};
+use crate::sound::is_sound;
 use crate::stages::rows_of_stages;
 use crate::words::node_words;
 use crate::work::StageWork;
 use ftl_checked::Checked;
 use ftl_item_cursor::ItemTables;
 use ftl_item_rows::{ItemRows, StageItems};
-use ftl_plan_limits::{PlanFault, ReadTables};
+use ftl_plan_limits::{PlanFault, ReadTables, first_fault};
 use ftl_programs::Programs;
 use ftl_stage_rows::StageRows;
 use ftl_tree::Tree;
@@ -84,41 +83,11 @@ impl<'a> Plan<'a> {
           grain = grain;
         })) }
     {
-        match fault_of(alloc, checked, accepted, tree)? {
-            Some(fault) => Err(fault),
-            None => Ok(Plan::within_limits(alloc, checked, accepted, programs, tree, grain)?),
-        }
-    }
-
-    /// The plan of a tree that is known to have no stage which reads too much.
-    pub fn within_limits(
-        alloc: Global,
-        checked: &'a Checked,
-        accepted: &'a Accepted,
-        programs: &'a Programs,
-        tree: &'a Tree<'a>,
-        grain: u32,
-    ) -> Result<Plan<'a>, AllocError>
-        requires tree { tree.now.checked ≡ checked.now }
-        requires may { MayBePlanned (record {
-          checked = checked.now;
-          schedule = accepted.now;
-          programs = programs.now;
-          tree = tree.now.tree;
-          grain = grain;
-        }) }
-        requires fits { first_fault (meant checked.now) (stages_of accepted.now) tree.now.tree
-            ≡ None }
-        ensures exact { IfOk result (λ p. p ≡ record {
-          checked = checked.now;
-          schedule = accepted.now;
-          programs = programs.now;
-          tree = tree.now.tree;
-          grain = grain;
-        }) }
-    {
         is_sound(checked);
         let tables = ReadTables::new(alloc, checked)?;
+        if let Some(fault) = first_fault(alloc, &tables, accepted, tree)? {
+            return Err(fault);
+        }
         let items = ItemRows::new(alloc, tree, grain)?;
         let targets = rule_targets(alloc, checked)?;
         let stages = rows_of_stages(

@@ -17,7 +17,7 @@ ghost use Rattle.ftl_stages.specs.Stages.{stages_of};
 use ftl_checked::Checked;
 use ftl_order::{reads_end_by_rank, values_are_in_range};
 use ftl_page::{Need, Page, Text};
-use ftl_plan::Plan;
+use ftl_plan::{Plan, PlanFault};
 use ftl_programs::Programs;
 use ftl_sections::{Undecided, grammar_of, read_page, schedule_of};
 use ftl_solution::solution_solves;
@@ -101,8 +101,11 @@ pub(crate) fn plan_of<'a>(
     ensures tree { IfOk result (λ p. p.tree ≡ tree.now.tree) }
 {
     let grain = in_range(grain, 1_048_576);
-    let plan = Plan::within_limits(alloc, checked, accepted, programs, tree, grain)?;
-    Ok(plan)
+    match Plan::new(alloc, checked, accepted, programs, tree, grain) {
+        Ok(plan) => Ok(plan),
+        Err(PlanFault::OutOfMemory) => Err(AllocError),
+        Err(_) => unreachable!(),
+    }
 }
 
 /// The number, or the nearest one from 1 to the most.

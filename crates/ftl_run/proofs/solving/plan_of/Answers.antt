@@ -1,8 +1,8 @@
 use Rattle.ftl_run.proofs.Passes.{few_passes}
 use Rattle.ftl_run.proofs.solving.plan_of.Goals as goal
 
-pub within_limits-requires-clause-may : goal.within_limits-requires-clause-may
-within_limits-requires-clause-may c =
+pub new-requires-clause-may : goal.new-requires-clause-may
+new-requires-clause-may c =
     let may = c.requires.may in
     record {
       ordered = may.ordered;
