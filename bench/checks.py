@@ -1,14 +1,16 @@
 #!/usr/bin/env python3
 """Checks grammars at their limits and verifies a schedule of each: 128 classes of one interface, each with 79 rules of
 256 reads, and grammars whose rules have more reads in all, up to a text of about 60 MiB. Prints the rules and reads, the
-bytes of the text, the milliseconds of reading and checking the grammar, of its table of reads, of reading the schedule
-and of verifying it, and the nanoseconds of verifying for each read.
+bytes of the text, the milliseconds of processor time of a `check` that ends with the schedule's first byte (reading and
+checking the grammar), of the rest of a whole `check` (the table of reads, reading the schedule and verifying it), and the
+nanoseconds of the rest for each read.
 
-usage: bench/checks.py [PROGRAM]     PROGRAM is crates/ftl_page_bench/out/ftl_page_bench if left out
+usage: bench/checks.py [PROGRAM]     PROGRAM is crates/ftl_layout/out/ftl_layout if left out
 """
 import os
-import subprocess
 import sys
+
+from timing import processor_seconds
 
 TOP = os.path.dirname(os.path.dirname(os.path.abspath(__file__)))
 RUNS = 3
@@ -61,28 +63,18 @@ def deep(children, rules_read):
     return text, f"topdown {{ {entries} }}", (CLASSES - 1) * children * len(names)
 
 
-def run(program, page):
-    """The nanoseconds of the four steps of the run whose last is the quickest."""
-    def once():
-        told = subprocess.run([program, "schedule"], input=page, stdout=subprocess.PIPE, check=True).stdout.split()
-        if told[4:] != [b"accepted"]:
-            sys.exit(f"the program told {told}")
-        return [int(word) for word in told[:4]]
-    return min((once() for _ in range(RUNS)), key=lambda times: times[3])
-
-
 def main():
-    program = sys.argv[1] if len(sys.argv) > 1 else os.path.join(TOP, "crates/ftl_page_bench/out/ftl_page_bench")
+    program = sys.argv[1] if len(sys.argv) > 1 else os.path.join(TOP, "crates/ftl_layout/out/ftl_layout")
     if not os.path.exists(program):
-        sys.exit(f"{program} is not built: run 'rt run' in crates/ftl_page_bench once")
-    print(f"{'grammar':24} {'rules':>7} {'reads':>9} {'bytes':>9} {'check':>8} {'table':>8} {'read':>8} {'verify':>8} {'ns/read':>8}")
+        sys.exit(f"{program} is not built: run ./layout once")
+    print(f"{'grammar':24} {'rules':>7} {'reads':>9} {'bytes':>9} {'grammar':>8} {'rest':>8} {'ns/read':>8}")
     grammars = [("wide, 32 reads a rule", wide(32), 32), ("wide, 256 reads a rule", wide(256), 256),
                 ("16 children, 1 read", deep(16, 1), 1), ("16 children, 50 reads", deep(16, 50), 50)]
     for name, (text, schedule, rules), reads in grammars:
-        page = f"%page 1\n%grammar\n{text}%schedule\n{schedule}\n".encode()
-        times = run(program, page)
-        shown = " ".join(f"{time / 1e6:8.1f}" for time in times)
-        print(f"{name:24} {rules:7} {rules * reads:9} {len(text):9} {shown} {times[3] / (rules * reads):8.1f}")
+        grammar = processor_seconds([program, "check"], f"%page 1\n%grammar\n{text}%schedule\n}}\n", (6,), RUNS)
+        rest = processor_seconds([program, "check"], f"%page 1\n%grammar\n{text}%schedule\n{schedule}\n", (0,), RUNS) - grammar
+        each = rest * 1e9 / (rules * reads)
+        print(f"{name:24} {rules:7} {rules * reads:9} {len(text):9} {grammar * 1e3:8.1f} {rest * 1e3:8.1f} {each:8.1f}")
 
 
 if __name__ == "__main__":

@@ -1,12 +1,14 @@
 #!/usr/bin/env python3
 """Finds the automatic schedule of grammars of 256 to 2048 computed attributes: of one pass, of one pass with many reads,
-and of as many passes as attributes. Prints the milliseconds of finding it, and the growth from size to size.
+and of as many passes as attributes. Prints the milliseconds of processor time that `check` takes for it (the table of
+reads counted, reading and checking the grammar left out), and the growth from size to size.
 
-usage: bench/schedules.py [PROGRAM]     PROGRAM is crates/ftl_page_bench/out/ftl_page_bench if left out
+usage: bench/schedules.py [PROGRAM]     PROGRAM is crates/ftl_layout/out/ftl_layout if left out
 """
 import os
-import subprocess
 import sys
+
+from timing import processor_seconds
 
 TOP = os.path.dirname(os.path.dirname(os.path.abspath(__file__)))
 RUNS = 5
@@ -51,21 +53,15 @@ def one_each(count):
 
 
 def run(program, text):
-    """The least nanoseconds of finding the schedule."""
-    page = f"%page 1\n%grammar\n{text}%schedule auto\n".encode()
-
-    def once():
-        told = subprocess.run([program, "schedule"], input=page, stdout=subprocess.PIPE, check=True).stdout.split()
-        if told[4:] != [b"found"]:
-            sys.exit(f"the program told {told}")
-        return int(told[3])
-    return min(once() for _ in range(RUNS))
+    """The seconds of finding the schedule: of a whole `check`, less one whose schedule is refused at its first byte."""
+    grammar = processor_seconds([program, "check"], f"%page 1\n%grammar\n{text}%schedule\n}}\n", (6,), RUNS)
+    return processor_seconds([program, "check"], f"%page 1\n%grammar\n{text}%schedule auto\n", (0,), RUNS) - grammar
 
 
 def main():
-    program = sys.argv[1] if len(sys.argv) > 1 else os.path.join(TOP, "crates/ftl_page_bench/out/ftl_page_bench")
+    program = sys.argv[1] if len(sys.argv) > 1 else os.path.join(TOP, "crates/ftl_layout/out/ftl_layout")
     if not os.path.exists(program):
-        sys.exit(f"{program} is not built: run 'rt run' in crates/ftl_page_bench once")
+        sys.exit(f"{program} is not built: run ./layout once")
     print(f"{'grammar':32} {'attributes':>10} {'ms':>9} {'growth':>7}")
     grammars = [("one pass, 1 read beside", lambda n: one_pass(n, 1)), ("one pass, 63 reads beside", lambda n: one_pass(n, 63)),
                 ("as many passes as attributes", one_each)]
@@ -73,8 +69,8 @@ def main():
         before = None
         for count in (256, 512, 1024, 2048):
             time = run(program, make(count))
-            growth = "" if before is None else f"{time / before:7.2f}"
-            print(f"{name:32} {count:10} {time / 1e6:9.2f} {growth:>7}")
+            growth = f"{time / before:7.2f}" if before else ""
+            print(f"{name:32} {count:10} {time * 1e3:9.2f} {growth:>7}")
             before = time
 
 

@@ -18,6 +18,7 @@ use ftl_tree::Tree;
 use std::alloc::{AllocError, Global};
 
 /// The table of these words, shown.
+#[inline(never)]
 pub(crate) fn table_shown(
     alloc: Global,
     shown: &Shown,

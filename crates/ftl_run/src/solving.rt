@@ -84,6 +84,7 @@ pub(crate) fn text_of(alloc: Global, text: Option<Text>) -> String
 
 /// The plan of a tree, with subtrees of at most so many nodes as items, or of the nearest number
 /// that a plan may have.
+#[inline(never)]
 pub(crate) fn plan_of<'a>(
     alloc: Global,
     grain: u32,

@@ -29,6 +29,7 @@ use ftl_tokens::Scanned;
 use std::alloc::Global;
 
 /// The lawful grammar that the text spells, in this width.
+#[inline(never)]
 pub fn grammar_of(alloc: Global, width: Width, text: Text) -> Result<Checked, Undecided>
     requires short { length text ≤ 67108864 }
     ensures outcome { IsOutcome (grammar width text) (λ c. c) result }

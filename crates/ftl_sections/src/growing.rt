@@ -30,6 +30,7 @@ use ftl_verify::Accepted;
 use std::alloc::Global;
 
 /// The tree that the text spells, where no stage reads too much.
+#[inline(never)]
 pub fn tree_of<'a>(
     alloc: Global,
     checked: &'a Checked,

@@ -19,6 +19,7 @@ use std::alloc::Global;
 const MOST_BYTES: usize = 67108864;
 
 /// The sections of a page that are needed.
+#[inline(never)]
 pub fn read_page(alloc: Global, bytes: &[u8], need: Need) -> Result<Page, Undecided>
     ensures outcome { IsOutcome (page need bytes.now) (λ p. p) result }
     ensures short { IfOk result (HasTextsUpTo 67108864) }

@@ -18,6 +18,7 @@ use ftl_schedule::Accepted;
 use std::alloc::Global;
 
 /// The schedule that the text spells, or the automatic one where there is none.
+#[inline(never)]
 pub fn schedule_of(
     alloc: Global,
     checked: &Checked,

@@ -8,14 +8,14 @@ ghost use Rattle.ftl_solution.specs.Solution.{solution};
 use ftl_cells::{Cells, Work};
 use ftl_edge::Gate;
 use ftl_plan::{Plan, solve_alone};
-use ftl_steal::run_stage;
+use ftl_steal::{run_alone, run_stage};
 use std::alloc::{AllocError, Global};
 use std::sync::Wait;
 use std::thread::Threads;
 
 /// The words of the solution, one for each cell. A stage is run by so many workers, or by fewer
-/// where it has fewer items. One worker is the calling thread: it starts no other and calls no
-/// gate.
+/// where it has fewer items. One worker is the calling thread, also of a stage of one item, as an
+/// inorder pass is: it starts no other, shares no cells and calls no gate.
 pub fn solve<R: Threads + Wait + Sync, G: Gate>(
     rt: &R,
     alloc: Global,
@@ -39,7 +39,8 @@ pub fn solve<R: Threads + Wait + Sync, G: Gate>(
     Ok(words)
 }
 
-/// The words after a work, from those that fit it.
+/// The words after a work, from those that fit it. An item by itself is computed by the calling
+/// thread on the words as they are, which spares a copy of all words in and one out.
 fn words_after<R: Threads + Wait + Sync, W: Work + Drop, G: Gate>(
     rt: &R,
     alloc: Global,
@@ -53,6 +54,9 @@ fn words_after<R: Threads + Wait + Sync, W: Work + Drop, G: Gate>(
     requires few { workers ≤ 64 }
     ensures last { IfOk result (λ v. AreLast (W.meaning work) v.items) }
 {
+    if work.items() < 2 {
+        return run_alone(alloc, &work, words);
+    }
     let (cells, hand) = Cells::open(alloc, work, words)?;
     let hand = run_stage(rt, alloc, &cells, hand, workers, gate)?;
     Ok(cells.close(hand))

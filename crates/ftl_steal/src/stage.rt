@@ -125,7 +125,8 @@ fn equip<W: Work>(
     }))
 }
 
-/// Deals the items that wait for none, in order, to one worker after the other.
+/// Deals the items that wait for none, in order, as many of all items to one worker as to the next,
+/// so that what a worker writes lies side by side.
 fn deal_all<R: Wait, W: Work>(
     rt: &R,
     cells: &Cells<W>,
@@ -142,13 +143,30 @@ fn deal_all<R: Wait, W: Work>(
     ensures idle { All (IsIdleMember (W.meaning cells.now.1) cells.now.0 pool.now)
         members.new.items }
 {
+    let items = cells.work().items();
+    let share = items as usize / members.len() + 1;
     let mut worker = 0;
-    for item in 0..cells.work().items() {
-        worker = deal_next(rt, cells, pool, members, worker, item);
+    for item in 0..items {
+        deal_next(rt, cells, pool, members, worker, item);
+        worker = next_turn(worker, members.len(), item as usize % share + 1 == share);
     }
 }
 
-/// Deals an item to this worker if it waits for none, and answers whose turn is next.
+/// Whose turn is next, the first worker's after the last one's.
+fn next_turn(worker: usize, workers: usize, done: bool) -> usize
+    requires worker { worker < workers }
+    ensures worker { result < workers }
+{
+    if !done {
+        worker
+    } else if worker + 1 < workers {
+        worker + 1
+    } else {
+        0
+    }
+}
+
+/// Deals an item to this worker if it waits for none.
 fn deal_next<R: Wait, W: Work>(
     rt: &R,
     cells: &Cells<W>,
@@ -156,13 +174,12 @@ fn deal_next<R: Wait, W: Work>(
     members: &mut Vec<CachePadded<Member>>,
     worker: usize,
     item: u32,
-) -> usize
+)
     requires items { pool.now.items ≡ item_total (W.meaning cells.now.1) }
     requires item { item < item_total (W.meaning cells.now.1) }
     requires worker { worker < vec_len members.old }
     requires dealt { All (IsDealtBelow (W.meaning cells.now.1) cells.now.0 pool.now item)
         members.old.items }
-    ensures worker { result < vec_len members.new }
     ensures count { vec_len members.new ≡ vec_len members.old }
     ensures once { put_total members.new.items + free_below (W.meaning cells.now.1) item
         ≡ put_total members.old.items + free_below (W.meaning cells.now.1) (item + 1) }
@@ -170,10 +187,9 @@ fn deal_next<R: Wait, W: Work>(
         members.new.items }
 {
     if cells.work().pred_count(item) != 0 {
-        return worker;
+        return;
     }
     deal(rt, cells, pool, &mut members[worker], item);
-    (worker + 1) % members.len()
 }
 
 /// Deals one item to one worker.

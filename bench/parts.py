@@ -1,0 +1,70 @@
+#!/usr/bin/env python3
+"""Counts instructions of the parts of a run by one worker, under valgrind's callgrind, on pages of 20,000 and 200,000
+pieces of four shipped grammars: reading the document (its tokens and its tree), making the plan, solving, and showing
+the boxes. Prints millions of instructions, the ratios of solving to reading and of the plan to solving, and the growth
+of solving from the smaller page to the larger. Instructions are the same from run to run, whatever else the machine does.
+
+usage: bench/parts.py [PROGRAM]     PROGRAM is crates/ftl_layout/out/ftl_layout if left out
+"""
+import os
+import re
+import subprocess
+import sys
+import tempfile
+
+from plain_layout import sample
+
+TOP = os.path.dirname(os.path.dirname(os.path.abspath(__file__)))
+GRAMMARS = ["flow", "stack", "table", "float"]
+SIZES = [20_000, 200_000]
+PARTS = {
+    "read": r"ftl_sections::growing::tree_of$",
+    "plan": r"ftl_plan::plan::Plan::new$",
+    "solve": r"ftl_plan::alone::solve_alone$",
+    "show": r"ftl_run::shown::table_shown$",
+}
+
+
+def counted(program, page):
+    """Instructions of the whole run, and of each part with all that it calls."""
+    with tempfile.TemporaryDirectory() as folder:
+        told = os.path.join(folder, "told")
+        words = ["valgrind", "--tool=callgrind", f"--callgrind-out-file={told}", program, "run"]
+        ran = subprocess.run(words, input=page.encode(), stdout=subprocess.DEVNULL, stderr=subprocess.DEVNULL)
+        if ran.returncode not in (0, 8):
+            sys.exit(f"{' '.join(words)} ended with status {ran.returncode}")
+        words = ["callgrind_annotate", "--inclusive=yes", "--threshold=100", told]
+        listed = subprocess.run(words, stdout=subprocess.PIPE, stderr=subprocess.DEVNULL, text=True).stdout
+    counts = dict.fromkeys(["whole", *PARTS], 0)
+    for line in listed.splitlines():
+        found = re.match(r" *([\d,]+) \([ \d.]+%\)  (?:.*?:)?(\S+)(?: \[.*)?$", line)
+        if "PROGRAM TOTALS" in line:
+            counts["whole"] = int(line.split()[0].replace(",", ""))
+        elif found:
+            for part, name in PARTS.items():
+                if re.search(name, found[2]):
+                    counts[part] = max(counts[part], int(found[1].replace(",", "")))
+    return counts
+
+
+def main():
+    program = sys.argv[1] if len(sys.argv) > 1 else os.path.join(TOP, "crates/ftl_layout/out/ftl_layout")
+    if not os.path.exists(program):
+        sys.exit(f"{program} is not built: run ./layout once")
+    heads = " ".join(f"{it:>8}" for it in ["whole", *PARTS])
+    print(f"{'grammar':8} {'pieces':>7} {heads} {'solve/read':>10} {'plan/solve':>10} {'growth':>7}")
+    for grammar in GRAMMARS:
+        before = 0
+        for size in SIZES:
+            counts = counted(program, sample(grammar, size))
+            if 0 in counts.values():
+                sys.exit(f"no count for {[part for part, count in counts.items() if not count]}")
+            shown = " ".join(f"{count / 1e6:8.1f}" for count in counts.values())
+            growth = f"x{counts['solve'] / before:.1f}" if before else ""
+            before = counts["solve"]
+            ratios = f"{counts['solve'] / counts['read']:10.2f} {counts['plan'] / counts['solve']:10.2f}"
+            print(f"{grammar:8} {size:7} {shown} {ratios} {growth:>7}", flush=True)
+
+
+if __name__ == "__main__":
+    main()
