@@ -3,6 +3,7 @@
 //! them.
 #![tactic(auto)]
 
+mod bound;
 mod fault;
 mod limits;
 mod reads;

@@ -7,6 +7,7 @@ ghost use Rattle.ftl_instance_reads.specs.ReadTables.{AreTables, IsSound};
 ghost use Rattle.ftl_plan_limits.specs.PlanFaults.{first_along, first_fault};
 ghost use Rattle.ftl_plan_limits.specs.StageReads.{many_by, wide_by};
 
+use crate::bound::is_far_from_limits;
 use crate::fault::PlanFault;
 use crate::reads::{StageReads, stage_reads};
 use ftl_instance_reads::ReadTables;
@@ -15,7 +16,8 @@ use ftl_verify::Accepted;
 use std::alloc::{AllocError, Global};
 
 /// The first stage whose steps have more than 67108864 reads, or else the first step of more than
-/// 1048576; none where there is neither. Takes time as there are instances.
+/// 1048576; none where there is neither. Takes time as there are nodes where counts alone tell that
+/// there is none, else as there are instances.
 pub fn first_fault(
     alloc: Global,
     tables: &ReadTables,
@@ -28,6 +30,9 @@ pub fn first_fault(
     ensures fault { IfOk result (λ fault. fault ≡ first_fault (meant tree.now.checked)
         (stages_of accepted.now) tree.now.tree) }
 {
+    if is_far_from_limits(tables, tree) {
+        return Ok(None);
+    }
     let counts = stage_reads(alloc, tables, accepted, tree)?;
     match first_too_many(counts.as_slice()) {
         Some(fault) => Ok(Some(fault)),
