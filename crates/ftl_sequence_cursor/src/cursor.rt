@@ -65,6 +65,7 @@ impl<'a> SequenceCursor<'a> {
     }
 
     /// The next step; none at the end.
+    #[inline(never)]
     pub fn next(&mut self) -> Option<Step>
         ensures step { MatchOption result ((self.old ≡ []) × (self.new ≡ []))
             (λ step. self.old ≡ step ∷ self.new) }

@@ -47,6 +47,7 @@ impl<'a> Model for StepReads<'a> {
 
 impl<'a> StepReads<'a> {
     /// Before the first cell that a step reads.
+    #[inline(always)]
     pub fn new(tables: &'a ReadTables, tree: &'a Tree<'a>, step: Step) -> StepReads<'a>
         requires sound { IsSound (meant tree.now.checked) }
         requires tables { AreTables (meant tree.now.checked) tables.now }
@@ -77,6 +78,7 @@ impl<'a> StepReads<'a> {
     }
 
     // Before what a part reads that is read once; what a fold takes again is nothing.
+    #[inline(always)]
     fn of_part(tree: &'a Tree<'a>, step: Step, reads: &'a [PartRead]) -> StepReads<'a>
         requires node { step.node < size tree.now.tree }
         requires reads { EachMay (IsThere tree.now step.node step.kid) (map read_meant reads.now) }
@@ -96,6 +98,7 @@ impl<'a> StepReads<'a> {
     }
 
     /// The next cell; none at the end.
+    #[inline(always)]
     pub fn next(&mut self) -> Option<u32>
         ensures next { self.old ≡ cons_option result self.new }
         ensures end { IfNone result (self.new ≡ []) }

@@ -12,4 +12,5 @@ mod target;
 pub use counts::{read_at, read_count};
 pub use cursor::StepReads;
 pub use parts::step_parts;
+pub use seen::read_cell;
 pub use target::target_cell;

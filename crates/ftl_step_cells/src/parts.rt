@@ -12,6 +12,7 @@ use ftl_steps::Step;
 use ftl_tree::Tree;
 
 /// The parts of the rule of a step of the tree.
+#[inline(always)]
 pub fn step_parts<'a>(tables: &'a ReadTables, tree: &Tree<'_>, step: Step) -> &'a RuleParts
     requires sound { IsSound (meant tree.now.checked) }
     requires tables { AreTables (meant tree.now.checked) tables.now }

@@ -11,7 +11,8 @@ use ftl_rule_parts::PartRead;
 use ftl_tree::Tree;
 
 /// The cell of a read at a node while this kid is at hand; none where there is nothing to read.
-pub(crate) fn read_cell(tree: &Tree<'_>, node: u32, read: PartRead, at_hand: u32) -> Option<u32>
+#[inline(always)]
+pub fn read_cell(tree: &Tree<'_>, node: u32, read: PartRead, at_hand: u32) -> Option<u32>
     requires node { node < size tree.now.tree }
     requires there { IsThere tree.now node at_hand (read_meant read) }
     ensures cell { option_to_list result ≡ map (cell_seen tree.now node)
@@ -43,6 +44,7 @@ fn cell_before(tree: &Tree<'_>, node: u32, child: u32, number: u32, attr: u32) -
 }
 
 /// The cell of an attribute of a kid of a node.
+#[inline(always)]
 pub(crate) fn kid_cell(tree: &Tree<'_>, node: u32, child: u32, number: u32, attr: u32) -> u32
     requires node { node < size tree.now.tree }
     requires there { IsSeen tree.now node (kid child number attr) }

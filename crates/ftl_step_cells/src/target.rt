@@ -10,6 +10,7 @@ use ftl_steps::Step;
 use ftl_tree::Tree;
 
 /// The cell of the instance that a step computes.
+#[inline(always)]
 pub fn target_cell(tree: &Tree<'_>, step: Step) -> u32
     requires sound { IsSound (meant tree.now.checked) }
     requires step { IsStepOf (meant tree.now.checked) tree.now.tree step }

@@ -1,14 +1,16 @@
 -- Steps with the code of the rules, the parts of their rules, and what these give.
-use Rattle.std.specs.Prelude.{◌≡◌, ℕ, ◌<◌, true, List, flat_map, length, map}
+use Rattle.std.specs.Prelude.{◌≡◌, ℕ, ◌<◌, true, List, [], ◌∷◌, flat_map, length, map}
 use Rattle.std.specs.List.{range_with_len}
-use Rattle.ftl_model.specs.AttributeGrammar.{Occurrence, Parts, first_then, fold_over, plain, reads_in, seen_by}
+use Rattle.ftl_model.specs.AttributeGrammar.{Occurrence, Parts, Read, first_then, fold_over, plain, read_occurrences}
+use Rattle.ftl_model.specs.AttributeGrammar.{reads_in, seen_by}
+use Rattle.ftl_model.specs.AttributeGrammar as model
 use Rattle.ftl_model.specs.Tree.{size}
-use Rattle.ftl_model.specs.Values.{Value}
+use Rattle.ftl_model.specs.Values.{Value, overflow}
 use Rattle.ftl_order.specs.Lawful.{EachMay}
-use Rattle.ftl_meaning.specs.Meaning.{sight}
+use Rattle.ftl_meaning.specs.Meaning.{Sight, sight}
 use Rattle.ftl_rule_parts.specs.RuleParts.{read_meant}
-use Rattle.ftl_step_reads.specs.StepReads.{IsOfChildren, children_in, kids_in}
-use Rattle.ftl_visit.specs.PartValues.{IsRuleOf, has_part, meant_rule, part_of, part_value}
+use Rattle.ftl_step_reads.specs.StepReads.{AreOfChildren, IsOfChildren, children_in, kids_in}
+use Rattle.ftl_visit.specs.PartValues.{IsRuleOf, has_part, meant_rule, part_of, part_value, value_by_parts}
 use Rattle.ftl_step_value.specs.StepValue.{IsCodeFor}
 use Rattle.ftl_step_value.specs.declared.part.Site.{Site}
 use Rattle.ftl_step_value.specs.declared.part.SitePart.{SitePart}
@@ -57,3 +59,20 @@ HasEvenStep kids (plain reads) = Unit {0}
 HasEvenStep kids (first_then first later) = Unit {0}
 HasEvenStep kids (fold_over c start step) =
     (k : ℕ) → length (seen_by kids k step) ≡ length (seen_by kids 0 step)
+
+-- ---- copies
+
+-- a rule with these parts has this one, with these reads, and for the kid of this number it reads and gives no other
+pub record IsPartFor (parts : Parts) (number : ℕ) (which : model.Part) (reads : List Read) : Type 0 where
+  pub has : has_part parts which ≡ true
+  pub reads_are : reads_in parts which ≡ reads
+  pub children : (n : ℕ) → AreOfChildren n parts → EachMay (IsOfChildren n) reads
+  pub sees : (kids : ℕ → ℕ) → read_occurrences parts kids number ≡ seen_by kids number reads
+  pub gives : (value : model.Part → Sight → Value) (kids : ℕ → ℕ) (s : Occurrence → Value)
+      → value_by_parts parts value kids number s ≡ value which (sight kids number s overflow)
+
+-- a part that reads one value, for the kid of the step, gives that value
+abbrev pub GivesOneRead : SitePart → Type 0
+GivesOneRead x =
+    (s : Occurrence → Value) (v : Value) → map s (part_sees x x.site.step.kid) ≡ v ∷ []
+    → part_gives x x.site.step.kid overflow s ≡ v

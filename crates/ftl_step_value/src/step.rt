@@ -26,6 +26,7 @@ use ftl_visit::parts_give_the_rule;
 
 /// The value that a step gives the cell that it fills, by the values of the cells that it reads, in
 /// their order.
+#[inline(always)]
 pub fn step_value<'a>(
     programs: &'a Programs,
     tables: &'a ReadTables,
@@ -60,6 +61,7 @@ pub fn step_value<'a>(
 }
 
 /// What a rule with these parts gives.
+#[inline(always)]
 fn parts_value<'a>(
     site: &Site<'a>,
     parts: &'a RuleParts,

@@ -68,6 +68,7 @@ impl<'a> VisitCursor<'a> {
     }
 
     /// The next step; none at the end.
+    #[inline(always)]
     pub fn next(&mut self) -> Option<Step>
         ensures step { MatchOption result ((self.old ≡ []) × (self.new ≡ []))
             (λ step. self.old ≡ step ∷ self.new) }

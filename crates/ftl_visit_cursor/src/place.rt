@@ -35,6 +35,7 @@ pub(crate) struct Place<'a> {
 }
 
 /// The next step; none at the end.
+#[inline(always)]
 pub(crate) fn next_step<'a>(tables: Tables<'a>, at: &mut Place<'a>) -> Option<Step>
     requires tables { AreTables tables }
     requires place { IsPlace tables at.old }
