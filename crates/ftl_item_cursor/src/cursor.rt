@@ -17,6 +17,7 @@ pub enum ItemCursor<'a> {
 
 impl<'a> ItemCursor<'a> {
     /// The next step; none at the end.
+    #[inline(always)]
     pub fn next(&mut self) -> Option<Step>
         ensures step { MatchOption result
             ((steps_left self.old ≡ []) × (steps_left self.new ≡ []))

@@ -1,5 +1,5 @@
 -- What a work answers is what it means.
-use Rattle.std.proofs.Common.{◌≡◌, ℕ, ◌<◌, ◌≤◌, true, false, ltb, ltb-true, ltb-false, refl, sym, ◌∙◌, ap, subst, arith, List, get_or, length, map}
+use Rattle.std.proofs.Common.{◌≡◌, ℕ, ◌<◌, ◌≤◌, true, false, ltb, ltb-true, ltb-false, refl, sym, ◌∙◌, ap, subst, arith, List, [], ◌∷◌, get_or, length, map}
 use Rattle.std.proofs.lemmas.List.{ext_get_or, get_or-map, get_or_past, length-map}
 use Rattle.std.proofs.lemmas.List.Elements.{Contains-get_or}
 use Rattle.std.proofs.lemmas.List.FromFn.{get_or-map-range_with_len, length-map-range_with_len}
@@ -24,7 +24,7 @@ use Rattle.ftl_order.specs.Schedule.{Pass, Schedule}
 use Rattle.ftl_solution.specs.Solution.{solution}
 use Rattle.ftl_step_cells.specs.ReadCells.{filled_cell, read_cells}
 use Rattle.ftl_step_cells.proofs.StepRules.{target_there}
-use Rattle.ftl_step_value.specs.StepValue.{value_of_step}
+use Rattle.ftl_step_value.specs.StepValue.{GivesItsRead, value_of_step}
 use Rattle.ftl_steps.specs.Steps.{IsStepOf, target_of}
 use Rattle.ftl_steps.specs.declared.step.Step.{Step}
 use Rattle.ftl_tree.specs.CheckedTree.{CheckedTree}
@@ -209,3 +209,12 @@ module _ (w : StageParts) (fit : IsStage w) where
     value_is =
         sym (solves.solves (target_of g t x) (target_there g fit.sound.law t fit.can.is_tree x is))
         ∙ sym (solution_is solves (filled_cell g t x))
+
+    -- a step that gives the one value that it reads copies a cell
+    pub copied_is : (cell : ℕ) → read_cells g t x ≡ cell ∷ [] → GivesItsRead g t x
+        → solution_at m cell ≡ solution_at m (filled_cell g t x)
+    copied_is cell one gives =
+        sym
+        (gives (value_in g t (solution g t)) (solution_at m cell)
+        (sym values_are ∙ ap (map (solution_at m)) one))
+        ∙ value_is

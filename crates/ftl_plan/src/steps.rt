@@ -53,6 +53,7 @@ impl<'a> StageParts<'a> {
     }
 
     /// The value that a step gives, from those of the cells that it reads.
+    #[inline(always)]
     pub(crate) fn value(&self, step: Step, reads: &[Val], stack: &mut CodeStack) -> Val
         requires fit { IsStage self.now }
         requires step { IsStepOf (grammar_of self.now) (tree_of self.now) step }
