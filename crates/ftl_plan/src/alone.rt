@@ -9,6 +9,7 @@ use ftl_steal::run_alone;
 use std::alloc::{AllocError, Global};
 
 /// The words of the solution, one for each cell.
+#[inline(never)]
 pub fn solve_alone(alloc: Global, plan: &Plan<'_>) -> Result<Vec<u64>, AllocError>
     ensures solution { IfOk result (λ v. HoldTheSolution
         (solution (meant plan.now.checked) plan.now.tree) v.items) }

@@ -59,6 +59,7 @@ impl<'a> Model for Plan<'a> {
 impl<'a> Plan<'a> {
     /// The plan of a tree with items of at most so many nodes, or its first fault. All must belong
     /// to one grammar.
+    #[inline(never)]
     pub fn new(
         alloc: Global,
         checked: &'a Checked,
