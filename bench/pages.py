@@ -3,7 +3,7 @@
 processor time of the whole run, of `check` on the same page (reading and checking the grammar and finding the
 schedule), of reading the document, and of the rest (making the plan, solving and printing the boxes), the peak memory
 in MB, and the growth of the time from the smaller sample to the larger. Then prints for the larger samples the
-milliseconds that pass by 1, 2 and 4 workers.
+milliseconds that pass by 1, 2 and 4 workers, and their milliseconds of processor time.
 
 The time of reading a document is that of a run on the same page without its last input, which is refused as soon as
 all of it was read, less that of `check`.
@@ -19,7 +19,7 @@ from plain_layout import GRAMMARS, sample
 TOP = os.path.dirname(os.path.dirname(os.path.abspath(__file__)))
 SIZES = [20_000, 200_000]
 WORKERS = [1, 2, 4]
-RUNS = 3
+RUNS = 5
 
 # Runs the program from a small process: a child's peak memory counts that of the process that it was forked from.
 MEASURE = """
@@ -75,11 +75,16 @@ def parts(program, grammar):
 
 
 def by_workers(program, grammar):
-    times = []
-    for workers in WORKERS:
-        words = [program, "sample", str(SIZES[-1]), "--grammar", grammar, "--workers", str(workers)]
-        times.append(least(lambda run: run.passed, words).passed)
-    print(f"{grammar:8} {SIZES[-1]:7} " + " ".join(f"{it * 1e3:10.1f}" for it in times), flush=True)
+    """Milliseconds that pass and of processor time, the least of runs that take turns."""
+    runs = {workers: [] for workers in WORKERS}
+    for _ in range(RUNS):
+        for workers, done in runs.items():
+            words = [program, "sample", str(SIZES[-1]), "--grammar", grammar, "--workers", str(workers)]
+            done.append(Run(words, "", (0, 8)))
+    passed = [min(run.passed for run in done) for done in runs.values()]
+    seconds = [min(run.seconds for run in done) for done in runs.values()]
+    times = " ".join(f"{it * 1e3:8.1f}" for it in passed + seconds)
+    print(f"{grammar:8} {SIZES[-1]:7} {times}", flush=True)
 
 
 def main():
@@ -89,7 +94,8 @@ def main():
     print(f"{'grammar':8} {'pieces':>7} {'whole':>8} {'check':>8} {'read':>8} {'rest':>8} {'peak MB':>8} {'growth':>7}")
     for grammar in GRAMMARS:
         parts(program, grammar)
-    print(f"\n{'grammar':8} {'pieces':>7} " + " ".join(f"{it:>2} workers" for it in WORKERS))
+    heads = [f"{it} {kind}" for kind in ("passed", "cpu") for it in WORKERS]
+    print(f"\n{'grammar':8} {'pieces':>7} " + " ".join(f"{it:>8}" for it in heads))
     for grammar in GRAMMARS:
         by_workers(program, grammar)
 
