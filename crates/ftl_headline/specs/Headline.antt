@@ -1,5 +1,5 @@
 -- What is promised of a call that writes the answer to its words and to the bytes that its source had left.
-use Rattle.std.specs.Prelude.{◌≡◌, ◌≢◌, ℕ, ◌+◌, ◌≤◌, ◌⊎◌, Bool, true, false, List, [], length, Option, None, Some, map, String, Ok, IfSome}
+use Rattle.std.specs.Prelude.{◌≡◌, ◌≢◌, ℕ, ◌+◌, ◌<◌, ◌≤◌, ◌⊎◌, Bool, true, false, List, [], length, Option, None, Some, map, String, Ok, IfSome}
 use Rattle.std.specs.Io.KnownBytes.{Appends}
 use Rattle.std.specs.String.{string_bytes}
 use Rattle.ftl_boxes.specs.SamplePage.{sample_page_of}
@@ -7,7 +7,7 @@ use Rattle.ftl_commands.specs.Commands.{command_of}
 use Rattle.ftl_commands.specs.declared.command.Command.{Command}
 use Rattle.ftl_commands.specs.declared.command.Command.TheVariants as command
 use Rattle.ftl_dep_table.specs.Meant.{meant}
-use Rattle.ftl_edge.specs.Counts.{Rose, RoseBy, SourceCounts}
+use Rattle.ftl_edge.specs.Counts.{Rose, RoseBy, SourceCounts, raised}
 use Rattle.ftl_edge.specs.Sink.{AppendsFront}
 use Rattle.ftl_grammar_faults.specs.Checked.{CheckedGrammar}
 use Rattle.ftl_model.specs.Tree.{Forest}
@@ -76,7 +76,8 @@ pub record IsAnswered (status : ℕ) : Type 0 where
 -- the source, and its counts before and after: the status is the answer's, or tells of trouble, and where no count of
 -- faults rose, of no other trouble than want of memory. With the answer's status its whole text was appended, and with a
 -- write fault a front of it. Unless the page is too long, a read failed or memory ran out, a source that is read, and
--- tells what it has left, is read to its end, and as many bytes were taken as are answered.
+-- tells what it has left, is read to its end, and as many bytes were taken as are answered. Of a page that is longer than
+-- one may be, all that one may have and one byte more were taken.
 pub record IsTold (s : ℕ) (written after : Option (List ℕ)) (reads : Bool) (told left : Option (List ℕ))
     (old new : SourceCounts) (write_rose : Type 0) (bytes : List ℕ) (a : Answer) : Type 0 where
   pub status : (s ≡ a.status) ⊎ IsTrouble s
@@ -85,6 +86,7 @@ pub record IsTold (s : ℕ) (written after : Option (List ℕ)) (reads : Bool) (
   pub front : s ≡ 1 → AppendsFront written after a.text
   pub to_its_end : reads ≡ true → s ≢ 3 → s ≢ 9 → a ≢ refused 4 too_long_line → IfSome told (λ _. left ≡ Some [])
   pub counted : reads ≡ true → s ≢ 3 → s ≢ 9 → a ≢ refused 4 too_long_line → RoseBy (length bytes) old.taken new.taken
+  pub over : reads ≡ true → s ≢ 3 → s ≢ 9 → 67108864 < length bytes → raised old.taken 67108865 ≤ new.taken
 
 -- ---- faults
 

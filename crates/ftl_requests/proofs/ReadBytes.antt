@@ -1,5 +1,5 @@
 -- The bytes that are answered, and what is answered to them.
-use Rattle.std.proofs.Common.{◌≡◌, ◌≢◌, ◌∙◌, refl, sym, ap, subst, inl, inr, ℕ, suc, ◌<◌, Bool, true, false, List, [], Option, Some, None, Result, Ok, Err, IfOk, arith}
+use Rattle.std.proofs.Common.{◌≡◌, ◌≢◌, ◌∙◌, refl, sym, ap, subst, inl, inr, ℕ, suc, ◌<◌, ◌≤◌, Bool, true, false, List, [], Option, Some, None, Result, Ok, Err, IfOk, arith}
 use Rattle.std.specs.Prelude.{IfSome, length, nat_lt, if◌then◌else◌, replicate}
 use Rattle.std.proofs.lemmas.Bool.{lt-ltb}
 use Rattle.std.proofs.lemmas.List.{length-replicate}
@@ -18,6 +18,7 @@ use Rattle.ftl_answer.specs.Answer.{Answer, refused}
 use Rattle.ftl_answer.specs.Answers.{command_in, obeyed, solved, summary_of}
 use Rattle.ftl_answer.specs.Stages.{Is, Stage, Then, ends, or_told}
 use Rattle.ftl_answer.specs.Texts.{page}
+use Rattle.ftl_edge.specs.Counts.{raised}
 use Rattle.ftl_headline.specs.Headline.{OfTheBytes, bytes_answered, may_read, reads_page}
 use Rattle.ftl_sections.specs.Outcomes.{answer_of}
 use Rattle.ftl_sections.specs.declared.decision.Decided.{Decided}
@@ -69,16 +70,18 @@ of_too_long (Some left) c reads long = (left, refl, too_long_answer c left reads
 
 -- a page that is too long is asked for
 pub too_long_asked : (told : Option (List ℕ)) (c : Command) (d : Decided) (old new : ℕ) → reads_page c ≡ true
-    → IfSome told (λ left. 67108864 < length left) → answer_of d ≡ refused 4 too_long_line
+    → IfSome told (λ left. 67108864 < length left) → raised old 67108865 ≤ new
+    → answer_of d ≡ refused 4 too_long_line
     → OfTheBytes told (λ bytes. IsAsked (obeyed c bytes) bytes true old new (Answered d))
 unfolding MayEndAs
-too_long_asked told c d old new reads long is =
+too_long_asked told c d old new reads long over is =
     let x = of_too_long told c reads long in (
       x.0,
       x.1,
       record {
         comes = λ a same. subst (λ (b : Answer). obeyed c x.0 (ends b)) (sym (same ∙ is)) x.2;
         counted = λ read short. absurd (short is);
+        over = λ read many. over;
       },
     )
 
@@ -122,7 +125,7 @@ of_words o c told old new q is (bytes, are, asked) =
     OfTheBytes (bytes_answered (may_read x) told)
     (λ bytes. IsAsked (Then (Is (command_in x)) (λ d. obeyed d bytes)) bytes (may_read x) old new q))
     (sym is)
-    (bytes, are, record { comes = λ a answers. inr (c, refl, asked.comes a answers); counted = asked.counted })
+    (bytes, are, record { comes = λ a answers. inr (c, refl, asked.comes a answers); counted = asked.counted; over = asked.over })
 
 -- words that are no command
 pub of_no_words : (o : Option Command) (told : Option (List ℕ)) (old new : ℕ) (d : Decided) → o ≡ None
@@ -139,6 +142,7 @@ of_no_words None told old new d is same = (
         subst (λ (b : Answer). Then (Is (command_in None)) (λ k. obeyed k []) (ends b)) (sym (e ∙ same))
         (inl (_, refl, refl));
     counted = λ reads. absurd cc;
+    over = λ reads. absurd cc;
   },
 )
 of_no_words (Some c) told old new d is same = absurd cc

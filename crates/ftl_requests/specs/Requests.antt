@@ -1,10 +1,10 @@
 -- What words and a page ask for, what becomes of it, and what is written.
-use Rattle.std.specs.Prelude.{◌≡◌, ◌⊎◌, ℕ, Bool, true, List, length, Option, Result, Ok, Err}
+use Rattle.std.specs.Prelude.{◌≡◌, ◌⊎◌, ◌<◌, ◌≤◌, ℕ, Bool, true, List, length, Option, Result, Ok, Err}
 use Rattle.std.specs.Io.KnownBytes.{Appends}
 use Rattle.ftl_answer.specs.Answer.{Answer, refused}
 use Rattle.ftl_answer.specs.Answers.{solved}
 use Rattle.ftl_answer.specs.Stages.{Stage, ends}
-use Rattle.ftl_edge.specs.Counts.{RoseBy}
+use Rattle.ftl_edge.specs.Counts.{RoseBy, raised}
 use Rattle.ftl_edge.specs.Sink.{AppendsFront}
 use Rattle.ftl_refusals.specs.PageLines.{too_long_line}
 use Rattle.ftl_sections.specs.Outcomes.{answer_of}
@@ -37,10 +37,11 @@ IsTooLong (Answered d) = answer_of d ≡ refused 4 too_long_line
 IsTooLong (Solve p) = ⊥
 
 -- this is asked for where the stage of these bytes may end with any answer to it; where they were read and are not too
--- many, so many were taken
+-- many, so many were taken; where they are too many, as many as a page may have and one more
 pub record IsAsked (stage : Stage ⊥) (bytes : List ℕ) (reads : Bool) (old new : ℕ) (q : Request) : Type 0 where
   pub comes : MayEndAs stage q
   pub counted : reads ≡ true → (IsTooLong q → ⊥) → RoseBy (length bytes) old new
+  pub over : reads ≡ true → 67108864 < length bytes → raised old 67108865 ≤ new
 
 -- ---- what becomes of it
 

@@ -78,6 +78,7 @@ module _ (words : List (List ℕ)) (old left : Option (List ℕ)) (before later 
         front = λ e. absurd (omega (arith, e, is));
         to_its_end = λ reads no_fault no_want other. absurd (no_fault is);
         counted = λ reads no_fault no_want other. absurd (no_fault is);
+        over = λ reads no_fault no_want many. absurd (no_fault is);
       })
   undone_told OutOfMemory rose (is, same) =
       of_any
@@ -88,6 +89,7 @@ module _ (words : List (List ℕ)) (old left : Option (List ℕ)) (before later 
         front = λ e. absurd (omega (arith, e, is));
         to_its_end = λ reads no_fault no_want other. absurd (no_want is);
         counted = λ reads no_fault no_want other. absurd (no_want is);
+        over = λ reads no_fault no_want many. absurd (no_want is);
       })
 
   undone_causes : (u : Undone) → (u ≡ ReadFault → Rose before.fault_count later.fault_count)
@@ -130,6 +132,7 @@ module _ (words : List (List ℕ)) (old left : Option (List ℕ)) (before later 
               front = λ e. absurd (fine.no_write_fault (sym is ∙ e));
               to_its_end = λ reads no_fault no_want other. end reads (not_long r (answer_of d) answers other);
               counted = λ reads no_fault no_want other. asked.counted reads (not_long r (answer_of d) answers other);
+              over = λ reads no_fault no_want many. asked.over reads many;
             },
           ),
         )
@@ -148,6 +151,7 @@ module _ (words : List (List ℕ)) (old left : Option (List ℕ)) (before later 
               front = λ e. front;
               to_its_end = λ reads no_fault no_want other. end reads (not_long r (answer_of d) answers other);
               counted = λ reads no_fault no_want other. asked.counted reads (not_long r (answer_of d) answers other);
+              over = λ reads no_fault no_want many. asked.over reads many;
             },
           ),
         )
