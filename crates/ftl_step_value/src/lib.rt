@@ -1,7 +1,8 @@
 //! The value of a step. Goes in: a tree of a checked grammar with the code of its rules, a step at
 //! one of its nodes, and the values of the cells that it reads. Comes out: the value of the cell
-//! that it fills, or, before any is read, the one cell whose value it copies, by a table of what the
-//! rules copy; `specs/StepValue.antt` and `specs/RuleCopies.antt` have the words.
+//! that it fills, or, before any is read, the one cell whose value it copies; which rules' steps
+//! copy is told by a table that is made once. `specs/StepValue.antt` and `specs/RuleCopies.antt`
+//! have the words.
 #![tactic(auto)]
 
 mod copied;
