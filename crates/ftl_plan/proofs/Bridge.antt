@@ -24,6 +24,7 @@ use Rattle.ftl_order.specs.Schedule.{Pass, Schedule}
 use Rattle.ftl_solution.specs.Solution.{solution}
 use Rattle.ftl_step_cells.specs.ReadCells.{filled_cell, read_cells}
 use Rattle.ftl_step_cells.proofs.StepRules.{target_there}
+use Rattle.ftl_step_value.specs.RuleCopies.{AreCopies}
 use Rattle.ftl_step_value.specs.StepValue.{GivesItsRead, value_of_step}
 use Rattle.ftl_steps.specs.Steps.{IsStepOf, target_of}
 use Rattle.ftl_steps.specs.declared.step.Step.{Step}
@@ -80,6 +81,9 @@ module _ (w : StageParts) (fit : IsStage w) where
     pub tables_there : AreTables (meant u.checked) w.read_tables.now
     tables_there =
         subst (λ (v : CheckedTree). AreTables (meant v.checked) w.read_tables.now) (sym same) fit.tables_are
+
+    pub copies_there : AreCopies u.checked w.copies.now
+    copies_there = subst (λ (v : CheckedTree). AreCopies v.checked w.copies.now) (sym same) fit.copies
 
     pub step_there : (x : Step) → IsStepOf g t x → IsStepOf (meant u.checked) u.tree x
     step_there x is = subst (λ (v : CheckedTree). IsStepOf (meant v.checked) v.tree x) (sym same) is

@@ -42,6 +42,7 @@ use Rattle.ftl_item_cursor.specs.contracts.item.ItemTables as ItemTables
 use Rattle.ftl_verify.proofs.accepted.Accepted.TheSendSync as accepted
 use Rattle.ftl_programs.proofs.programs.Programs.TheSendSync as programs
 use Rattle.ftl_instance_reads.proofs.tables.ReadTables.TheSendSync as reads
+use Rattle.ftl_step_value.proofs.copies.RuleCopy.TheSendSync as copy
 use Rattle.ftl_plan.specs.contracts.parts.StageParts as StageParts
 use Rattle.ftl_plan.specs.contracts.work.StageWork as StageWork
 
@@ -118,7 +119,14 @@ item_tables_sync κ =
 
 parts_sync : (κ : NamedLft) → IsSync (StageParts.the_field κ).row
 parts_sync κ =
-    search (item_tables_sync, accepted.the_sync, programs.the_sync, reads.the_field_sync, sendable) depth 30
+    search (
+      item_tables_sync,
+      accepted.the_sync,
+      programs.the_sync,
+      reads.the_field_sync,
+      copy.the_sync,
+      sendable,
+    ) depth 30
 
 pub stage_work_sync : (κ : NamedLft) → IsSync (StageWork.the_field κ).row
 stage_work_sync κ = search (parts_sync, sendable) depth 30

@@ -17,6 +17,7 @@ use Rattle.ftl_solution.specs.Solution.{solution}
 use Rattle.ftl_stage_laws.specs.StageMeanings.{CanBePlanned, stage_meaning}
 use Rattle.ftl_stages.specs.Stages.{stages_of}
 use Rattle.ftl_stages.specs.declared.types.Schedule.{Schedule}
+use Rattle.ftl_step_value.specs.RuleCopies.{AreCopies}
 use Rattle.ftl_step_value.specs.StepValue.{IsCodeFor}
 use Rattle.ftl_steps.specs.Steps.{IsStepOf, target_of}
 use Rattle.ftl_steps.specs.declared.step.Step.{Step}
@@ -38,7 +39,8 @@ schedule_of w = stages_of w.accepted.now
 abbrev pub grain_of : StageParts → ℕ
 grain_of w = w.item_tables.items.rows.now.grain
 
--- all is of one plan: the tables are the grammar's, the code that of its rules, and the items those of this stage
+-- all is of one plan: the tables are the grammar's, code and copies those of its rules, and the items those of this
+-- stage
 pub record IsStage (w : StageParts) : Type 0 where
   pub sound : IsSound (grammar_of w)
   pub can : CanBePlanned (grammar_of w) (schedule_of w) (tree_of w)
@@ -46,6 +48,7 @@ pub record IsStage (w : StageParts) : Type 0 where
   pub code : IsCodeFor w.item_tables.items.rows.now.tree.now.checked w.programs.now
   pub passes : passes_of (schedule_of w) w.stage ≡ passes_in w.item_tables.items
   pub items : AreItemTables w.item_tables
+  pub copies : AreCopies w.item_tables.items.rows.now.tree.now.checked w.copies.now
 
 -- ---- what it means
 

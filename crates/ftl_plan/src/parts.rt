@@ -8,6 +8,7 @@ ghost use Rattle.ftl_plan.specs.StageParts.{tree_of};
 use ftl_instance_reads::ReadTables;
 use ftl_item_cursor::{ItemCursor, ItemTables, item_steps, step_at};
 use ftl_programs::Programs;
+use ftl_step_value::RuleCopy;
 use ftl_steps::Step;
 use ftl_tree::Tree;
 use ftl_verify::Accepted;
@@ -19,6 +20,7 @@ pub struct StageParts<'a> {
     pub programs: &'a Programs,
     pub read_tables: &'a ReadTables,
     pub item_tables: ItemTables<'a>,
+    pub copies: &'a [RuleCopy],
     pub stage: u32,
 }
 

@@ -20,6 +20,7 @@ use ftl_item_rows::{ItemRows, StageItems};
 use ftl_plan_limits::{PlanFault, ReadTables, first_fault};
 use ftl_programs::Programs;
 use ftl_stage_rows::StageRows;
+use ftl_step_value::{RuleCopy, rule_copies};
 use ftl_tree::Tree;
 use ftl_verify::Accepted;
 use ftl_visit_rows::{RuleTarget, rule_targets};
@@ -27,7 +28,8 @@ use std::alloc::{AllocError, Global};
 use std::marker::Model;
 
 /// The stages of a tree. It borrows what it is made of, and keeps no list of steps: for each class
-/// and pass what a visit does, and for each node where items begin.
+/// and pass what a visit does, for each rule what its steps copy, and for each node where items
+/// begin.
 #[derive(Drop)]
 pub struct Plan<'a> {
     checked: &'a Checked,
@@ -37,6 +39,7 @@ pub struct Plan<'a> {
     tables: ReadTables,
     items: ItemRows<'a>,
     targets: Vec<RuleTarget>,
+    copies: Vec<RuleCopy>,
     stages: Vec<StageRows>,
 }
 
@@ -91,6 +94,7 @@ impl<'a> Plan<'a> {
         }
         let items = ItemRows::new(alloc, tree, grain)?;
         let targets = rule_targets(alloc, checked)?;
+        let copies = rule_copies(alloc, programs, &tables, checked)?;
         let stages = rows_of_stages(
             alloc,
             checked,
@@ -105,6 +109,7 @@ impl<'a> Plan<'a> {
             tables,
             items,
             targets,
+            copies,
             stages,
         })
     }
@@ -131,6 +136,7 @@ impl<'a> Plan<'a> {
             programs: self.programs,
             read_tables: &self.tables,
             item_tables: self.item_tables(stage),
+            copies: self.copies.as_slice(),
             stage,
         })
     }

@@ -2,4 +2,4 @@ pub mod SpreadLaws
 pub mod StepRuleValues
 pub mod Folding
 pub mod PartRuns
-pub mod Copies
+pub mod RuleCopies

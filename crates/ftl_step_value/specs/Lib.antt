@@ -2,3 +2,4 @@ pub mod StepValue
 pub mod Spread
 pub mod SparseReads
 pub mod Sites
+pub mod RuleCopies

@@ -1,5 +1,5 @@
 -- Steps with the code of the rules, the parts of their rules, and what these give.
-use Rattle.std.specs.Prelude.{◌≡◌, ℕ, ◌<◌, true, List, [], ◌∷◌, flat_map, length, map}
+use Rattle.std.specs.Prelude.{◌≡◌, ℕ, ◌<◌, true, List, flat_map, length, map}
 use Rattle.std.specs.List.{range_with_len}
 use Rattle.ftl_model.specs.AttributeGrammar.{Occurrence, Parts, Read, first_then, fold_over, plain, read_occurrences}
 use Rattle.ftl_model.specs.AttributeGrammar.{reads_in, seen_by}
@@ -70,9 +70,3 @@ pub record IsPartFor (parts : Parts) (number : ℕ) (which : model.Part) (reads 
   pub sees : (kids : ℕ → ℕ) → read_occurrences parts kids number ≡ seen_by kids number reads
   pub gives : (value : model.Part → Sight → Value) (kids : ℕ → ℕ) (s : Occurrence → Value)
       → value_by_parts parts value kids number s ≡ value which (sight kids number s overflow)
-
--- a part that reads one value, for the kid of the step, gives that value
-abbrev pub GivesOneRead : SitePart → Type 0
-GivesOneRead x =
-    (s : Occurrence → Value) (v : Value) → map s (part_sees x x.site.step.kid) ≡ v ∷ []
-    → part_gives x x.site.step.kid overflow s ≡ v
