@@ -1,8 +1,8 @@
 #!/usr/bin/env python3
 """Checks pages with grammar texts of growing size, of nothing but classes, which are too many, and of one rule of many
-terms, whose attribute nothing declares. Prints nanoseconds of processor time per byte of a run that ends with the scan of tokens, at a last byte that
-begins none, and of what a whole run takes beyond it (reading the grammar and finding its fault), peak memory, and the growth of
-the time from size to size.
+terms, whose attribute nothing declares. Prints nanoseconds of processor time per byte of a run that ends with the scan of
+tokens, at a last byte that begins none, and of what a whole run takes beyond it (reading the grammar and finding its
+fault), peak memory, and the growth of the time from size to size.
 
 usage: bench/grammars.py [PROGRAM]     PROGRAM is crates/ftl_layout/out/ftl_layout if left out
 """
@@ -28,7 +28,7 @@ def terms(size):
 
 
 def least(program, text, end):
-    """The run of `check` with the least processor time, on a page with a grammar text and this end, which is refused."""
+    """The run of `check` with the least processor time, on a page with this text and this end, which is refused."""
     page = f"%page 1\n%grammar\n{text}{end}"
     return min((Run([program, "check"], page, (5,)) for _ in range(3)), key=lambda run: run.seconds)
 
