@@ -1,7 +1,7 @@
 #!/usr/bin/env python3
 """Checks pages with grammar texts of growing size, of nothing but classes, which are too many, and of one rule of many
-terms, whose attribute nothing declares. Prints nanoseconds of processor time per byte of a run that ends with the scan of
-tokens, at a last byte that begins none, and of what a whole run takes beyond it (reading the grammar and finding its
+terms, whose attribute nothing declares. Prints nanoseconds of processor time per byte of a run that ends with the scan
+of tokens, at a last byte that begins none, and of what a whole run takes beyond it (reading the grammar and finding its
 fault), peak memory, and the growth of the time from size to size.
 
 usage: bench/grammars.py [PROGRAM]     PROGRAM is crates/ftl_layout/out/ftl_layout if left out
