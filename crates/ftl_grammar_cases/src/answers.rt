@@ -19,31 +19,45 @@ pub(crate) fn answered(
     text: &str,
     requests: &str,
 ) -> Result<String, AllocError> {
-    let mut out = String::new(alloc);
     match grammar_of_text(alloc, text, width)? {
-        Some(checked) => write_answers(&mut out, alloc, &checked, requests)?,
-        None => out.push_str("no lawful grammar\n")?,
+        Some(checked) => indexed(alloc, &checked, requests),
+        None => String::from_str(alloc, "no lawful grammar\n"),
     }
-    Ok(out)
 }
 
-fn write_answers(
-    out: &mut String,
-    alloc: Global,
-    checked: &Checked,
-    requests: &str,
-) -> Result<(), AllocError>
+fn indexed(alloc: Global, checked: &Checked, requests: &str) -> Result<String, AllocError>
     requires code { HasCode checked.now.grammar }
 {
     let index = RuleIndex::new(alloc, checked)?;
+    compiled(alloc, checked, &index, requests)
+}
+
+fn compiled(
+    alloc: Global,
+    checked: &Checked,
+    index: &RuleIndex<'_>,
+    requests: &str,
+) -> Result<String, AllocError>
+    requires code { HasCode checked.now.grammar }
+{
     let programs = compile(alloc, checked)?;
+    answers(alloc, index, &programs, requests)
+}
+
+fn answers(
+    alloc: Global,
+    index: &RuleIndex<'_>,
+    programs: &Programs,
+    requests: &str,
+) -> Result<String, AllocError> {
+    let mut out = String::new(alloc);
     for request in requests.lines() {
         out.push_str(request)?;
         out.push_str(" =")?;
-        write_answer(out, alloc, &index, &programs, request)?;
+        write_answer(&mut out, alloc, index, programs, request)?;
         out.push('\n')?;
     }
-    Ok(())
+    Ok(out)
 }
 
 fn write_answer(

@@ -9,14 +9,17 @@
 //!   the front.
 
 ghost use Rattle.std.specs.Prelude.{◌≤◌, length, IfSome};
+ghost use Rattle.ftl_dep_table.specs.Meant.{meant};
+ghost use Rattle.ftl_schedule_faults.specs.FaultLaws.{AreComputed};
+ghost use Rattle.ftl_stages.specs.Stages.{stages_of};
 
 use ftl_base::Width;
 use ftl_checked::Checked;
 use ftl_dep_table::dep_table;
 use ftl_grammar_texts::grammar_of_text;
 use ftl_schedule::{
-    Accepted, ScheduleFault, VerifyFault, computed_entries, known_entries, print_schedule,
-    read_schedule, verify,
+    Accepted, Schedule, ScheduleFault, VerifyFault, computed_entries, known_entries,
+    print_schedule, read_schedule, verify,
 };
 use ftl_tokens::{Scanned, tokens};
 use std::alloc::{AllocError, Global};
@@ -28,31 +31,34 @@ pub(crate) fn schedules_answered(
     text: &str,
     requests: &str,
 ) -> Result<String, AllocError> {
-    let mut out = String::new(alloc);
     match grammar_of_text(alloc, text, Width::Narrow)? {
-        Some(checked) => write_answers(&mut out, alloc, &checked, requests)?,
-        None => out.push_str("no lawful grammar\n")?,
+        Some(checked) => answers(alloc, &checked, requests),
+        None => String::from_str(alloc, "no lawful grammar\n"),
+    }
+}
+
+fn answers(alloc: Global, checked: &Checked, requests: &str) -> Result<String, AllocError> {
+    let mut out = String::new(alloc);
+    for request in requests.lines() {
+        write_answer(&mut out, alloc, checked, request)?;
     }
     Ok(out)
 }
 
-fn write_answers(
+fn write_answer(
     out: &mut String,
     alloc: Global,
     checked: &Checked,
-    requests: &str,
+    request: &str,
 ) -> Result<(), AllocError> {
-    for request in requests.lines() {
-        let (verb, rest) = request.split_once(' ').unwrap_or((request, ""));
-        match verb {
-            "verify" => write_verdict(out, alloc, checked, with_lines(alloc, rest)?)?,
-            "many" => write_verdict(out, alloc, checked, many_passes(alloc, rest)?)?,
-            "print" => write_canonical(out, alloc, checked, with_lines(alloc, rest)?)?,
-            "cut" => write_cuts(out, alloc, checked, rest)?,
-            _ => out.push_str("no request\n")?,
-        }
+    let (verb, rest) = request.split_once(' ').unwrap_or((request, ""));
+    match verb {
+        "verify" => write_verdict(out, alloc, checked, with_lines(alloc, rest)?),
+        "many" => write_verdict(out, alloc, checked, many_passes(alloc, rest)?),
+        "print" => write_canonical(out, alloc, checked, with_lines(alloc, rest)?),
+        "cut" => write_cuts(out, alloc, checked, rest),
+        _ => out.push_str("no request\n"),
     }
-    Ok(())
 }
 
 /// The text with line feeds in the place of `/`.
@@ -96,18 +102,41 @@ fn write_verdict(
     checked: &Checked,
     text: String,
 ) -> Result<(), AllocError> {
-    let Some(scanned) = scanned(alloc, text) else {
-        return out.push_str("no tokens\n");
-    };
-    match read_schedule(alloc, checked, &scanned) {
-        Ok(schedule) => {
-            computed_entries(checked, &scanned, &schedule);
-            let table = dep_table(alloc, checked)?;
-            write_verified(out, verify(alloc, checked, &table, schedule))?;
-        }
-        Err(fault) => write_fault(out, &fault)?,
+    match scanned(alloc, text) {
+        Some(scanned) => write_verdict_on(out, alloc, checked, &scanned),
+        None => out.push_str("no tokens\n"),
     }
-    out.push('\n')
+}
+
+fn write_verdict_on(
+    out: &mut String,
+    alloc: Global,
+    checked: &Checked,
+    scanned: &Scanned,
+) -> Result<(), AllocError>
+    requires short { length scanned.now.text ≤ 67108864 }
+{
+    match read_schedule(alloc, checked, scanned) {
+        Ok(schedule) => {
+            computed_entries(checked, scanned, &schedule);
+            write_order(out, alloc, checked, schedule)
+        }
+        Err(fault) => write_fault(out, &fault),
+    }
+}
+
+fn write_order(
+    out: &mut String,
+    alloc: Global,
+    checked: &Checked,
+    schedule: Schedule,
+) -> Result<(), AllocError>
+    requires computed { AreComputed (meant checked.now) (stages_of schedule) }
+{
+    match dep_table(alloc, checked) {
+        Ok(table) => write_verified(out, verify(alloc, checked, &table, schedule)),
+        Err(fault) => Err(fault),
+    }
 }
 
 fn write_verified(
@@ -115,27 +144,27 @@ fn write_verified(
     verdict: Result<Accepted, VerifyFault>,
 ) -> Result<(), AllocError> {
     match verdict {
-        Ok(_accepted) => out.push_str("accepted"),
-        Err(VerifyFault::Twice { attr }) => write!(out, "{attr} twice"),
-        Err(VerifyFault::Missing { attr }) => write!(out, "{attr} missing"),
+        Ok(_accepted) => out.push_str("accepted\n"),
+        Err(VerifyFault::Twice { attr }) => write!(out, "{attr} twice\n"),
+        Err(VerifyFault::Missing { attr }) => write!(out, "{attr} missing\n"),
         Err(VerifyFault::Unordered { reader, writer }) => {
-            write!(out, "{reader} reads {writer} unordered")
+            write!(out, "{reader} reads {writer} unordered\n")
         }
-        Err(VerifyFault::OutOfMemory) => out.push_str("out of memory"),
+        Err(VerifyFault::OutOfMemory) => out.push_str("out of memory\n"),
     }
 }
 
 fn write_fault(out: &mut String, fault: &ScheduleFault) -> Result<(), AllocError> {
     match fault {
-        ScheduleFault::Syntax { at } => write!(out, "syntax at {at}"),
-        ScheduleFault::TooManyPasses { count } => write!(out, "{count} passes"),
+        ScheduleFault::Syntax { at } => write!(out, "syntax at {at}\n"),
+        ScheduleFault::TooManyPasses { count } => write!(out, "{count} passes\n"),
         ScheduleFault::TooManyBeside { stage, count } => {
-            write!(out, "{count} passes in stage {stage}")
+            write!(out, "{count} passes in stage {stage}\n")
         }
         ScheduleFault::UnknownAttribute { owner, attr } => {
-            write!(out, "unknown {}.{}", owner.text(), attr.text())
+            write!(out, "unknown {}.{}\n", owner.text(), attr.text())
         }
-        ScheduleFault::OutOfMemory => out.push_str("out of memory"),
+        ScheduleFault::OutOfMemory => out.push_str("out of memory\n"),
     }
 }
 
@@ -146,26 +175,57 @@ fn write_canonical(
     checked: &Checked,
     text: String,
 ) -> Result<(), AllocError> {
-    let Some(scanned) = scanned(alloc, text) else {
-        return out.push_str("no tokens\n");
-    };
-    let Ok(schedule) = read_schedule(alloc, checked, &scanned) else {
-        return out.push_str("no schedule\n");
-    };
-    computed_entries(checked, &scanned, &schedule);
-    known_entries(checked, &schedule);
-    let text = print_schedule(alloc, checked, &schedule)?;
+    match scanned(alloc, text) {
+        Some(scanned) => write_canonical_of(out, alloc, checked, &scanned),
+        None => out.push_str("no tokens\n"),
+    }
+}
+
+fn write_canonical_of(
+    out: &mut String,
+    alloc: Global,
+    checked: &Checked,
+    scanned: &Scanned,
+) -> Result<(), AllocError>
+    requires short { length scanned.now.text ≤ 67108864 }
+{
+    match read_schedule(alloc, checked, scanned) {
+        Ok(schedule) => {
+            computed_entries(checked, scanned, &schedule);
+            write_schedule(out, alloc, checked, &schedule)
+        }
+        Err(_) => out.push_str("no schedule\n"),
+    }
+}
+
+fn write_schedule(
+    out: &mut String,
+    alloc: Global,
+    checked: &Checked,
+    schedule: &Schedule,
+) -> Result<(), AllocError>
+    requires computed { AreComputed (meant checked.now) (stages_of schedule.now) }
+{
+    known_entries(checked, schedule);
+    let text = print_schedule(alloc, checked, schedule)?;
     write!(out, "<{}>\n", text.as_str())
 }
 
 /// The place at which the text goes wrong; none where it spells a schedule.
 fn place_of(alloc: Global, checked: &Checked, text: &str) -> Result<Option<u32>, AllocError> {
-    let Some(scanned) = scanned(alloc, String::from_str(alloc, text)?) else {
-        return Ok(None);
-    };
-    match read_schedule(alloc, checked, &scanned) {
-        Err(ScheduleFault::Syntax { at }) => Ok(Some(at)),
-        _ => Ok(None),
+    let text = String::from_str(alloc, text)?;
+    Ok(match scanned(alloc, text) {
+        Some(scanned) => syntax_place(alloc, checked, &scanned),
+        None => None,
+    })
+}
+
+fn syntax_place(alloc: Global, checked: &Checked, scanned: &Scanned) -> Option<u32>
+    requires short { length scanned.now.text ≤ 67108864 }
+{
+    match read_schedule(alloc, checked, scanned) {
+        Err(ScheduleFault::Syntax { at }) => Some(at),
+        _ => None,
     }
 }
 

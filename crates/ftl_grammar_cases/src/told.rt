@@ -11,25 +11,20 @@ use std::alloc::{AllocError, Global};
 
 /// What is wanted of the grammar that the text spells.
 pub(crate) fn told(alloc: Global, wanted: &str, text: &str) -> Result<String, AllocError> {
-    let mut out = String::new(alloc);
     match grammar_of_text(alloc, text, Width::Narrow)? {
-        Some(checked) => write_wanted(&mut out, alloc, wanted, &checked)?,
-        None => out.push_str("no lawful grammar\n")?,
+        Some(checked) => told_of(alloc, wanted, &checked),
+        None => String::from_str(alloc, "no lawful grammar\n"),
     }
-    Ok(out)
 }
 
-fn write_wanted(
-    out: &mut String,
-    alloc: Global,
-    wanted: &str,
-    checked: &Checked,
-) -> Result<(), AllocError> {
+fn told_of(alloc: Global, wanted: &str, checked: &Checked) -> Result<String, AllocError> {
+    let mut out = String::new(alloc);
     match wanted {
-        "names" => write_attribute_names(out, checked),
-        "rules" => write_rule_names(out, alloc, checked),
-        _ => write_whole(out, alloc, checked),
+        "names" => write_attribute_names(&mut out, checked)?,
+        "rules" => write_rule_names(&mut out, alloc, checked)?,
+        _ => write_whole(&mut out, alloc, checked)?,
     }
+    Ok(out)
 }
 
 fn write_whole(out: &mut String, alloc: Global, checked: &Checked) -> Result<(), AllocError> {
