@@ -3,3 +3,4 @@ pub mod StepRuleValues
 pub mod Folding
 pub mod PartRuns
 pub mod RuleCopies
+pub mod Operations

@@ -1,5 +1,5 @@
 -- Steps with the code of the rules, the parts of their rules, and what these give.
-use Rattle.std.specs.Prelude.{◌≡◌, ℕ, ◌<◌, true, List, flat_map, length, map}
+use Rattle.std.specs.Prelude.{◌≡◌, ℕ, ◌<◌, ◌≤◌, true, List, flat_map, length, map}
 use Rattle.std.specs.List.{range_with_len}
 use Rattle.ftl_model.specs.AttributeGrammar.{Occurrence, Parts, Read, first_then, fold_over, plain, read_occurrences}
 use Rattle.ftl_model.specs.AttributeGrammar.{reads_in, seen_by}
@@ -7,10 +7,12 @@ use Rattle.ftl_model.specs.AttributeGrammar as model
 use Rattle.ftl_model.specs.Tree.{size}
 use Rattle.ftl_model.specs.Values.{Value, overflow}
 use Rattle.ftl_order.specs.Lawful.{EachMay}
+use Rattle.ftl_code.specs.Depth.{depth_of}
 use Rattle.ftl_meaning.specs.Meaning.{Sight, sight}
+use Rattle.ftl_programs.specs.RuleCode.{PartCode}
 use Rattle.ftl_rule_parts.specs.RuleParts.{read_meant}
 use Rattle.ftl_step_reads.specs.StepReads.{AreOfChildren, IsOfChildren, children_in, kids_in}
-use Rattle.ftl_visit.specs.PartValues.{IsRuleOf, has_part, meant_rule, part_of, part_value, value_by_parts}
+use Rattle.ftl_visit.specs.PartValues.{IsCodeOf, IsRuleOf, has_part, meant_rule, part_of, part_value, value_by_parts}
 use Rattle.ftl_step_value.specs.StepValue.{IsCodeFor}
 use Rattle.ftl_step_value.specs.declared.part.Site.{Site}
 use Rattle.ftl_step_value.specs.declared.part.SitePart.{SitePart}
@@ -35,6 +37,12 @@ pub record IsPart (x : SitePart) : Type 0 where
   pub has : has_part (site_parts x.site) (part_of x.part) ≡ true
   pub reads : reads_in (site_parts x.site) (part_of x.part) ≡ map read_meant x.reads.now
   pub children : EachMay (IsOfChildren (children_in x.site.tree.now x.site.step.node)) (map read_meant x.reads.now)
+
+-- this is the code of the part, which finds the room of its programs enough
+pub record IsCodeIn (x : SitePart) (c : PartCode) : Type 0 where
+  pub width : c.width ≡ x.site.tree.now.checked.width
+  pub code : IsCodeOf x.site.tree.now.checked x.site.step.rule x.part c.code
+  pub room : depth_of c.code ≤ x.site.programs.now.max_stack
 
 -- what a part reads, while this kid is at hand
 abbrev pub part_sees : SitePart → (at_hand : ℕ) → List Occurrence

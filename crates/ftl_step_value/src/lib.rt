@@ -9,6 +9,7 @@ mod copied;
 mod copies;
 mod counts;
 mod fold;
+mod operation;
 mod part;
 mod step;
 mod values;
