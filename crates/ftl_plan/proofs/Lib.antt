@@ -3,5 +3,5 @@ pub mod Driven
 pub mod Inputs
 pub mod RowsByStage
 pub mod StagesOfPlans
-pub mod WordRows
+pub mod InputRows
 pub mod Shared

@@ -3,7 +3,7 @@ pub mod Driving
 pub mod Planned
 pub mod PlannedStages
 pub mod PlanInside
-pub mod NodeWords
+pub mod InputWords
 pub mod StageTables
 pub mod StageWords
 pub use Rattle.ftl_plan_limits.specs.PlanFaults

@@ -12,7 +12,7 @@ ghost use Rattle.ftl_plan_limits.specs.declared.fault.PlanFault.TheVariants.{Out
 use crate::parts::StageParts;
 use crate::sound::is_sound;
 use crate::stages::rows_of_stages;
-use crate::words::node_words;
+use crate::words::first_words;
 use crate::work::StageWork;
 use ftl_checked::Checked;
 use ftl_item_cursor::ItemTables;
@@ -164,11 +164,6 @@ impl<'a> Plan<'a> {
         ensures words { IfOk result (λ v. v.items
             ≡ first_words (meant self.now.checked) self.now.tree) }
     {
-        let cells = self.tree.instance_count() as usize;
-        let mut words = Vec::with_capacity(alloc, cells)?;
-        for node in 0..self.tree.node_count() {
-            node_words(&self.tables, self.tree, node, &mut words)?;
-        }
-        Ok(words)
+        first_words(alloc, &self.tables, self.tree)
     }
 }
