@@ -8,7 +8,7 @@ ghost use Rattle.ftl_sequence_cursor.specs.BlockPlaces.{places_of};
 ghost use Rattle.ftl_visit_rows.specs.VisitRows.{visits_of};
 
 use crate::block_places::SequencePlaces;
-use crate::place::{Place, Tables, next_step};
+use crate::place::{Place, Tables, first_rule, next_step, take_step};
 use ftl_steps::Step;
 use ftl_tree::Tree;
 use ftl_visit_rows::PassVisits;
@@ -65,11 +65,15 @@ impl<'a> SequenceCursor<'a> {
     }
 
     /// The next step; none at the end.
-    #[inline(never)]
+    #[inline(always)]
     pub fn next(&mut self) -> Option<Step>
         ensures step { MatchOption result ((self.old ≡ []) × (self.new ≡ []))
             (λ step. self.old ≡ step ∷ self.new) }
     {
+        // Rules stand side by side at a node, so that most steps are the first operation.
+        if let Some(rule) = first_rule(self.at.ops) {
+            return Some(take_step(self.tables, &mut self.at, rule));
+        }
         next_step(self.tables, &mut self.at)
     }
 }

@@ -31,6 +31,7 @@ pub(crate) struct Place<'a> {
 }
 
 /// The next step; none at the end.
+#[inline(never)]
 pub(crate) fn next_step<'a>(tables: Tables<'a>, at: &mut Place<'a>) -> Option<Step>
     requires tables { AreTables tables }
     requires place { IsPlace tables at.old }
@@ -51,7 +52,8 @@ pub(crate) fn next_step<'a>(tables: Tables<'a>, at: &mut Place<'a>) -> Option<St
 }
 
 /// The rule that comes first; none where another operation does.
-fn first_rule(ops: &[VisitOp]) -> Option<u32>
+#[inline(always)]
+pub(crate) fn first_rule(ops: &[VisitOp]) -> Option<u32>
     ensures rule { result ≡ rule_first ops.now }
 {
     if ops.is_empty() {
@@ -64,7 +66,8 @@ fn first_rule(ops: &[VisitOp]) -> Option<u32>
 }
 
 /// The step of this rule, which comes first.
-fn take_step<'a>(tables: Tables<'a>, at: &mut Place<'a>, rule: u32) -> Step
+#[inline(always)]
+pub(crate) fn take_step<'a>(tables: Tables<'a>, at: &mut Place<'a>, rule: u32) -> Step
     requires tables { AreTables tables }
     requires place { IsPlace tables at.old }
     requires rule { rule_first at.old.ops.now ≡ Some rule }
