@@ -24,6 +24,7 @@ use Rattle.ftl_order.specs.Schedule.{Pass, Schedule}
 use Rattle.ftl_solution.specs.Solution.{solution}
 use Rattle.ftl_step_cells.specs.ReadCells.{filled_cell, read_cells}
 use Rattle.ftl_step_cells.proofs.StepRules.{target_there}
+use Rattle.ftl_near_cells.specs.NearParts.{AreNearParts}
 use Rattle.ftl_step_value.specs.RuleCopies.{AreCopies}
 use Rattle.ftl_step_value.specs.StepValue.{GivesItsRead, value_of_step}
 use Rattle.ftl_steps.specs.Steps.{IsStepOf, target_of}
@@ -84,6 +85,9 @@ module _ (w : StageParts) (fit : IsStage w) where
 
     pub copies_there : AreCopies u.checked w.copies.now
     copies_there = subst (λ (v : CheckedTree). AreCopies v.checked w.copies.now) (sym same) fit.copies
+
+    pub near_there : AreNearParts u.checked w.near.now
+    near_there = subst (λ (v : CheckedTree). AreNearParts v.checked w.near.now) (sym same) fit.near
 
     pub step_there : (x : Step) → IsStepOf g t x → IsStepOf (meant u.checked) u.tree x
     step_there x is = subst (λ (v : CheckedTree). IsStepOf (meant v.checked) v.tree x) (sym same) is

@@ -42,6 +42,7 @@ use Rattle.ftl_item_cursor.specs.contracts.item.ItemTables as ItemTables
 use Rattle.ftl_verify.proofs.accepted.Accepted.TheSendSync as accepted
 use Rattle.ftl_programs.proofs.programs.Programs.TheSendSync as programs
 use Rattle.ftl_instance_reads.proofs.tables.ReadTables.TheSendSync as reads
+use Rattle.ftl_near_cells.proofs.parts.NearParts.TheSendSync as near
 use Rattle.ftl_step_value.proofs.copies.RuleCopy.TheSendSync as copy
 use Rattle.ftl_plan.specs.contracts.parts.StageParts as StageParts
 use Rattle.ftl_plan.specs.contracts.work.StageWork as StageWork
@@ -125,6 +126,7 @@ parts_sync κ =
       programs.the_sync,
       reads.the_field_sync,
       copy.the_sync,
+      near.the_sync,
       sendable,
     ) depth 30
 

@@ -16,6 +16,7 @@ use Rattle.ftl_order.specs.Schedule as order
 use Rattle.ftl_plan.specs.StageParts.{IsStage, StageView}
 use Rattle.ftl_plan.specs.declared.parts.StageParts.{StageParts}
 use Rattle.ftl_stage_laws.specs.StageMeanings.{CanBePlanned}
+use Rattle.ftl_near_cells.specs.NearParts.{AreNearParts}
 use Rattle.ftl_step_value.specs.RuleCopies.{AreCopies}
 use Rattle.ftl_step_value.specs.StepValue.{IsCodeFor}
 use Rattle.ftl_stage_rows.specs.StageRows.{AreStageRows, pass_places, pass_visits}
@@ -110,9 +111,9 @@ module _ (p : Inside) (is : IsPlan p) where
   -- parts that are made of the fields are a stage
   pub stage_fits : (w : StageParts) → AreTablesOf (plan_inside p) w.stage w.item_tables
       → w.accepted.now ≡ p.accepted.now → w.programs.now ≡ p.programs.now → w.read_tables.now ≡ p.tables
-      → w.copies.now ≡ p.copies.items
+      → w.copies.now ≡ p.copies.items → w.near.now ≡ p.near.items
       → CanBePlanned (meant p.checked.now) (stages_of p.accepted.now) p.tree.now.tree → IsStage w
-  stage_fits w at accepted programs tables copies can =
+  stage_fits w at accepted programs tables copies near can =
       let back : p.checked.now ≡ w.item_tables.items.rows.now.tree.now.checked = sym at.checked in
       record {
         sound = subst (λ (c : CheckedGrammar). IsSound (meant c)) back is.sound;
@@ -137,6 +138,9 @@ module _ (p : Inside) (is : IsPlan p) where
         copies =
             subst (λ (c : CheckedGrammar). AreCopies c w.copies.now) back
             (subst (AreCopies p.checked.now) (sym copies) is.copies);
+        near =
+            subst (λ (c : CheckedGrammar). AreNearParts c w.near.now) back
+            (subst (AreNearParts p.checked.now) (sym near) is.near);
       }
 
   -- and are known by what the plan means

@@ -3,6 +3,7 @@ use Rattle.std.specs.Prelude.{◌≡◌, None, map}
 use Rattle.ftl_dep_table.specs.Meant.{meant}
 use Rattle.ftl_instance_reads.specs.ReadTables.{AreTables, IsSound}
 use Rattle.ftl_item_rows.specs.StageItems.{tree_in}
+use Rattle.ftl_near_cells.specs.NearParts.{AreNearParts}
 use Rattle.ftl_stages.specs.Stages.{stages_of}
 use Rattle.ftl_step_value.specs.RuleCopies.{AreCopies}
 use Rattle.ftl_plan_limits.specs.PlanFaults.{first_fault}
@@ -30,5 +31,6 @@ pub record IsPlan (p : Inside) : Type 0 where
   pub items : p.items.tree.now ≡ p.tree.now
   pub targets : p.targets.items ≡ map target_of (meant p.checked.now).rules
   pub copies : AreCopies p.checked.now p.copies.items
+  pub near : AreNearParts p.checked.now p.near.items
   pub rows : HaveRows (meant p.checked.now) (tree_in p.items) p.items.grain p.accepted.now.stages p.stages.items
   pub no_fault : first_fault (meant p.checked.now) (stages_of p.accepted.now) p.tree.now.tree ≡ None

@@ -12,6 +12,7 @@ use Rattle.ftl_items.specs.StageWork.{stage_work, step_at, steps_in}
 use Rattle.ftl_model.specs.AttributeGrammar.{AttributeGrammar}
 use Rattle.ftl_model.specs.Solves.{Instance}
 use Rattle.ftl_model.specs.Tree.{Forest}
+use Rattle.ftl_near_cells.specs.NearParts.{AreNearParts}
 use Rattle.ftl_order.specs.Schedule as order
 use Rattle.ftl_solution.specs.Solution.{solution}
 use Rattle.ftl_stage_laws.specs.StageMeanings.{CanBePlanned, stage_meaning}
@@ -39,8 +40,8 @@ schedule_of w = stages_of w.accepted.now
 abbrev pub grain_of : StageParts → ℕ
 grain_of w = w.item_tables.items.rows.now.grain
 
--- all is of one plan: the tables are the grammar's, code and copies those of its rules, and the items those of this
--- stage
+-- all is of one plan: the tables are the grammar's, code, copies and near reads those of its rules, and the items those
+-- of this stage
 pub record IsStage (w : StageParts) : Type 0 where
   pub sound : IsSound (grammar_of w)
   pub can : CanBePlanned (grammar_of w) (schedule_of w) (tree_of w)
@@ -49,6 +50,7 @@ pub record IsStage (w : StageParts) : Type 0 where
   pub passes : passes_of (schedule_of w) w.stage ≡ passes_in w.item_tables.items
   pub items : AreItemTables w.item_tables
   pub copies : AreCopies w.item_tables.items.rows.now.tree.now.checked w.copies.now
+  pub near : AreNearParts w.item_tables.items.rows.now.tree.now.checked w.near.now
 
 -- ---- what it means
 

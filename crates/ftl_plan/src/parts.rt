@@ -7,6 +7,7 @@ ghost use Rattle.ftl_plan.specs.StageParts.{tree_of};
 
 use ftl_instance_reads::ReadTables;
 use ftl_item_cursor::{ItemCursor, ItemTables, item_steps, step_at};
+use ftl_near_cells::NearParts;
 use ftl_programs::Programs;
 use ftl_step_value::RuleCopy;
 use ftl_steps::Step;
@@ -21,6 +22,7 @@ pub struct StageParts<'a> {
     pub read_tables: &'a ReadTables,
     pub item_tables: ItemTables<'a>,
     pub copies: &'a [RuleCopy],
+    pub near: &'a [NearParts],
     pub stage: u32,
 }
 

@@ -17,6 +17,7 @@ use crate::work::StageWork;
 use ftl_checked::Checked;
 use ftl_item_cursor::ItemTables;
 use ftl_item_rows::{ItemRows, StageItems};
+use ftl_near_cells::{NearParts, near_parts};
 use ftl_plan_limits::{PlanFault, ReadTables, first_fault};
 use ftl_programs::Programs;
 use ftl_stage_rows::StageRows;
@@ -28,7 +29,7 @@ use std::alloc::{AllocError, Global};
 use std::marker::Model;
 
 /// The stages of a tree. It borrows what it is made of, and keeps no list of steps: for each class
-/// and pass what a visit does, for each rule what its steps copy, and for each node where items
+/// and pass what a visit does, for each rule what its steps copy and read, and for each node where items
 /// begin.
 #[derive(Drop)]
 pub struct Plan<'a> {
@@ -40,6 +41,7 @@ pub struct Plan<'a> {
     items: ItemRows<'a>,
     targets: Vec<RuleTarget>,
     copies: Vec<RuleCopy>,
+    near: Vec<NearParts>,
     stages: Vec<StageRows>,
 }
 
@@ -95,6 +97,7 @@ impl<'a> Plan<'a> {
         let items = ItemRows::new(alloc, tree, grain)?;
         let targets = rule_targets(alloc, checked)?;
         let copies = rule_copies(alloc, programs, &tables, checked)?;
+        let near = near_parts(alloc, &tables, checked)?;
         let stages = rows_of_stages(
             alloc,
             checked,
@@ -110,6 +113,7 @@ impl<'a> Plan<'a> {
             items,
             targets,
             copies,
+            near,
             stages,
         })
     }
@@ -131,12 +135,15 @@ impl<'a> Plan<'a> {
         ensures stage { result ≡ stage_in self.now stage }
     {
         let _stages = self.stage_count();
+        let copies = self.copies.as_slice();
+        let near = self.near.as_slice();
         StageWork::new(StageParts {
             accepted: self.accepted,
             programs: self.programs,
             read_tables: &self.tables,
             item_tables: self.item_tables(stage),
-            copies: self.copies.as_slice(),
+            copies,
+            near,
             stage,
         })
     }

@@ -1,0 +1,50 @@
+#!/usr/bin/env python3
+"""Runs a stage of a million items, each of one step that reads nothing: the nodes of a page at grain 1. Prints
+milliseconds of processor time alone on plain words, and as a stage of shared cells by 2 and 4 workers that take turns
+on one processor, and that run on all; and the nanoseconds that an item takes beside its step. Then it prints how long
+opening and closing the cells take. Of several runs the quickest call counts.
+
+usage: bench/items.py [PROGRAM]     PROGRAM is crates/ftl_layout/out/ftl_layout if left out
+"""
+import os
+import sys
+import tempfile
+
+from cell_steps import FUNCTIONS, quickest
+from parts import TOP
+from stops import addresses
+
+ITEMS = 1_000_000
+GRAMMAR = """%page 1
+%grammar
+root Page; interface Page { syn h; show h; } interface Dot { syn x; show x; }
+class All : Page { dots : [Dot]; self.h := last dots.x or 0; }
+class One : Dot { self.x := 1; }
+%schedule auto
+%document
+"""
+
+
+def main():
+    program = sys.argv[1] if len(sys.argv) > 1 else os.path.join(TOP, "crates/ftl_layout/out/ftl_layout")
+    if not os.path.exists(program):
+        sys.exit(f"{program} is not built: run ./layout once")
+    functions = addresses(program, FUNCTIONS)
+    with tempfile.NamedTemporaryFile("w") as page:
+        page.write(GRAMMAR + "All { dots = [ " + "One {} " * (ITEMS - 1) + "] }\n")
+        page.flush()
+        words = ["--grain", "1"]
+        alone = sum(time for _, time in quickest(program, page.name, 1, functions, more=words)[0])
+        print(f"{'workers':>12} {'ms':>8} {'ns beside a step':>17} {'open':>8} {'close':>8}")
+        print(f"{'alone':>12} {alone:8.1f}")
+        for workers in (2, 4):
+            for told, processors in (("in turns", {min(os.sched_getaffinity(0))}), ("at once", None)):
+                stages, ends = quickest(program, page.name, workers, functions, processors, words)
+                spent = sum(time for _, time in stages)
+                apart = [sum(time for name, time in ends if name == which) for which in ("open", "close")]
+                beside = (spent - alone) * 1e6 / ITEMS
+                print(f"{workers:3} {told:>8} {spent:8.1f} {beside:17.0f} {apart[0]:8.1f} {apart[1]:8.1f}", flush=True)
+
+
+if __name__ == "__main__":
+    main()

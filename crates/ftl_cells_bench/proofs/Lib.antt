@@ -1,2 +1,0 @@
-pub mod ChainsLaws
-pub mod GivenCellsLaws

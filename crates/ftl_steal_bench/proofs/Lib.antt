@@ -1,2 +1,0 @@
-pub mod LooseLaws
-pub mod LongLaws
