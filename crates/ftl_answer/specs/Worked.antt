@@ -13,6 +13,12 @@ abbrev pub two_pieces_values : List Value
 two_pieces_values =
     numbers (26 ∷ (0 ∷ (0 ∷ (49 ∷ (26 ∷ (0 ∷ (0 ∷ (49 ∷ (26 ∷ (0 ∷ (0 ∷ (38 ∷ (10 ∷ (38 ∷ (10 ∷ (0 ∷ (10 ∷ (49 ∷ (16 ∷ (49 ∷ (16 ∷ [])))))))))))))))))))))
 
+-- the same where h of the sheet is Overflow
+abbrev pub two_pieces_too_high : List Value
+two_pieces_too_high =
+    overflow
+    ∷ numbers (0 ∷ 0 ∷ 49 ∷ 26 ∷ 0 ∷ 0 ∷ 49 ∷ 26 ∷ 0 ∷ 0 ∷ 38 ∷ 10 ∷ 38 ∷ 10 ∷ 0 ∷ 10 ∷ 49 ∷ 16 ∷ 49 ∷ 16 ∷ [])
+
 -- 5, Overflow, -7 and Overflow
 abbrev pub two_overflows : List Value
 two_overflows = number (pos 5) ∷ (overflow ∷ (number (negsuc 6) ∷ (overflow ∷ [])))

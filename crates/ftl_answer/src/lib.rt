@@ -7,4 +7,4 @@ mod laws;
 mod worked;
 
 pub use laws::one_answer;
-pub use worked::{worked_refusals, worked_summaries};
+pub use worked::{worked_refusals, worked_stages, worked_summaries};

@@ -1,13 +1,27 @@
 //! Laws that hold the answer against answers that were typed by hand.
-ghost use Rattle.std.specs.Prelude.{◌≡◌, [], ◌∷◌, codes, filter, length, negsuc, pos};
+ghost use Rattle.std.specs.Prelude.{◌≡◌, [], ◌∷◌, codes, filter, length, negsuc, pos, Err, Some};
+ghost use Rattle.ftl_base.specs.declared.width.Width.{Width};
+ghost use Rattle.ftl_dep_table.specs.Meant.{meant};
+ghost use Rattle.ftl_grammar_faults.specs.Checked.{CheckedGrammar};
 ghost use Rattle.ftl_model.specs.Boxes.{is_overflow};
 ghost use Rattle.ftl_model.specs.Stack.{stack};
 ghost use Rattle.ftl_model.specs.StackNames.{stack_names};
 ghost use Rattle.ftl_model.specs.Table.{value_in};
+ghost use Rattle.ftl_model.specs.Tree.{Forest};
+ghost use Rattle.ftl_page.specs.declared.fault.Section.TheVariants as section;
+ghost use Rattle.ftl_plan_limits.specs.PlanFaults as plans;
+ghost use Rattle.ftl_plan_limits.specs.declared.fault.PlanFault.TheVariants as plan;
+ghost use Rattle.ftl_stages.specs.Stages.{stages_of};
+ghost use Rattle.ftl_stages.specs.declared.types.Schedule.{Schedule};
+ghost use Rattle.ftl_syntax.specs.declared.rules.Grammar.{Grammar};
+ghost use Rattle.ftl_tokens.specs.declared.fault.TokenFault.TheVariants as token;
 ghost use Rattle.ftl_answer.specs.Answer.{refused};
 ghost use Rattle.ftl_answer.specs.Answers.{IsAnswer};
+ghost use Rattle.ftl_answer.specs.Stages.{ends, hands_on};
 ghost use Rattle.ftl_answer.specs.Summary.{mixed, once, summary, weighted_sum};
-ghost use Rattle.ftl_answer.specs.Worked.{two_overflows, two_pieces, two_pieces_values};
+ghost use Rattle.ftl_answer.specs.Texts.{lawful_grammar, planned_tree, scanned_as};
+ghost use Rattle.ftl_answer.specs.Worked.{two_overflows, two_pieces, two_pieces_too_high};
+ghost use Rattle.ftl_answer.specs.Worked.{two_pieces_values};
 
 /// A law: no words, and a word that is no command, are refused whatever the page is; `check` refuses
 /// an empty page.
@@ -18,12 +32,32 @@ pub fn worked_refusals()
         (refused 4 (codes "refused page: first line is not %page 1")) }
 {}
 
+/// A law: a fault of tokens ends with the status of its section. A grammar keeps the width of its
+/// page, and a stage that reads too much is refused with the status of documents.
+pub fn worked_stages()
+    ensures grammar { scanned_as section.Grammar (codes "$") (Err (token.BadChar 0))
+        ≡ ends (refused 5 (codes "refused grammar: bad character at 0")) }
+    ensures schedule { scanned_as section.Schedule (codes "$") (Err (token.BadChar 0))
+        ≡ ends (refused 6 (codes "refused schedule: bad character at 0")) }
+    ensures document { scanned_as section.Document (codes "$") (Err (token.BadChar 0))
+        ≡ ends (refused 7 (codes "refused document: bad character at 0")) }
+    ensures width { (width : Width) (g : Grammar) (c : CheckedGrammar)
+        → lawful_grammar width g (hands_on c) → c.width ≡ width }
+    ensures reads { (c : CheckedGrammar) (s : Schedule) (t : Forest)
+        → plans.first_fault (meant c) (stages_of s) t ≡ Some (plan.TooManyReads 2 67108865)
+        → planned_tree c s t (ends (refused 7
+        (codes "refused document: too many reads in stage 2: 67108865"))) }
+{}
+
 /// A law: the summary of a sample of two pieces of `stack`, whose shown values add up to 299, and to
 /// 2770 where each counts by its place; Overflow adds nothing, and still has a place.
 pub fn worked_summaries()
     ensures two_pieces { summary (codes "stack") stack stack_names two_pieces
         (value_in stack two_pieces two_pieces_values)
         ≡ codes "grammar=stack nodes=5 instances=21 shown=17 overflow=0 sum=299 mix=2770\n" }
+    ensures too_high { summary (codes "stack") stack stack_names two_pieces
+        (value_in stack two_pieces two_pieces_too_high)
+        ≡ codes "grammar=stack nodes=5 instances=21 shown=17 overflow=1 sum=273 mix=2744\n" }
     ensures overflows { length (filter is_overflow two_overflows) ≡ 2 }
     ensures sum { weighted_sum once 0 two_overflows ≡ negsuc 1 }
     ensures mix { weighted_sum mixed 0 two_overflows ≡ negsuc 15 }

@@ -101,6 +101,14 @@ many_inputs n =
     (codes "i"))) [] ∷ [])
     []
 
+-- `root R; interface R { input i, .. } class C : R { c : [R]; .. }` with so many inputs and so many children, each of
+-- one name
+abbrev pub many_inputs_and_children : (inputs children : ℕ) → Grammar
+many_inputs_and_children n m =
+    trees.grammar (codes "R") (trees.interface (codes "R") (replicate n (trees.attr_decl kinds.Input
+    (codes "i"))) [] ∷ [])
+    (trees.class (codes "C") (codes "R") [] (replicate m (trees.child (codes "c") (codes "R") true)) [] ∷ [])
+
 -- `root R; interface R { syn a; } class R : R { }`
 abbrev pub class_named_as_interface : Grammar
 class_named_as_interface =

@@ -21,6 +21,10 @@ pub fn faults_of_names()
         65) }
     ensures attributes_within { first_fault (worked.many_inputs 64) ≡ Some (fault.TwiceNamed
         (codes "i")) }
+    ensures too_many_children { first_fault (worked.many_inputs_and_children 64 17) ≡ Some
+        (fault.TooMany what.Children 17) }
+    ensures interface_before_class { first_fault (worked.many_inputs_and_children 65 17) ≡ Some
+        (fault.TooMany what.Attributes 65) }
     ensures one_space { first_fault worked.class_named_as_interface ≡ Some (fault.TwiceNamed
         (codes "R")) }
     ensures no_interface { first_fault worked.no_interface ≡ Some (fault.RootMissing (codes "R")) }

@@ -16,4 +16,5 @@ pub mod Table
 pub mod Tree
 pub mod TreeOf
 pub mod Values
+pub mod WithInput
 pub mod Worked

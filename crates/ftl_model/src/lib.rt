@@ -10,5 +10,5 @@ pub use inputs::{instances_without_inputs, nodes_without_inputs};
 pub use worked::{
     a_column_of_two_words, a_sheet_with_a_note, an_empty_column, an_overflowing_place,
     columns_in_a_column, heights_of_a_wide_page, highest_words_of_both_widths, overflowing_heights,
-    reads_of_a_sheet_with_a_note, trees_that_are_refused,
+    reads_of_a_sheet_with_a_note, trees_that_are_refused, words_of_another_size,
 };

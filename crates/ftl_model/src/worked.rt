@@ -1,20 +1,23 @@
-ghost use Rattle.std.specs.Prelude.{◌≡◌, List, [], ◌∷◌, ◌++◌, codes, IsTrue, true, false};
+ghost use Rattle.std.specs.Prelude.{◌≡◌, List, [], ◌∷◌, ◌++◌, codes, pos, IsTrue, true, false};
 ghost use Rattle.ftl_model.specs.Values.{wide};
 ghost use Rattle.ftl_model.specs.AttributeGrammar.{own, kid, read_occurrences};
 ghost use Rattle.ftl_model.specs.Boxes.{boxes, shows_overflow};
-ghost use Rattle.ftl_model.specs.Stack.{stack, stack_in};
+ghost use Rattle.ftl_model.specs.Stack.{stack, stack_in, word_iw, word_ih};
 ghost use Rattle.ftl_model.specs.Notes.{notes, two_items, two_items_values, no_items};
 ghost use Rattle.ftl_model.specs.Notes.{no_items_values, total_rule, shift_rule, x_rule};
 ghost use Rattle.ftl_model.specs.StackNames.{stack_names};
 ghost use Rattle.ftl_model.specs.Table.{value_in};
+ghost use Rattle.ftl_model.specs.Tree.{none};
 ghost use Rattle.ftl_model.specs.TreeOf.{IsTreeOf};
+ghost use Rattle.ftl_model.specs.WithInput.{with_input};
 ghost use Rattle.ftl_model.specs.Worked.{EachHolds, EachHoldsIn, wide_words_values, highest_words};
 ghost use Rattle.ftl_model.specs.Worked.{highest_words_values, highest_wide_values, widest_words};
 ghost use Rattle.ftl_model.specs.Worked.{widest_words_values, too_low, no_body, two_bodies};
 ghost use Rattle.ftl_model.specs.Worked.{sheet_in_sheet, two_words, two_words_values, empty_column};
 ghost use Rattle.ftl_model.specs.Worked.{numbers, tall_words, tall_words_values, nested_columns};
 ghost use Rattle.ftl_model.specs.Worked.{nested_columns_values, greatest_words};
-ghost use Rattle.ftl_model.specs.Worked.{greatest_words_values};
+ghost use Rattle.ftl_model.specs.Worked.{column_of, greatest_words_values, sheet_over};
+ghost use Rattle.ftl_model.specs.Worked.{word_of_size};
 
 /// A law: the values of a column of two words hold each equation, and this is how they are printed.
 pub fn a_column_of_two_words()
@@ -25,6 +28,14 @@ pub fn a_column_of_two_words()
         ++ codes "3 Word x=0 y=10 w=30 h=15\n" }
     ensures in_range { shows_overflow stack_names two_words
         (value_in stack two_words two_words_values) ≡ false }
+{}
+
+/// A law: of two words, which are nodes 2 and 3, one gets another width or height.
+pub fn words_of_another_size()
+    ensures wider { with_input stack two_words 3 word_iw (pos 70)
+        ≡ sheet_over (column_of (word_of_size 20 10 (word_of_size 70 15 none)) none) }
+    ensures higher { with_input stack two_words 2 word_ih (pos 40)
+        ≡ sheet_over (column_of (word_of_size 20 40 (word_of_size 30 15 none)) none) }
 {}
 
 /// A law: an empty column has no size.

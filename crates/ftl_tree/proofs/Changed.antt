@@ -19,7 +19,7 @@ use Rattle.ftl_model.proofs.Standing.{node_at-number_of, number_of-lt}
 use Rattle.ftl_tree_rows.specs.Rows.{all_inputs}
 use Rattle.ftl_tree_rows.proofs.Access.{size-one}
 use Rattle.ftl_tree_rows.proofs.Shapes.{shape_at, shapes-preorder}
-use Rattle.ftl_tree.specs.WithInput.{changed, with_inputs}
+use Rattle.ftl_model.specs.WithInput.{changed, with_inputs}
 
 abbrev Change : Type 0
 Change = ℕ → List ℤ → List ℤ

@@ -15,7 +15,7 @@ use Rattle.ftl_tree_rows.specs.Rows.{AreNodesOf, AreRowsOf, all_inputs, input_wi
 use Rattle.ftl_tree_rows.specs.declared.row.NodeRow.{NodeRow}
 use Rattle.ftl_tree_rows.proofs.Access.{has_at}
 use Rattle.ftl_tree_rows.proofs.Inputs.{before_node, input_stands}
-use Rattle.ftl_tree.specs.WithInput.{IsInputOf, changed, with_input}
+use Rattle.ftl_model.specs.WithInput.{IsInputOf, changed, with_input}
 use Rattle.ftl_tree.proofs.Changed.{all_inputs-changed, keeps_lengths, keeps_width, same-changed, size-changed}
 use Rattle.ftl_tree.proofs.Changed.{tree-changed}
 use Rattle.ftl_tree.proofs.SameRows.{rows-same, runs-same, sizes-same}

@@ -11,7 +11,7 @@ use Rattle.ftl_model.specs.Values.{number}
 use Rattle.ftl_model.proofs.SameTrees.{same_classes}
 use Rattle.ftl_model.proofs.Standing.{node_at-number_of}
 use Rattle.ftl_tree_rows.proofs.Access.{has_at, number_at}
-use Rattle.ftl_tree.specs.WithInput.{ChangesOneInput, IsInputOf, changed, value_at, with_input}
+use Rattle.ftl_model.specs.WithInput.{ChangesOneInput, IsInputOf, changed, value_at, with_input}
 use Rattle.ftl_tree.proofs.Changed.{here, inputs_at-changed, keeps_lengths, keeps_width, other, tree-changed}
 use Rattle.ftl_tree.proofs.InputSet.{room, same}
 

@@ -4,7 +4,7 @@ use Rattle.ftl_model.specs.AttributeGrammar.{AttributeGrammar}
 use Rattle.ftl_model.specs.Tree.{Forest}
 use Rattle.ftl_tree_rows.specs.Rows.{AreTreeRows}
 use Rattle.ftl_tree_rows.specs.declared.row.NodeRow.{NodeRow}
-use Rattle.ftl_tree.specs.WithInput.{with_inputs}
+use Rattle.ftl_model.specs.WithInput.{with_inputs}
 
 -- as many numbers, all 0
 abbrev pub all_zero : (number : ℕ) → List ℤ → List ℤ

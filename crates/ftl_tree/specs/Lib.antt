@@ -1,8 +1,8 @@
 pub mod CheckedTree
 pub mod FlatTree
-pub mod WithInput
 pub mod Bare
 pub mod OwnerRuns
 pub mod OwnerPlaces
+pub use Rattle.ftl_model.specs.WithInput
 pub use Rattle.ftl_tree_rows.specs.Rows
 pub use Rattle.ftl_tree_rows.specs.KidRuns

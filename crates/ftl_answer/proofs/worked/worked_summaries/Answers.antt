@@ -7,6 +7,7 @@ pub returns : goal.returns
 unfolding digits
 returns c = record {
   two_pieces = refl;
+  too_high = refl;
   overflows = refl;
   sum = refl;
   mix = refl;

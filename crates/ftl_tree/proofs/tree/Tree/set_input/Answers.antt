@@ -15,7 +15,7 @@ use Rattle.ftl_tree_rows.proofs.AttributePlaces.{fewer}
 use Rattle.ftl_tree_rows.proofs.Shapes.{kept_back}
 use Rattle.ftl_tree.specs.CheckedTree.{CheckedTree}
 use Rattle.ftl_tree.specs.FlatTree.{IsFlat, checked_tree_inside, grammar_inside, tree_inside}
-use Rattle.ftl_tree.specs.WithInput.{IsInputOf, with_input}
+use Rattle.ftl_model.specs.WithInput.{IsInputOf, with_input}
 use Rattle.ftl_tree.specs.declared.tree.Tree.TheInside.{Inside}
 use Rattle.ftl_tree.proofs.InputSet.{nodes_are, runs_are, set_within, sizes_are}
 use Rattle.ftl_tree.proofs.Known.{class_within, first_room, known, length_first_inputs}
