@@ -1,7 +1,7 @@
 //! Trees of a checked grammar. Goes in: the rows of a tree in preorder, with the inputs of each
 //! node. Comes out: `Tree`, which contracts see as the checked grammar and the tree, and whose
 //! calls tell what stands at each node. `ftl_tree_rows` says which rows are those of which tree.
-//! `specs/WithInput.antt` says what a tree is whose input has another number.
+//! `specs/WithInput.antt` of `ftl_model` says what a tree is whose input has another number.
 #![tactic(auto)]
 
 mod attribute_places;
