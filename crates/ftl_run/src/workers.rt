@@ -27,7 +27,8 @@ use std::sync::Wait;
 use std::thread::Threads;
 
 /// The answer to what is asked for. Pages are solved by as many workers as the words say, who call
-/// the gate as they begin an item; one worker is the calling thread, and calls no gate.
+/// the gate as they begin an item of a stage that has several. One worker is the calling thread,
+/// also of a stage of one item, and calls no gate.
 pub(crate) fn answered_by_workers<R: Threads + Wait + Sync, G: Gate>(
     rt: &R,
     alloc: Global,
