@@ -4,3 +4,4 @@ pub mod Folding
 pub mod PartRuns
 pub mod RuleCopies
 pub mod Operations
+pub mod PickRuns

@@ -3,3 +3,4 @@ pub mod Spread
 pub mod SparseReads
 pub mod Sites
 pub mod RuleCopies
+pub mod Picks

@@ -11,6 +11,7 @@ mod counts;
 mod fold;
 mod operation;
 mod part;
+mod pick;
 mod step;
 mod values;
 
