@@ -25,12 +25,15 @@ pub fn parts_of_each_form()
         ≡ Kids 1 (kid 3 ∷ []) (before 4 ∷ []) }
     ensures fold { near_parts_of None (fold_over 1 (self_read 3 ∷ []) (each_read 1 4 ∷ []))
         ≡ Fold 1 (here 3 ∷ []) (kid 4 ∷ []) }
+    ensures fold_for_kids { near_parts_of (Some 2) (fold_over 1 [] (each_read 1 4 ∷ []))
+        ≡ Fold 1 [] (kid 4 ∷ []) }
     ensures own_of_two { near_parts_of None (first_then [] []) ≡ Far }
     ensures another { near_parts_of (Some 1) (plain (this_read 2 3 ∷ [])) ≡ Far }
     ensures prev_at_first { near_parts_of (Some 1) (first_then (prev_read 1 3 ∷ []) []) ≡ Far }
     ensures prev_in_plain { near_parts_of (Some 1) (plain (prev_read 1 3 ∷ [])) ≡ Far }
     ensures prev_of_another { near_parts_of (Some 1) (first_then [] (prev_read 2 3 ∷ [])) ≡ Far }
     ensures prev_in_fold { near_parts_of None (fold_over 1 [] (prev_read 1 3 ∷ [])) ≡ Far }
+    ensures fold_of_another { near_parts_of None (fold_over 1 [] (each_read 2 3 ∷ [])) ≡ Far }
     ensures kid_in_start { near_parts_of None (fold_over 1 (each_read 1 3 ∷ []) []) ≡ Far }
     ensures single { near_parts_of None (plain (self_read 3 ∷ single_read 1 4 ∷ [])) ≡ Far }
     ensures last { near_parts_of (Some 1) (plain (last_read 1 3 ∷ [])) ≡ Far }
