@@ -1,0 +1,3 @@
+pub mod NearParts
+pub mod NearCells
+pub mod Worked
