@@ -1,4 +1,4 @@
-use Rattle.std.proofs.Common.{◌≡◌, ap, ◌∙◌, sym, Option, Some, None, refl}
+use Rattle.std.proofs.Common.{◌≡◌, ◌≤◌, ap, ◌∙◌, sym, subst, rules, Option, Some, None, refl}
 use Rattle.ftl_grammar_faults.specs.Checked.{CheckedGrammar}
 use Rattle.ftl_dep_table.specs.Meant.{meant}
 use Rattle.ftl_stages.specs.Stages.{stages_of}
@@ -27,6 +27,38 @@ returns-in-Some c =
 none_is : (o : Option PlanFault) → ((fault : PlanFault) → o ≡ Some fault → ⊥) → o ≡ None
 none_is None h = refl
 none_is (Some fault) h = absurd (h fault refl)
+
+-- the fields belong to one grammar, and there is no fault
+pub invariant_of-result : goal.invariant_of-result
+invariant_of-result c =
+    let may = c.requires.may in
+    let made = c.in_ok-items.ensures.made in
+    record {
+      tree = c.requires.tree;
+      may = record {
+        ordered = may.ordered;
+        stages = may.stages;
+        passes = may.passes;
+        code = may.code;
+        rules = may.rules;
+        width = may.width;
+        some_nodes = subst (λ n. 1 ≤ n) (sym made.grain_is) may.some_nodes;
+        most_nodes = subst (λ n. n ≤ 1048576) (sym made.grain_is) may.most_nodes;
+      };
+      sound = c.is_sound.ensures.sound;
+      tables = c.in_ok-tables.ensures.tables;
+      items = made.tree;
+      targets = c.in_ok-targets.ensures.targets;
+      copies = c.in_ok-copies.ensures.copies;
+      near = c.in_ok-near.ensures.parts;
+      rows = search rules;
+      no_fault =
+          ap (λ (x : CheckedGrammar). first_fault (meant x) (stages_of c.args.accepted.now) c.args.tree.now.tree)
+          (sym c.requires.tree)
+          ∙ sym
+          (sym (none_is c.in_ok-fault.field-0 c.in_default.not-Some)
+          ∙ c.in_ok-fault.ensures.fault);
+    }
 
 pub returns : goal.returns
 returns c =
