@@ -1,5 +1,8 @@
 //! Names by number, in one line.
 
+ghost use Rattle.std.specs.Prelude.{◌<◌, length};
+ghost use Rattle.ftl_grammar_faults.specs.Checked.{all_rules};
+
 use ftl_checked::{Checked, RuleName};
 use std::alloc::{AllocError, Global};
 use std::fmt::Write;
@@ -38,15 +41,26 @@ pub(crate) fn write_rule_names(
     checked: &Checked,
 ) -> Result<(), AllocError> {
     for rule in 0..checked.rule_count() {
-        let name = checked.rule_name(alloc, rule)?;
         out.push_str(separator(rule))?;
-        write_rule_name(out, &name)?;
+        write_rule(out, alloc, checked, rule)?;
     }
     out.push('\n')
 }
 
-/// What a rule defines.
-pub(crate) fn write_rule_name(out: &mut String, rule: &RuleName) -> Result<(), AllocError> {
+/// What the rule of this number defines.
+pub(crate) fn write_rule(
+    out: &mut String,
+    alloc: Global,
+    checked: &Checked,
+    rule: u32,
+) -> Result<(), AllocError>
+    requires within { rule < length (all_rules checked.now.grammar) }
+{
+    let name = checked.rule_name(alloc, rule)?;
+    write_rule_name(out, &name)
+}
+
+fn write_rule_name(out: &mut String, rule: &RuleName) -> Result<(), AllocError> {
     write!(out, "{}.", rule.class.text())?;
     if let Some(child) = &rule.child {
         write!(out, "{}.", child.text())?;

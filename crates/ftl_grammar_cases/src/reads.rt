@@ -4,16 +4,25 @@ ghost use Rattle.std.specs.Prelude.{◌≡◌, ◌<◌, length};
 ghost use Rattle.ftl_dep_table.specs.DepRows.{dep_rows};
 ghost use Rattle.ftl_dep_table.specs.Meant.{meant};
 
-use crate::names::write_rule_name;
+use crate::names::write_rule;
 use ftl_checked::Checked;
-use ftl_dep_table::DepTable;
+use ftl_dep_table::{DepTable, dep_table};
 use ftl_deps::{DepRead, Form, Site};
 use std::alloc::{AllocError, Global};
 use std::fmt::Write;
 
 /// The rules, by number: with what they define, and a line for each of their reads.
-#[tactic(auto, using(crate::proofs::Rows::rows_are_of_rules))]
 pub(crate) fn write_rules(
+    out: &mut String,
+    alloc: Global,
+    checked: &Checked,
+) -> Result<(), AllocError> {
+    let table = dep_table(alloc, checked)?;
+    write_rules_of(out, alloc, checked, &table)
+}
+
+#[tactic(auto, using(crate::proofs::Rows::rows_are_of_rules))]
+fn write_rules_of(
     out: &mut String,
     alloc: Global,
     checked: &Checked,
@@ -23,9 +32,8 @@ pub(crate) fn write_rules(
 {
     let _ = checked.grammar();
     for rule in 0..checked.rule_count() {
-        let name = checked.rule_name(alloc, rule)?;
         write!(out, "rule {rule} ")?;
-        write_rule_name(out, &name)?;
+        write_rule(out, alloc, checked, rule)?;
         out.push('\n')?;
         write_reads(out, table, rule)?;
     }
