@@ -1,10 +1,10 @@
-//! Prints what is known of the grammars on standard input. Each case begins by a line with `%`, what
-//! is wanted and a title. A title `grammar` and a name is that of a shipped grammar; below any other
-//! title stands a grammar's text. Wanted are:
+//! Prints what is known of the grammars on standard input. Each case begins by a line with `%`,
+//! what is wanted and a title. A title `grammar` and a name is that of a shipped grammar; below any
+//! other title stands a grammar's text. Wanted are:
 //!
 //! - `found`: what the names below, a line each, are found to be;
 //! - `names`, `rules`, `whole`: the attributes, the rules, or all of it by number;
-//! - `schedules`: the answers to the requests below on texts of schedules (`src/schedules.rt`);
+//! - `schedules`: the canonical texts of the schedules below (`src/schedules.rt`);
 //! - `narrow`, `wide`: the answers to requests on code and visits (`src/requests.rt`), by width;
 //! - `places`: the places of steps.
 //!

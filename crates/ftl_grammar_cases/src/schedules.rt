@@ -1,8 +1,5 @@
-//! Requests on texts of schedules, and their answers. In a text `/` stands for a line feed.
-//!
-//! - `print TEXT`: the canonical text, also of a schedule that isn't accepted;
-//! - `cut TEXT`: how many of the fronts of the text spell a schedule, and how many go wrong within
-//!   the front.
+//! Canonical texts of schedules, also of ones that aren't accepted. A request is `print` and a text,
+//! in which `/` stands for a line feed.
 
 ghost use Rattle.std.specs.Prelude.{◌≤◌, length, IfSome};
 ghost use Rattle.ftl_dep_table.specs.Meant.{meant};
@@ -10,9 +7,7 @@ ghost use Rattle.ftl_schedule_faults.specs.FaultLaws.{AreComputed};
 ghost use Rattle.ftl_stages.specs.Stages.{stages_of};
 
 use ftl_checked::Checked;
-use ftl_schedule::{
-    Schedule, ScheduleFault, computed_entries, known_entries, print_schedule, read_schedule,
-};
+use ftl_schedule::{Schedule, computed_entries, known_entries, print_schedule, read_schedule};
 use ftl_tokens::{Scanned, tokens};
 use std::alloc::{AllocError, Global};
 use std::fmt::Write;
@@ -25,11 +20,9 @@ pub(crate) fn write_schedules(
     requests: &str,
 ) -> Result<(), AllocError> {
     for request in requests.lines() {
-        let (verb, rest) = request.split_once(' ').unwrap_or((request, ""));
-        match verb {
-            "print" => write_canonical(out, alloc, checked, rest)?,
-            "cut" => write_cuts(out, alloc, checked, rest)?,
-            _ => out.push_str("no request\n")?,
+        match request.strip_prefix("print ") {
+            Some(text) => write_canonical(out, alloc, checked, text)?,
+            None => out.push_str("no request\n")?,
         }
     }
     Ok(())
@@ -95,40 +88,4 @@ fn write_schedule(
     known_entries(checked, schedule);
     let text = print_schedule(alloc, checked, schedule)?;
     write!(out, "<{}>\n", text.as_str())
-}
-
-/// The place at which the text goes wrong; none where it spells a schedule.
-fn place_of(alloc: Global, checked: &Checked, text: &str) -> Result<Option<u32>, AllocError> {
-    let text = String::from_str(alloc, text)?;
-    Ok(match scanned(alloc, text) {
-        Some(scanned) => syntax_place(alloc, checked, &scanned),
-        None => None,
-    })
-}
-
-fn syntax_place(alloc: Global, checked: &Checked, scanned: &Scanned) -> Option<u32>
-    requires short { length scanned.now.text ≤ 67108864 }
-{
-    match read_schedule(alloc, checked, scanned) {
-        Err(ScheduleFault::Syntax { at }) => Some(at),
-        _ => None,
-    }
-}
-
-fn write_cuts(
-    out: &mut String,
-    alloc: Global,
-    checked: &Checked,
-    text: &str,
-) -> Result<(), AllocError> {
-    let (mut read, mut wrong) = (0u32, 0u32);
-    for cut in 0..text.len() + 1 {
-        let front = text.get(0..cut).unwrap_or("");
-        match place_of(alloc, checked, front)? {
-            Some(place) if place as usize <= cut => wrong = wrong.saturating_add(1),
-            Some(_) => {}
-            None => read = read.saturating_add(1),
-        }
-    }
-    write!(out, "{read} are schedules, {wrong} go wrong within\n")
 }
