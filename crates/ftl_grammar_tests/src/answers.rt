@@ -1,90 +1,159 @@
 //! What is found of a text, in words.
 
-use crate::shape::shape_of;
-use ftl_grammar::{Grammar, SyntaxFault, read_grammar};
-use ftl_tokens::tokens;
+use crate::shape::write_shape;
+use ftl_grammar::{Class, Grammar, Interface, SyntaxFault, read_grammar};
+use ftl_tokens::{Scanned, tokens};
 use std::alloc::{AllocError, Global};
 use std::fmt::Write;
 
 /// The most bytes of a text.
 const MAX_TEXT: usize = 67108864;
 
-// The grammar of a text, or none where the text has no tokens.
-fn grammar_of(
-    alloc: Global,
-    text: &str,
-) -> Result<Option<Result<Grammar, SyntaxFault>>, AllocError> {
-    if text.len() > MAX_TEXT {
-        return Ok(None);
-    }
-    match tokens(alloc, String::from_str(alloc, text)?) {
-        Ok(scanned) => Ok(Some(read_grammar(alloc, &scanned))),
-        Err(_) => Ok(None),
-    }
+/// What of a grammar is written when it is read.
+#[derive(Clone, Copy)]
+enum Wish {
+    Nothing,
+    Counts,
+    /// A class and one of its rules.
+    Rule(usize, usize),
 }
 
 /// Whether a text is read, or where it goes wrong.
-pub fn answer(alloc: Global, text: &str) -> Result<String, AllocError> {
-    let mut out = String::new(alloc);
-    match grammar_of(alloc, text)? {
-        Some(Ok(_)) => out.push_str("read")?,
-        Some(Err(SyntaxFault::Syntax { at })) => write!(out, "syntax at {at}")?,
-        Some(Err(SyntaxFault::TooDeep { at })) => write!(out, "too deep at {at}")?,
-        Some(Err(SyntaxFault::OutOfMemory)) => out.push_str("out of memory")?,
-        None => out.push_str("no tokens")?,
+#[derive(Clone, Copy)]
+enum Reading {
+    Read,
+    Syntax(u32),
+    TooDeep(u32),
+    OutOfMemory,
+    NoTokens,
+}
+
+/// Whether a text is read, or where it goes wrong.
+pub fn write_answer(alloc: Global, out: &mut String, text: &str) -> Result<(), AllocError> {
+    match read_text(alloc, out, text, Wish::Nothing)? {
+        Reading::Read => out.push_str("read"),
+        Reading::Syntax(at) => write!(out, "syntax at {at}"),
+        Reading::TooDeep(at) => write!(out, "too deep at {at}"),
+        Reading::OutOfMemory => out.push_str("out of memory"),
+        Reading::NoTokens => out.push_str("no tokens"),
     }
-    Ok(out)
 }
 
 /// How many fronts of a text of ASCII are read, and of how many the answer is no place in them.
-pub fn cuts(alloc: Global, text: &str) -> Result<String, AllocError> {
+pub fn write_cuts(alloc: Global, out: &mut String, text: &str) -> Result<(), AllocError> {
     let mut read = 0u32;
     let mut odd = 0u32;
     for len in 0..text.len() {
         let front = text.get(..len).unwrap_or("");
-        match grammar_of(alloc, front)? {
-            Some(Ok(_)) => read = read.wrapping_add(1),
-            Some(Err(SyntaxFault::Syntax { at })) if at as usize <= len => (),
+        match read_text(alloc, out, front, Wish::Nothing)? {
+            Reading::Read => read = read.wrapping_add(1),
+            Reading::Syntax(at) if at as usize <= len => (),
             _ => odd = odd.wrapping_add(1),
         }
     }
-    format!(in alloc; "{read} read, {odd} odd")
+    write!(out, "{read} read, {odd} odd")
 }
 
 /// Of each interface its name, its attributes and those it shows, then of each class its name, its
 /// own attributes, its children and its rules.
-pub fn counts(alloc: Global, text: &str) -> Result<String, AllocError> {
-    let mut out = String::new(alloc);
-    let Some(Ok(grammar)) = grammar_of(alloc, text)? else {
-        return Ok(out);
-    };
-    out.push_str(grammar.root.text())?;
-    for interface in grammar.interfaces.as_slice() {
-        let (attrs, shown) = (interface.attrs.len(), interface.shown.len());
-        write!(out, ", {} {attrs} {shown}", interface.name.text())?;
-    }
-    for class in grammar.classes.as_slice() {
-        let (attrs, children, rules) = (class.attrs.len(), class.children.len(), class.rules.len());
-        write!(out, ", {} {attrs} {children} {rules}", class.name.text())?;
-    }
-    Ok(out)
+pub fn write_counts(alloc: Global, out: &mut String, text: &str) -> Result<(), AllocError> {
+    read_text(alloc, out, text, Wish::Counts)?;
+    Ok(())
 }
 
 /// The class and the rule with the numbers that the row begins with, and the rule form by form.
-pub fn rule_at(alloc: Global, text: &str, row: &str) -> Result<String, AllocError> {
+pub fn write_rule(
+    alloc: Global,
+    out: &mut String,
+    text: &str,
+    row: &str,
+) -> Result<(), AllocError> {
     let mut words = row.split(" ");
     let class = words.next().unwrap_or("").parse::<usize>().unwrap_or(0);
     let rule = words.next().unwrap_or("").parse::<usize>().unwrap_or(0);
-    let mut out = String::new(alloc);
-    let Some(Ok(grammar)) = grammar_of(alloc, text)? else {
-        return Ok(out);
-    };
-    let Some(found) = grammar.classes.get(class) else {
-        return Ok(out);
-    };
-    if let Some(found) = found.rules.get(rule) {
-        write!(out, "{class} {rule} ")?;
-        shape_of(alloc, &mut out, found)?;
+    read_text(alloc, out, text, Wish::Rule(class, rule))?;
+    Ok(())
+}
+
+// Reads a text, and of its grammar writes what is wished.
+fn read_text(
+    alloc: Global,
+    out: &mut String,
+    text: &str,
+    wish: Wish,
+) -> Result<Reading, AllocError> {
+    if text.len() > MAX_TEXT {
+        return Ok(Reading::NoTokens);
     }
-    Ok(out)
+    match tokens(alloc, String::from_str(alloc, text)?) {
+        Ok(scanned) => read_tokens(alloc, out, &scanned, wish),
+        Err(_) => Ok(Reading::NoTokens),
+    }
+}
+
+// The one function that owns a grammar.
+fn read_tokens(
+    alloc: Global,
+    out: &mut String,
+    scanned: &Scanned,
+    wish: Wish,
+) -> Result<Reading, AllocError> {
+    match read_grammar(alloc, scanned) {
+        Ok(grammar) => write_wish(alloc, out, &grammar, wish),
+        Err(SyntaxFault::Syntax { at }) => Ok(Reading::Syntax(at)),
+        Err(SyntaxFault::TooDeep { at }) => Ok(Reading::TooDeep(at)),
+        Err(SyntaxFault::OutOfMemory) => Ok(Reading::OutOfMemory),
+    }
+}
+
+fn write_wish(
+    alloc: Global,
+    out: &mut String,
+    grammar: &Grammar,
+    wish: Wish,
+) -> Result<Reading, AllocError> {
+    match wish {
+        Wish::Nothing => (),
+        Wish::Counts => write_all_counts(out, grammar)?,
+        Wish::Rule(class, rule) => write_rule_of(alloc, out, grammar, class, rule)?,
+    }
+    Ok(Reading::Read)
+}
+
+fn write_all_counts(out: &mut String, grammar: &Grammar) -> Result<(), AllocError> {
+    out.push_str(grammar.root.text())?;
+    for interface in grammar.interfaces.as_slice() {
+        write_interface(out, interface)?;
+    }
+    for class in grammar.classes.as_slice() {
+        write_class(out, class)?;
+    }
+    Ok(())
+}
+
+fn write_interface(out: &mut String, interface: &Interface) -> Result<(), AllocError> {
+    let (attrs, shown) = (interface.attrs.len(), interface.shown.len());
+    write!(out, ", {} {attrs} {shown}", interface.name.text())
+}
+
+fn write_class(out: &mut String, class: &Class) -> Result<(), AllocError> {
+    let (attrs, children, rules) = (class.attrs.len(), class.children.len(), class.rules.len());
+    write!(out, ", {} {attrs} {children} {rules}", class.name.text())
+}
+
+fn write_rule_of(
+    alloc: Global,
+    out: &mut String,
+    grammar: &Grammar,
+    class: usize,
+    rule: usize,
+) -> Result<(), AllocError> {
+    let Some(found) = grammar.classes.get(class) else {
+        return Ok(());
+    };
+    let Some(found) = found.rules.get(rule) else {
+        return Ok(());
+    };
+    write!(out, "{class} {rule} ")?;
+    write_shape(alloc, out, found)
 }

@@ -10,21 +10,18 @@
 //!
 //! A part `` `64 (` `` of a text stands for 64 times `(`. Other lines are no rows.
 
-use crate::answers::{answer, counts, cuts, rule_at};
+use crate::answers::{write_answer, write_counts, write_cuts, write_rule};
 use std::alloc::{AllocError, Global};
-
-/// What was wanted of a row, and what was found.
-#[derive(Drop)]
-pub struct Judged {
-    pub wanted: String,
-    pub found: String,
-}
+use std::fmt::Write;
 
 #[derive(Drop)]
 pub struct Rows {
     frame: String,
     text: String,
     in_text: bool,
+    // What was wanted and what was found of the last row that was judged.
+    wanted: String,
+    found: String,
 }
 
 impl Rows {
@@ -33,63 +30,73 @@ impl Rows {
             frame: String::new(alloc),
             text: String::new(alloc),
             in_text: false,
+            wanted: String::new(alloc),
+            found: String::new(alloc),
         }
     }
 
-    /// What a line is judged, if it is a row.
-    pub fn take(&mut self, alloc: Global, line: &str) -> Result<Option<Judged>, AllocError> {
+    /// Writes the last row that was judged, where it is answered otherwise than it says.
+    pub fn write_otherwise(&self, out: &mut String, line: &str) -> Result<(), AllocError> {
+        let (wanted, found) = (self.wanted.as_str(), self.found.as_str());
+        if wanted == found {
+            return Ok(());
+        }
+        write!(out, "{line}\n  wanted: {wanted}\n  found: {found}\n")
+    }
+
+    /// Whether a line is a row that is judged.
+    pub fn take(&mut self, alloc: Global, line: &str) -> Result<bool, AllocError> {
         if self.in_text {
             return self.text_line(alloc, line);
         }
         if line == "text" {
-            self.text = String::new(alloc);
+            self.text.clear();
             self.in_text = true;
-            return Ok(None);
+            return Ok(false);
         }
-        let Some((word, rest)) = line.split_once(" ") else {
-            return Ok(None);
-        };
+        let (word, rest) = line.split_once(" ").unwrap_or(("", ""));
         if word == "in" {
-            self.frame = String::from_str(alloc, rest)?;
-            return Ok(None);
+            self.frame.clear();
+            self.frame.push_str(rest)?;
+            return Ok(false);
         }
         self.judged(alloc, word, rest)
     }
 
     // A line of a text, or its end.
-    fn text_line(&mut self, alloc: Global, line: &str) -> Result<Option<Judged>, AllocError> {
+    fn text_line(&mut self, alloc: Global, line: &str) -> Result<bool, AllocError> {
         if line != "end" {
             self.text.push_str(line)?;
             self.text.push_str("\n")?;
-            return Ok(None);
+            return Ok(false);
         }
         self.in_text = false;
         let marked = String::from_str(alloc, self.text.as_str())?;
-        Ok(Some(self.marked(alloc, marked.as_str())?))
+        self.marked(alloc, marked.as_str())?;
+        Ok(true)
     }
 
-    // What a row is judged, by its first word.
-    fn judged(
-        &mut self,
-        alloc: Global,
-        word: &str,
-        rest: &str,
-    ) -> Result<Option<Judged>, AllocError> {
+    // Judges a row by its first word.
+    fn judged(&mut self, alloc: Global, word: &str, rest: &str) -> Result<bool, AllocError> {
         if word == "is" {
             let framed = self.framed(alloc, rest)?;
-            return Ok(Some(self.marked(alloc, framed.as_str())?));
+            self.marked(alloc, framed.as_str())?;
+            return Ok(true);
         }
-        let found = if word == "cuts" {
-            cuts(alloc, self.text.as_str())?
+        self.wanted.clear();
+        self.wanted.push_str(rest)?;
+        self.found.clear();
+        let text = self.text.as_str();
+        if word == "cuts" {
+            write_cuts(alloc, &mut self.found, text)?;
         } else if word == "has" {
-            counts(alloc, self.text.as_str())?
+            write_counts(alloc, &mut self.found, text)?;
         } else if word == "rule" {
-            rule_at(alloc, self.text.as_str(), rest)?
+            write_rule(alloc, &mut self.found, text, rest)?;
         } else {
-            return Ok(None);
-        };
-        let wanted = String::from_str(alloc, rest)?;
-        Ok(Some(Judged { wanted, found }))
+            return Ok(false);
+        }
+        Ok(true)
     }
 
     // A row where the frame has `~`.
@@ -103,7 +110,7 @@ impl Rows {
     }
 
     // Whether a text is read, or goes wrong at its mark.
-    fn marked(&mut self, alloc: Global, marked: &str) -> Result<Judged, AllocError> {
+    fn marked(&mut self, alloc: Global, marked: &str) -> Result<(), AllocError> {
         let (front, back, fault) = if let Some((front, back)) = marked.split_once("@") {
             (front, back, "syntax at")
         } else if let Some((front, back)) = marked.split_once("^") {
@@ -111,15 +118,16 @@ impl Rows {
         } else {
             (marked, "", "read")
         };
-        self.text = String::from_str(alloc, front)?;
+        self.text.clear();
+        self.text.push_str(front)?;
         self.text.push_str(back)?;
-        let wanted = if fault == "read" {
-            String::from_str(alloc, fault)?
-        } else {
-            format!(in alloc; "{fault} {}", front.len())?
-        };
-        let found = answer(alloc, self.text.as_str())?;
-        Ok(Judged { wanted, found })
+        self.wanted.clear();
+        self.wanted.push_str(fault)?;
+        if fault != "read" {
+            write!(self.wanted, " {}", front.len())?;
+        }
+        self.found.clear();
+        write_answer(alloc, &mut self.found, self.text.as_str())
     }
 }
 

@@ -4,6 +4,7 @@ use ftl_base::Cmp;
 use ftl_syntax::{
     Atom, Body, Cond, Conj, Expr, Factor, Read, Rule, SignedTerm, Sum, Target, Term, Test, Unary,
 };
+use ftl_tokens::Name;
 use sqlite_items::Items;
 use std::alloc::{AllocError, Global};
 use std::fmt::Write;
@@ -13,31 +14,77 @@ use std::fmt::Write;
 enum Part<'a> {
     Expr(&'a Expr),
     Sum(&'a Sum),
-    SignedTerm(&'a SignedTerm),
+    SignedTerms(&'a [SignedTerm]),
     Term(&'a Term),
-    Factor(&'a Factor),
+    Factors(&'a [Factor]),
     Unary(&'a Unary),
     Atom(&'a Atom),
     Cond(&'a Cond),
-    Conj(&'a Conj),
-    Test(&'a Test),
+    Conjs(&'a [Conj]),
+    Tests(&'a [Test]),
 }
 
 /// Writes a rule: its target, and its right side.
-pub fn shape_of(alloc: Global, out: &mut String, rule: &Rule) -> Result<(), AllocError> {
-    match &rule.target {
-        Target::Own(attr) => write!(out, "own.{} is", attr.text())?,
-        Target::Of(child, attr) => write!(out, "{}.{} is", child.text(), attr.text())?,
-    }
+pub fn write_shape(alloc: Global, out: &mut String, rule: &Rule) -> Result<(), AllocError> {
+    write_target(out, &rule.target)?;
     let mut left = Items::new(alloc);
-    write_body(out, &mut left, &rule.body)?;
+    write_parts(out, &mut left, &rule.body)
+}
+
+fn write_target(out: &mut String, target: &Target) -> Result<(), AllocError> {
+    match target {
+        Target::Own(attr) => write_name(out, "own.", attr)?,
+        Target::Of(child, attr) => write_path(out, "", child, attr)?,
+    }
+    out.push_str(" is")
+}
+
+fn write_parts<'a>(
+    out: &mut String,
+    left: &mut Items<Part<'a>>,
+    body: &'a Body,
+) -> Result<(), AllocError> {
+    write_body(out, left, body)?;
     for _turn in 0..100_000 {
         let Some(part) = left.pop() else {
             return Ok(());
         };
-        write_part(out, &mut left, part)?;
+        write_part(out, left, part)?;
     }
     Ok(())
+}
+
+fn write_name(out: &mut String, before: &str, name: &Name) -> Result<(), AllocError> {
+    out.push_str(before)?;
+    out.push_str(name.text())
+}
+
+fn write_path(out: &mut String, before: &str, child: &Name, attr: &Name) -> Result<(), AllocError> {
+    write_name(out, before, child)?;
+    write_name(out, ".", attr)
+}
+
+// A word, and then a part.
+fn write_one<'a>(
+    out: &mut String,
+    left: &mut Items<Part<'a>>,
+    word: &str,
+    part: Part<'a>,
+) -> Result<(), AllocError> {
+    out.push_str(word)?;
+    left.push(part)
+}
+
+// A word, and then two parts.
+fn write_two<'a>(
+    out: &mut String,
+    left: &mut Items<Part<'a>>,
+    word: &str,
+    first: Part<'a>,
+    second: Part<'a>,
+) -> Result<(), AllocError> {
+    left.push(second)?;
+    write_one(out, left, word, first)
 }
 
 fn write_body<'a>(
@@ -48,14 +95,11 @@ fn write_body<'a>(
     match body {
         Body::Plain(expr) => left.push(Part::Expr(expr)),
         Body::FirstThen(first, later) => {
-            out.push_str(" first")?;
-            left.push(Part::Expr(later))?;
-            left.push(Part::Expr(first))
+            write_two(out, left, " first", Part::Expr(first), Part::Expr(later))
         }
         Body::Fold(child, start, next) => {
-            write!(out, " fold {}", child.text())?;
-            left.push(Part::Expr(next))?;
-            left.push(Part::Expr(start))
+            write_name(out, " fold ", child)?;
+            write_two(out, left, "", Part::Expr(start), Part::Expr(next))
         }
     }
 }
@@ -68,20 +112,17 @@ fn write_part<'a>(
     match part {
         Part::Expr(expr) => write_expr(out, left, expr),
         Part::Sum(sum) => write_sum(out, left, sum),
-        Part::SignedTerm(signed) => {
-            out.push_str(if signed.minus { " -" } else { " +" })?;
-            left.push(Part::Term(&signed.term))
-        }
+        Part::SignedTerms(terms) => write_signed_terms(out, left, terms),
         Part::Term(term) => write_term(out, left, term),
-        Part::Factor(factor) => write_factor(out, left, factor),
+        Part::Factors(factors) => write_factors(out, left, factors),
         Part::Unary(unary) => {
-            out.push_str(if unary.minus { " minus" } else { "" })?;
-            left.push(Part::Atom(&unary.atom))
+            let sign = if unary.minus { " minus" } else { "" };
+            write_one(out, left, sign, Part::Atom(&unary.atom))
         }
         Part::Atom(atom) => write_atom(out, left, atom),
         Part::Cond(cond) => write_cond(out, left, cond),
-        Part::Conj(conj) => write_conj(out, left, conj),
-        Part::Test(test) => write_test(out, left, test),
+        Part::Conjs(conjs) => write_conjs(out, left, conjs),
+        Part::Tests(tests) => write_tests(out, left, tests),
     }
 }
 
@@ -92,10 +133,14 @@ fn write_expr<'a>(
 ) -> Result<(), AllocError> {
     match expr {
         Expr::If(cond, held, other) => {
-            out.push_str(" if")?;
             left.push(Part::Sum(other.get()))?;
-            left.push(Part::Sum(held.get()))?;
-            left.push(Part::Cond(cond.get()))
+            write_two(
+                out,
+                left,
+                " if",
+                Part::Cond(cond.get()),
+                Part::Sum(held.get()),
+            )
         }
         Expr::Sum(sum) => left.push(Part::Sum(sum.get())),
     }
@@ -115,10 +160,8 @@ fn write_sum<'a>(
     sum: &'a Sum,
 ) -> Result<(), AllocError> {
     write_count(out, "sum", sum.tail.len().saturating_add(1))?;
-    for signed in sum.tail.as_slice().iter().rev() {
-        left.push(Part::SignedTerm(signed))?;
-    }
-    left.push(Part::Term(&sum.head))
+    let tail = Part::SignedTerms(sum.tail.as_slice());
+    write_two(out, left, "", Part::Term(&sum.head), tail)
 }
 
 fn write_term<'a>(
@@ -127,10 +170,38 @@ fn write_term<'a>(
     term: &'a Term,
 ) -> Result<(), AllocError> {
     write_count(out, "term", term.tail.len().saturating_add(1))?;
-    for factor in term.tail.as_slice().iter().rev() {
-        left.push(Part::Factor(factor))?;
-    }
-    left.push(Part::Unary(&term.head))
+    let tail = Part::Factors(term.tail.as_slice());
+    write_two(out, left, "", Part::Unary(&term.head), tail)
+}
+
+fn write_signed_terms<'a>(
+    out: &mut String,
+    left: &mut Items<Part<'a>>,
+    terms: &'a [SignedTerm],
+) -> Result<(), AllocError> {
+    let Some((first, rest)) = terms.split_first() else {
+        return Ok(());
+    };
+    let sign = if first.minus { " -" } else { " +" };
+    write_two(
+        out,
+        left,
+        sign,
+        Part::Term(&first.term),
+        Part::SignedTerms(rest),
+    )
+}
+
+fn write_factors<'a>(
+    out: &mut String,
+    left: &mut Items<Part<'a>>,
+    factors: &'a [Factor],
+) -> Result<(), AllocError> {
+    let Some((first, rest)) = factors.split_first() else {
+        return Ok(());
+    };
+    left.push(Part::Factors(rest))?;
+    write_factor(out, left, first)
 }
 
 fn write_factor<'a>(
@@ -139,10 +210,7 @@ fn write_factor<'a>(
     factor: &'a Factor,
 ) -> Result<(), AllocError> {
     match factor {
-        Factor::Times(unary) => {
-            out.push_str(" *")?;
-            left.push(Part::Unary(unary))
-        }
+        Factor::Times(unary) => write_one(out, left, " *", Part::Unary(unary)),
         Factor::Over(number) => write!(out, " / {number}"),
     }
 }
@@ -156,33 +224,28 @@ fn write_atom<'a>(
         Atom::Number(number) => write!(out, " {number}"),
         Atom::Acc => out.push_str(" acc"),
         Atom::Read(read) => write_read(out, read),
-        Atom::Group(expr) => {
-            out.push_str(" group")?;
-            left.push(Part::Expr(expr.get()))
-        }
+        Atom::Group(expr) => write_one(out, left, " group", Part::Expr(expr.get())),
         Atom::Least(first, second) => {
-            out.push_str(" min")?;
-            left.push(Part::Expr(second.get()))?;
-            left.push(Part::Expr(first.get()))
+            let (first, second) = (Part::Expr(first.get()), Part::Expr(second.get()));
+            write_two(out, left, " min", first, second)
         }
         Atom::Greatest(first, second) => {
-            out.push_str(" max")?;
-            left.push(Part::Expr(second.get()))?;
-            left.push(Part::Expr(first.get()))
+            let (first, second) = (Part::Expr(first.get()), Part::Expr(second.get()));
+            write_two(out, left, " max", first, second)
         }
         Atom::LastOr(child, attr, other) => {
-            write!(out, " last {}.{} or", child.text(), attr.text())?;
-            left.push(Part::Atom(other.get()))
+            write_path(out, " last ", child, attr)?;
+            write_one(out, left, " or", Part::Atom(other.get()))
         }
     }
 }
 
 fn write_read(out: &mut String, read: &Read) -> Result<(), AllocError> {
     match read {
-        Read::Own(attr) => write!(out, " own.{}", attr.text()),
-        Read::This(attr) => write!(out, " this.{}", attr.text()),
-        Read::Prev(attr) => write!(out, " prev.{}", attr.text()),
-        Read::Of(child, attr) => write!(out, " of {}.{}", child.text(), attr.text()),
+        Read::Own(attr) => write_name(out, " own.", attr),
+        Read::This(attr) => write_name(out, " this.", attr),
+        Read::Prev(attr) => write_name(out, " prev.", attr),
+        Read::Of(child, attr) => write_path(out, " of ", child, attr),
     }
 }
 
@@ -192,10 +255,19 @@ fn write_cond<'a>(
     cond: &'a Cond,
 ) -> Result<(), AllocError> {
     write_count(out, "any", cond.any.len())?;
-    for conj in cond.any.as_slice().iter().rev() {
-        left.push(Part::Conj(conj))?;
-    }
-    Ok(())
+    left.push(Part::Conjs(cond.any.as_slice()))
+}
+
+fn write_conjs<'a>(
+    out: &mut String,
+    left: &mut Items<Part<'a>>,
+    conjs: &'a [Conj],
+) -> Result<(), AllocError> {
+    let Some((first, rest)) = conjs.split_first() else {
+        return Ok(());
+    };
+    left.push(Part::Conjs(rest))?;
+    write_conj(out, left, first)
 }
 
 fn write_conj<'a>(
@@ -204,10 +276,19 @@ fn write_conj<'a>(
     conj: &'a Conj,
 ) -> Result<(), AllocError> {
     write_count(out, "every", conj.every.len())?;
-    for test in conj.every.as_slice().iter().rev() {
-        left.push(Part::Test(test))?;
-    }
-    Ok(())
+    left.push(Part::Tests(conj.every.as_slice()))
+}
+
+fn write_tests<'a>(
+    out: &mut String,
+    left: &mut Items<Part<'a>>,
+    tests: &'a [Test],
+) -> Result<(), AllocError> {
+    let Some((first, rest)) = tests.split_first() else {
+        return Ok(());
+    };
+    left.push(Part::Tests(rest))?;
+    write_test(out, left, first)
 }
 
 fn write_test<'a>(
@@ -217,13 +298,12 @@ fn write_test<'a>(
 ) -> Result<(), AllocError> {
     match test {
         Test::Group(negated, cond) => {
-            out.push_str(if *negated { " not" } else { " group" })?;
-            left.push(Part::Cond(cond.get()))
+            let word = if *negated { " not" } else { " group" };
+            write_one(out, left, word, Part::Cond(cond.get()))
         }
         Test::Compare(cmp, first, second) => {
-            out.push_str(mark(*cmp))?;
-            left.push(Part::Sum(second.get()))?;
-            left.push(Part::Sum(first.get()))
+            let (first, second) = (Part::Sum(first.get()), Part::Sum(second.get()));
+            write_two(out, left, mark(*cmp), first, second)
         }
     }
 }
