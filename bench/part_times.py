@@ -1,12 +1,14 @@
 #!/usr/bin/env python3
 """Tells the processor time of the parts of a run by one worker, on pages of 20,000 and 200,000 pieces of four shipped
-grammars: reading the document (its tokens and its tree), making the plan, solving, and showing the boxes. Prints
-milliseconds up to the end of the last part and of each part, the ratios of solving to reading and of the plan to
-solving, and the growth of solving from the smaller page to the larger. Of several runs the quickest counts.
-bench/parts.py counts the instructions of the same parts, which no other work on the machine moves.
+grammars: reading the document (its tokens and its tree), making the plan, solving, the stages of solving alone, without
+the memory that the words of all cells take, and showing the boxes. Prints milliseconds up to the end of the last part
+and of each part, the ratios of solving to reading and of the plan to solving, and the growth of the stages from the
+smaller page to the larger. Of several runs the least time of each part counts. bench/parts.py counts the instructions
+of the same parts, which no other work on the machine moves.
 
 usage: bench/part_times.py [PROGRAM]     PROGRAM is crates/ftl_layout/out/ftl_layout if left out
 """
+import collections
 import os
 import sys
 import tempfile
@@ -16,14 +18,25 @@ from plain_layout import sample
 from stops import addresses, timed_calls
 
 RUNS = 9
+TIMED = {**PARTS, "stages": r"^ftl_steal::alone::run_alone"}
+SHOWN = ["whole", "read", "plan", "solve", "stages", "show"]
+
+
+def times_of(program, page, functions):
+    """Milliseconds of each part, and of all up to the end of the last."""
+    calls, whole = timed_calls(program, ["run"], page, functions)
+    times = collections.Counter(whole=whole)
+    for part, time in calls:
+        times[part] += time
+    return times
 
 
 def main():
     program = sys.argv[1] if len(sys.argv) > 1 else os.path.join(TOP, "crates/ftl_layout/out/ftl_layout")
     if not os.path.exists(program):
         sys.exit(f"{program} is not built: run ./layout once")
-    functions = addresses(program, PARTS)
-    heads = " ".join(f"{it:>8}" for it in ["whole", *PARTS])
+    functions = addresses(program, TIMED)
+    heads = " ".join(f"{it:>8}" for it in SHOWN)
     print(f"{'grammar':8} {'pieces':>7} {heads} {'solve/read':>10} {'plan/solve':>10} {'growth':>7}")
     for grammar in GRAMMARS:
         before = 0
@@ -31,12 +44,11 @@ def main():
             with tempfile.NamedTemporaryFile("w") as page:
                 page.write(sample(grammar, size))
                 page.flush()
-                runs = [timed_calls(program, ["run"], page.name, functions) for _ in range(RUNS)]
-            calls, whole = min(runs, key=lambda run: run[1])
-            times = {"whole": whole, **dict(calls)}
-            shown = " ".join(f"{times[it]:8.2f}" for it in ["whole", *PARTS])
-            growth = f"x{times['solve'] / before:.1f}" if before else ""
-            before = times["solve"]
+                runs = [times_of(program, page.name, functions) for _ in range(RUNS)]
+            times = {part: min(run[part] for run in runs) for part in SHOWN}
+            shown = " ".join(f"{times[part]:8.2f}" for part in SHOWN)
+            growth = f"x{times['stages'] / before:.1f}" if before else ""
+            before = times["stages"]
             ratios = f"{times['solve'] / times['read']:10.2f} {times['plan'] / times['solve']:10.2f}"
             print(f"{grammar:8} {size:7} {shown} {ratios} {growth:>7}", flush=True)
 
