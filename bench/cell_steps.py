@@ -3,8 +3,9 @@
 pieces of four shipped grammars. Prints the milliseconds of processor time of all stages that have several items: alone,
 by workers that take turns on one processor, which is what the steps themselves and the items cost, and by workers on
 all processors, where they also wait for what others write; and the ratios of these. The time of workers is that of all
-together, with the start and end of their threads. A stage of one item is computed on plain words by either. Opening
-and closing the cells is told beside it. Of several runs the quickest call counts.
+together, with the start and end of their threads. A stage of one item is computed on plain words by either. What
+opening and closing the cells and dealing the items costs is told beside it. Of several runs the quickest counts, stage
+by stage.
 
 usage: bench/cell_steps.py [WORKERS [PROGRAM]]     2 workers, and crates/ftl_layout/out/ftl_layout if left out
 """
@@ -12,27 +13,34 @@ import os
 import sys
 import tempfile
 
-from parts import GRAMMARS, TOP
+from parts import GRAMMARS, PARTS, TOP
 from plain_layout import sample
 from stops import addresses, timed_calls
 
 PIECES = 200_000
 RUNS = 7
 FUNCTIONS = {
+    "words": r"^ftl_plan::plan::Plan::first_words",
     "alone": r"^ftl_steal::alone::run_alone",
-    "stage": r"^ftl_steal::stage::run_stage",
-    "open": r"^ftl_cells::cells::Cells::open",
-    "close": r"^ftl_cells::cells::Cells::close",
+    "workers": r"^std::thread::fork::chunks_from",
+    "show": PARTS["show"],
 }
 
 
+def stages_of(program, page, workers, functions, processors=None, more=()):
+    """For each stage how it was run and how long, and the time beside them from the first words to the last."""
+    calls = timed_calls(program, ["run", "--workers", str(workers), *more], page, functions, processors)
+    stages = [(name, ended - began) for name, began, ended in calls if name in ("alone", "workers")]
+    first = next(ended for name, _, ended in calls if name == "words")
+    last = next(began for name, began, _ in calls if name == "show")
+    return stages, last - first - sum(time for _, time in stages)
+
+
 def quickest(program, page, workers, functions, processors=None, more=()):
-    """For each stage how it was run and the least milliseconds, and the same of the calls that open and close cells."""
-    words = ["run", "--workers", str(workers), *more]
-    runs = [timed_calls(program, words, page, functions, processors)[0] for _ in range(RUNS)]
-    best = [min(call, key=lambda one: one[1]) for call in zip(*runs)]
-    stages = [call for call in best if call[0] in ("alone", "stage")]
-    return stages, [call for call in best if call[0] in ("open", "close")]
+    """The same of several runs, with the least times."""
+    runs = [stages_of(program, page, workers, functions, processors, more) for _ in range(RUNS)]
+    stages = [min(calls, key=lambda one: one[1]) for calls in zip(*(run[0] for run in runs))]
+    return stages, min(run[1] for run in runs)
 
 
 def main():
@@ -42,22 +50,21 @@ def main():
         sys.exit(f"{program} is not built: run ./layout once")
     functions = addresses(program, FUNCTIONS)
     one = {min(os.sched_getaffinity(0))}
-    heads = ["alone", "in turns", "ratio", "at once", "ratio", "open", "close"]
+    heads = ["alone", "in turns", "ratio", "at once", "ratio", "beside"]
     print(f"{'grammar':8} " + " ".join(f"{head:>8}" for head in heads) + f"   milliseconds, {workers} workers")
     for grammar in GRAMMARS:
         with tempfile.NamedTemporaryFile("w") as page:
             page.write(sample(grammar, PIECES))
             page.flush()
             alone, _ = quickest(program, page.name, 1, functions)
-            turns, ends = quickest(program, page.name, workers, functions, one)
+            turns, beside = quickest(program, page.name, workers, functions, one)
             free, _ = quickest(program, page.name, workers, functions)
-        shared = [place for place, stage in enumerate(turns) if stage[0] == "stage"]
+        shared = [place for place, stage in enumerate(turns) if stage[0] == "workers"]
         spent = [sum(stages[place][1] for place in shared) for stages in (alone, turns, free)]
-        apart = [sum(time for name, time in ends if name == which) for which in ("open", "close")]
         ratios = spent[1] / spent[0], spent[2] / spent[0]
         print(
             f"{grammar:8} {spent[0]:8.1f} {spent[1]:8.1f} {ratios[0]:8.2f} {spent[2]:8.1f} {ratios[1]:8.2f} "
-            f"{apart[0]:8.1f} {apart[1]:8.1f}",
+            f"{beside:8.1f}",
             flush=True,
         )
 

@@ -1,8 +1,8 @@
 #!/usr/bin/env python3
 """Runs a stage of a million items, each of one step that reads nothing: the nodes of a page at grain 1. Prints
 milliseconds of processor time alone on plain words, and as a stage of shared cells by 2 and 4 workers that take turns
-on one processor, and that run on all; and the nanoseconds that an item takes beside its step. Then it prints how long
-opening and closing the cells take. Of several runs the quickest call counts.
+on one processor, and that run on all; and the nanoseconds that an item takes beside its step. Beside that
+stand opening and closing the cells and dealing the items. Of several runs the quickest counts.
 
 usage: bench/items.py [PROGRAM]     PROGRAM is crates/ftl_layout/out/ftl_layout if left out
 """
@@ -35,15 +35,13 @@ def main():
         page.flush()
         words = ["--grain", "1"]
         alone = sum(time for _, time in quickest(program, page.name, 1, functions, more=words)[0])
-        print(f"{'workers':>12} {'ms':>8} {'ns beside a step':>17} {'open':>8} {'close':>8}")
+        print(f"{'workers':>12} {'ms':>8} {'ns beside a step':>17} {'open, deal, close':>18}")
         print(f"{'alone':>12} {alone:8.1f}")
         for workers in (2, 4):
             for told, processors in (("in turns", {min(os.sched_getaffinity(0))}), ("at once", None)):
-                stages, ends = quickest(program, page.name, workers, functions, processors, words)
+                stages, beside = quickest(program, page.name, workers, functions, processors, words)
                 spent = sum(time for _, time in stages)
-                apart = [sum(time for name, time in ends if name == which) for which in ("open", "close")]
-                beside = (spent - alone) * 1e6 / ITEMS
-                print(f"{workers:3} {told:>8} {spent:8.1f} {beside:17.0f} {apart[0]:8.1f} {apart[1]:8.1f}", flush=True)
+                print(f"{workers:3} {told:>8} {spent:8.1f} {(spent - alone) * 1e6 / ITEMS:17.0f} {beside:18.1f}", flush=True)
 
 
 if __name__ == "__main__":

@@ -24,10 +24,10 @@ SHOWN = ["whole", "read", "plan", "solve", "stages", "show"]
 
 def times_of(program, page, functions):
     """Milliseconds of each part, and of all up to the end of the last."""
-    calls, whole = timed_calls(program, ["run"], page, functions)
-    times = collections.Counter(whole=whole)
-    for part, time in calls:
-        times[part] += time
+    calls = timed_calls(program, ["run"], page, functions)
+    times = collections.Counter(whole=calls[-1][2])
+    for part, began, ended in calls:
+        times[part] += ended - began
     return times
 
 

@@ -76,21 +76,20 @@ class Stopped:
 
 
 def timed_calls(program, words, page, functions, processors=None):
-    """The calls of these functions as they return, each with the milliseconds of processor time that it took, and
-    the milliseconds up to the last of them."""
+    """The calls of these functions as they return: the name, and at which milliseconds of processor time the call began
+    and returned. Time begins with the process."""
     process = Stopped(program, words, page, processors)
     starts = {process.base + place: name for name, place in functions.items()}
     for place in starts:
         process.set(place)
-    begin = now = process.spent()
     running, calls = {}, []
     while stop := process.go_on():
         now = process.spent()
         if stop[0] in running:
             start, began = running.pop(stop[0])
-            calls.append((starts[start], now - began))
+            calls.append((starts[start], began, now))
             process.set(start)
         else:
             running[stop[1]] = (stop[0], now)
             process.set(stop[1])
-    return calls, now - begin
+    return calls
