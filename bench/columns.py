@@ -10,6 +10,8 @@ import sys
 import tempfile
 import time
 
+import large_pages  # noqa: F401, for what it sets
+
 TOP = os.path.dirname(os.path.dirname(os.path.abspath(__file__)))
 HEADING = "%page 1\n%grammar stack\n%schedule auto\n%document\n"
 SIZES = [10_000, 100_000, 1_000_000]

@@ -14,6 +14,7 @@ import os
 import subprocess
 import sys
 
+import large_pages  # noqa: F401, for what it sets
 from plain_layout import GRAMMARS, sample
 
 TOP = os.path.dirname(os.path.dirname(os.path.abspath(__file__)))

@@ -9,6 +9,8 @@ import subprocess
 import sys
 import time
 
+import large_pages  # noqa: F401, for what it sets
+
 TRACE_ME, PEEK, POKE, GET_REGISTERS, SET_REGISTERS, CONTINUE = 0, 1, 4, 12, 13, 7
 BREAKPOINT = 0xCC
 REGISTERS, INSTRUCTION, STACK = 27, 16, 19  # how many registers there are, and two of them by their place

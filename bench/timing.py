@@ -4,6 +4,8 @@ import subprocess
 import sys
 import tempfile
 
+import large_pages  # noqa: F401, for what it sets
+
 
 def processor_seconds(words, page, statuses, runs):
     """The least processor time of so many runs on a page, which must end with one of these statuses."""
