@@ -13,6 +13,14 @@ use ftl_edge::Gate;
 use ftl_pool::{ReadyPool, StealPool};
 use std::sync::Wait;
 use std::thread;
+use std::thread::Parker;
+use std::time::Duration;
+
+/// How often a worker yields before it sleeps.
+const IDLE_YIELDS: u32 = 32;
+
+/// How long it sleeps at a time, in microseconds.
+const IDLE_MICROS: u64 = 50;
 
 /// Takes items until none is left to any worker.
 pub(crate) fn work<R: Wait, W: Work, G: Gate>(
@@ -29,17 +37,31 @@ pub(crate) fn work<R: Wait, W: Work, G: Gate>(
     ensures ended { member.new.hand.state.place ≡ live Ended }
     ensures stepped { 0 < member.new.hand.state.count }
 {
+    let parker = Parker::new();
+    let mut idle = 0;
     for _ in rt.forever() {
         if let Some(item) = pool.take(rt, &mut member.hold) {
             gate.before(member.number, item);
             run_item(rt, cells, pool, member, item);
+            idle = 0;
         } else if cells.left(&mut member.hand) == 0 {
             return;
         } else {
-            thread::yield_now();
+            idle = rest(rt, &parker, idle);
         }
     }
     unreachable!()
+}
+
+/// Lets others go on after so many idle turns, at first by a yield and then by a short sleep, so
+/// that a worker with nothing to do takes no time from one on the same core. Tells the turns now.
+fn rest<R: Wait>(rt: &R, parker: &Parker, idle: u32) -> u32 {
+    if idle < IDLE_YIELDS {
+        thread::yield_now();
+        return idle + 1;
+    }
+    parker.park_timeout(rt, Duration::from_micros(IDLE_MICROS));
+    idle
 }
 
 /// Fills an item and delivers it, if it is there to take.
