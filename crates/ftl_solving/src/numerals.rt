@@ -4,10 +4,10 @@ ghost use Rattle.std.specs.Prelude.{◌≡◌, ◌<◌, true};
 ghost use Rattle.std.specs.Char.{is_ascii_digit};
 ghost use Rattle.std.specs.List.{list_all};
 ghost use Rattle.std.specs.Str.Parse.{digits_value};
-ghost use Rattle.ftl_commands.specs.Numerals.{is_numeral, number_of};
+ghost use Rattle.ftl_solving.specs.Numerals.{is_numeral, number_of};
 
 /// The number that a word writes, where it is from 1 to the greatest.
-pub(crate) fn number(greatest: u32, word: &str) -> Option<u32>
+pub fn number(greatest: u32, word: &str) -> Option<u32>
     ensures number { result ≡ number_of greatest word.now }
 {
     if !is_numeral(word) {

@@ -3,8 +3,8 @@ use Rattle.std.specs.Prelude.{IsOk}
 use Rattle.std.specs.Str.Parse.{digits_value}
 use Rattle.std.proofs.lemmas.Str.Parse.{digits_value_short, parse_gives}
 use Rattle.ftl_tokens.proofs.NumberLemmas.{numerals}
-use Rattle.ftl_commands.proofs.DigitLemmas.{all_digits, at_most_seven, not_empty}
-use Rattle.ftl_commands.proofs.numerals.value.Goals as goal
+use Rattle.ftl_solving.proofs.DigitLemmas.{all_digits, at_most_seven, not_empty}
+use Rattle.ftl_solving.proofs.numerals.value.Goals as goal
 
 -- seven digits fit 32 bits
 pub unwrap-requires : goal.unwrap-requires

@@ -3,7 +3,7 @@ use Rattle.std.proofs.Common.{◌≡◌, ℕ, ◌<◌, ◌≤◌, ◌&&◌, Bool
 use Rattle.std.specs.Char.{is_ascii_digit}
 use Rattle.std.specs.List.{list_all}
 use Rattle.std.proofs.lemmas.Bool.Decides.{nat_tests}
-use Rattle.ftl_commands.specs.Numerals.{is_numeral}
+use Rattle.ftl_solving.specs.Numerals.{is_numeral}
 
 pub not_empty : (word : List ℕ) → is_numeral word ≡ true → 0 < length word
 not_empty word h = grind (arith, nat_tests)
