@@ -1,4 +1,3 @@
-pub mod DigitLemmas
 pub mod Taken
 pub mod Words
 pub mod WorkedWords

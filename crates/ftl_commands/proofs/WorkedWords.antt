@@ -1,8 +1,9 @@
 -- Words that were typed out by hand, by what `clap` makes of them.
 use Rattle.std.proofs.Common.{◌≡◌, [], ◌∷◌, None, Some, codes, refl}
 use Rattle.clap.proofs.OnLiterals.{clap_on_literals}
-use Rattle.ftl_commands.specs.Commands.{command_of, solving}
+use Rattle.ftl_commands.specs.Commands.{command_of}
 use Rattle.ftl_commands.specs.declared.command.Command.TheVariants as command
+use Rattle.ftl_solving.specs.Solvings.{solving}
 
 pub is_run_alone : command_of (codes "run" ∷ []) ≡ Some (command.Run (solving 1 64))
 unfolding clap_on_literals

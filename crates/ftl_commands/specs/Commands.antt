@@ -4,24 +4,16 @@ use Rattle.std.specs.Option.{option_and_then, option_map}
 use Rattle.std.specs.Str.{bytes_eq}
 use Rattle.clap.specs.Words.{Row, Text, first_of}
 use Rattle.ftl_boxes.specs.Shipped.{shipped_grammar}
-use Rattle.ftl_commands.specs.Numerals.{number_of}
 use Rattle.ftl_commands.specs.Options.{plain_app, sample_app, solving_app, taken}
 use Rattle.ftl_commands.specs.declared.command.Command.{Command}
 use Rattle.ftl_commands.specs.declared.command.Command.TheVariants as command
 use Rattle.ftl_commands.specs.declared.command.CommandFault.{CommandFault}
 use Rattle.ftl_commands.specs.declared.command.CommandFault.TheVariants.{BadWords}
-use Rattle.ftl_commands.specs.declared.command.Solving.{Solving}
+use Rattle.ftl_solving.specs.Numerals.{number_of}
+use Rattle.ftl_solving.specs.Solvings.{number_by, solving}
+use Rattle.ftl_solving.specs.declared.solving.Solving.{Solving}
 
 -- ---- options
-
--- the number of an option: from 1 to the greatest, or the default where the option does not stand
-abbrev pub number_by : (greatest default : ℕ) → Option Text → Option ℕ
-number_by greatest default None = Some default
-number_by greatest default (Some text) = number_of greatest text
-
--- how a page is solved
-abbrev pub solving : (workers grain : ℕ) → Solving
-solving workers grain = record { workers = workers; grain = grain }
 
 -- how a page is solved: by 1 to 64 workers, with 1 to 1048576 nodes a subtree
 abbrev pub solving_of : List Row → Option Solving

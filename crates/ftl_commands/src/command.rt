@@ -3,17 +3,9 @@
 ghost use Rattle.std.specs.Prelude.{◌≡◌};
 ghost use Rattle.ftl_commands.specs.declared.command.CommandFault.TheVariants.{OutOfMemory};
 
+use ftl_solving::Solving;
 use ftl_tokens::Name;
 use std::alloc::{AllocError, AllocFailed};
-
-/// How a page is solved.
-#[derive(Clone, Copy, Debug, PartialEq, Eq)]
-pub struct Solving {
-    /// How many workers solve it, from 1 to 64.
-    pub workers: u32,
-    /// The most nodes of a subtree that one worker visits at once, from 1 to 1048576.
-    pub grain: u32,
-}
 
 /// What the program is to do.
 #[derive(Drop)]

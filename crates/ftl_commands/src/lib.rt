@@ -1,15 +1,15 @@
 //! The words after the program's name, as a command. Goes in: the words. Comes out: the command
 //! that they are, with the numbers and names of its options, or that they are none.
-//! `specs/Commands.antt` says which words are which command, `specs/Options.antt` which options a
-//! command has, as a simple command of `clap`, and `specs/Numerals.antt` which numbers words write.
+//! `specs/Commands.antt` says which words are which command, and `specs/Options.antt` which options
+//! a command has, as a simple command of `clap`.
 #![tactic(auto)]
 
 mod command;
-mod numerals;
 mod options;
 mod read;
 mod worked;
 
-pub use command::{Command, CommandFault, Solving};
+pub use command::{Command, CommandFault};
+pub use ftl_solving::Solving;
 pub use read::read_command;
 pub use worked::{words_that_are_commands, words_that_are_none};

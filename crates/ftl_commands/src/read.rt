@@ -6,17 +6,17 @@ ghost use Rattle.std.specs.String.{string_bytes};
 ghost use Rattle.clap.specs.Walk.{rows_of};
 ghost use Rattle.clap.specs.Words.{found_of};
 ghost use Rattle.ftl_model.specs.Outcome.{Gives};
-ghost use Rattle.ftl_commands.specs.Commands.{answer_by, command_of, grammar_by, number_by};
+ghost use Rattle.ftl_commands.specs.Commands.{answer_by, command_of, grammar_by};
 ghost use Rattle.ftl_commands.specs.Commands.{sample_by, sample_of, shipped_name, solving_of};
 ghost use Rattle.ftl_commands.specs.Options.{plain_app, sample_app, solving_app, taken};
 ghost use Rattle.ftl_commands.specs.declared.command.Command.TheVariants as command;
 ghost use Rattle.ftl_commands.specs.declared.command.CommandFault.TheVariants.{OutOfMemory};
 
-use crate::command::{Command, CommandFault, Solving};
-use crate::numerals::number;
+use crate::command::{Command, CommandFault};
 use crate::options::{options, plain_command, sample_command, solving_command, text_of};
 use clap::ArgMatches;
 use ftl_boxes::shipped;
+use ftl_solving::{Solving, number, solving_by};
 use ftl_tokens::Name;
 use std::alloc::{AllocError, Global};
 
@@ -115,17 +115,5 @@ fn grammar<'a>(name: Option<&'a str>) -> Option<&'a str>
 fn solving(matches: &ArgMatches<'_>) -> Option<Solving>
     ensures solving { result ≡ solving_of (rows_of (found_of matches.now)) }
 {
-    let workers = number_by(64, 1, text_of(matches, "workers"))?;
-    let grain = number_by(1_048_576, 64, text_of(matches, "grain"))?;
-    Some(Solving { workers, grain })
-}
-
-/// The number of an option, or the default where it does not stand.
-fn number_by(greatest: u32, default: u32, text: Option<&str>) -> Option<u32>
-    ensures number { result ≡ number_by greatest default (option_map (λ s. s.now) text.entry) }
-{
-    match text {
-        None => Some(default),
-        Some(text) => number(greatest, text),
-    }
+    solving_by(text_of(matches, "workers"), text_of(matches, "grain"))
 }

@@ -1,8 +1,9 @@
 //! Laws on words that were typed out by hand.
 
 ghost use Rattle.std.specs.Prelude.{◌≡◌, [], ◌∷◌, None, Some, codes};
-ghost use Rattle.ftl_commands.specs.Commands.{command_of, solving};
+ghost use Rattle.ftl_commands.specs.Commands.{command_of};
 ghost use Rattle.ftl_commands.specs.declared.command.Command.TheVariants as command;
+ghost use Rattle.ftl_solving.specs.Solvings.{solving};
 
 /// A law: words that are a command, and which.
 pub fn words_that_are_commands()

@@ -17,5 +17,5 @@ pub use kinds::words_of_attributes;
 pub use rule_name::RuleName;
 pub use worked::{
     bad_reads, faults_of_names, faults_of_one_child, faults_of_one_class, faults_of_targets,
-    grammars_without_a_fault, numbers_of_attributes, reads_by_name,
+    grammars_without_a_fault, names_in_schedules, numbers_of_attributes, reads_by_name,
 };

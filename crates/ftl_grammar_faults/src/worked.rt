@@ -7,6 +7,7 @@ ghost use Rattle.ftl_grammar_faults.specs.declared.fault.GrammarFault.TheVariant
 ghost use Rattle.ftl_grammar_faults.specs.declared.fault.What.TheVariants as what;
 ghost use Rattle.ftl_model.specs.AttributeGrammar as reads_by;
 ghost use Rattle.ftl_grammar_faults.specs.Allowed as allowed;
+ghost use Rattle.ftl_grammar_faults.specs.Checked.{attribute_named};
 ghost use Rattle.ftl_grammar_faults.specs.Numbering as numbering;
 ghost use Rattle.ftl_grammar_faults.specs.FirstFault.{first_fault};
 ghost use Rattle.ftl_grammar_faults.specs.Worked as worked;
@@ -205,4 +206,15 @@ pub fn numbers_of_attributes()
         2 ∷ [] }
     ensures chain { map (λ a. a.0) (numbering.class_attributes (worked.chain_with (worked.num 1))
         1) ≡ 0 ∷ 1 ∷ [] }
+{}
+
+/// A law: what a schedule names: `x` and `w` of `K`, which are attributes 1 and 2, by the interface
+/// and not by a class of it.
+pub fn names_in_schedules()
+    ensures inherited { attribute_named (worked.one_child true []) (codes "K") (codes "x")
+        ≡ Some 1 }
+    ensures synthesized { attribute_named (worked.one_child true []) (codes "K") (codes "w")
+        ≡ Some 2 }
+    ensures class { attribute_named (worked.one_child true []) (codes "L") (codes "w") ≡ None }
+    ensures turned { attribute_named (worked.one_child true []) (codes "w") (codes "K") ≡ None }
 {}

@@ -9,4 +9,5 @@ pub mod ReadLaws
 pub mod NextLaws
 pub mod WorkLaws
 pub mod WordLaws
+pub mod WorkedStages
 pub mod Limits

@@ -14,6 +14,7 @@ mod visit_laws;
 mod word_laws;
 mod work_laws;
 mod worked_items;
+mod worked_steps;
 
 pub use cut_laws::cuts;
 pub use handing_laws::handings;
@@ -24,3 +25,4 @@ pub use visit_laws::visits;
 pub use word_laws::{words_at_the_ends, words_between};
 pub use work_laws::stages;
 pub use worked_items::items_of_two_words;
+pub use worked_steps::steps_of_two_words;

@@ -43,6 +43,10 @@ not_taken = exprs.If (one_test (tests.Compare cmp.Less (num 1) (num 2))) (num 5)
 abbrev pub unknown : Expr
 unknown = exprs.If (one_test (tests.Compare cmp.More too_great (num 2))) (num 5) (num 6)
 
+-- `if self.p > 2 then 5 else 6`
+abbrev pub taken : Expr
+taken = exprs.If (one_test (tests.Compare cmp.More (alone (own_term (codes "p"))) (num 2))) (num 5) (num 6)
+
 -- `(0 - 7) / 2`
 abbrev pub halved : Expr
 halved =

@@ -15,6 +15,7 @@ pub fn values_of_expressions()
     ensures not_taken { worked.value_in_width narrow worked.not_taken ≡ number (pos 5) }
     ensures unknown { worked.value_in_width narrow worked.unknown ≡ overflow }
     ensures known_if_wide { worked.value_in_width wide worked.unknown ≡ number (pos 5) }
+    ensures taken { worked.value_in_width narrow worked.taken ≡ number (pos 5) }
     ensures too_great { worked.value_in_width narrow (written.num 2147483648) ≡ overflow }
     ensures great_if_wide { worked.value_in_width wide (written.num 2147483648)
         ≡ number (pos 2147483648) }

@@ -8,7 +8,7 @@ use Rattle.ftl_commands.specs.declared.command.Command.{Command}
 use Rattle.ftl_commands.specs.declared.command.Command.TheVariants as command
 use Rattle.ftl_commands.specs.declared.command.CommandFault.{CommandFault}
 use Rattle.ftl_commands.specs.declared.command.CommandFault.TheVariants.{BadWords, OutOfMemory}
-use Rattle.ftl_commands.specs.declared.command.Solving.{Solving}
+use Rattle.ftl_solving.specs.declared.solving.Solving.{Solving}
 use Rattle.ftl_boxes.specs.SamplePage.{sample_page_of}
 use Rattle.ftl_boxes.specs.declared.fault.SampleFault.{SampleFault}
 use Rattle.ftl_page.specs.declared.page.Need.{Need}

@@ -1,6 +1,6 @@
 // A whole stage, by workers in threads of their own.
 ghost use Rattle.std.specs.Prelude.{◌≡◌, ◌<◌, ◌≤◌, ◌+◌, ◌*◌, [], ◌∷◌, ◌++◌, min, max};
-ghost use Rattle.std.specs.Prelude.{length, vec_len, IfOk, OnOk};
+ghost use Rattle.std.specs.Prelude.{length, vec_capacity, vec_len, IfOk, OnOk};
 ghost use Rattle.std.specs.List.{All};
 ghost use Rattle.ftl_cells.specs.Work.{item_total, pred_total};
 ghost use Rattle.ftl_cells.specs.State.{live};
@@ -14,7 +14,7 @@ ghost use Rattle.ftl_steal.specs.Workers.{steps_of, free_below, put_total, step_
 use crate::member::Member;
 use crate::worker::work;
 use crossbeam_utils::CachePadded;
-use ftl_base::CodeStack;
+use ftl_base::{CodeStack, Val};
 use ftl_cells::{Cells, Hand, Work};
 use ftl_edge::Gate;
 use ftl_pool::{ReadyPool, StealHold, StealPool};
@@ -114,7 +114,7 @@ fn equip<W: Work>(
     ensures dealt { IfOk result
         (IsDealtBelow (W.meaning cells.now.1) cells.now.0 _pool.now 0) }
 {
-    let reads = Vec::with_capacity(alloc, cells.work().max_reads() as usize)?;
+    let reads = read_buffer(alloc, cells)?;
     let stack = CodeStack::new(alloc, cells.work().max_stack())?;
     Ok(CachePadded::new(Member {
         number,
@@ -123,6 +123,13 @@ fn equip<W: Work>(
         reads,
         stack,
     }))
+}
+
+/// Room for what a step reads.
+fn read_buffer<W: Work>(alloc: Global, cells: &Cells<W>) -> Result<Vec<Val>, AllocError>
+    ensures room { IfOk result (λ v. (W.meaning cells.now.1).max_reads ≤ vec_capacity v) }
+{
+    Vec::with_capacity(alloc, cells.work().max_reads() as usize)
 }
 
 /// Deals the items that wait for none, in order, as many of all items to one worker as to the next,

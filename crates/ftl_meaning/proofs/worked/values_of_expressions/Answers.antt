@@ -12,6 +12,9 @@ returns-clause-unknown c = simp (of-If, of-cond, of-conj, of-Compare, of-sum, of
 pub returns-clause-known_if_wide : goal.returns-clause-known_if_wide
 returns-clause-known_if_wide c = simp (of-If, of-cond, of-conj, of-Compare, of-sum, of-term, of-unary, of-Number, plus_at) refl
 
+pub returns-clause-taken : goal.returns-clause-taken
+returns-clause-taken c = simp (of-If, of-cond, of-conj, of-Compare, of-sum, of-term, of-unary, of-Number, of-Read) refl
+
 pub returns-clause-halved : goal.returns-clause-halved
 returns-clause-halved c = simp (of-Sum, of-sum, of-term, of-unary, of-Number, of-Group, over_at, minus_at) refl
 
