@@ -4,8 +4,9 @@
 //! - `kinds`: the kinds of its tokens
 //! - `places`: its tokens with their places
 //! - `numbers`: the numbers among its tokens
-//! - `limited N`: the same where numbers end at N, behind N
-//! - `document N`: the class and the rows of the document that it is, where numbers end at N
+//! - `limited`: the same as of a document, behind the number at which they end
+//! - `document`: the class and the rows of the document that it is
+//! - `wide-limited` and `wide-document`: the same where numbers end at 140737488355327
 //! - `grammar`: the canonical text of the grammar that it spells
 //! - `shipped`: the canonical text of the shipped grammar of this name
 //! - `again`: whether that text is itself canonical
@@ -49,7 +50,9 @@ fn write_answer(alloc: Global, out: &mut String, line: &str) -> Result<(), Alloc
         "gaps" => write_gaps(alloc, out),
         "names" => write_names(alloc, out, text),
         "shipped" | "again" => write_of_text(alloc, out, question, shipped(text).unwrap_or("")),
-        "limited" | "document" => write_of_limited(alloc, out, question, text),
+        "limited" | "document" | "wide-limited" | "wide-document" => {
+            write_of_document(alloc, out, question, text)
+        }
         _ => write_of_text(alloc, out, question, text),
     }
 }
@@ -81,25 +84,23 @@ fn write_of_tokens(
         "kinds" => write_kinds(out, scanned),
         "places" => write_places(out, scanned),
         "numbers" => write_numbers(out, scanned),
-        "grammar" | "shipped" => write_grammar(alloc, out, scanned),
         "again" => write_again(alloc, out, scanned),
-        _ => out.push_str(" nothing is asked"),
+        _ => write_grammar(alloc, out, scanned),
     }
 }
 
-/// Writes what is asked of a text that is scanned as a document, with a limit before it.
-fn write_of_limited(
+/// Writes what is asked of a text that is scanned as a document.
+fn write_of_document(
     alloc: Global,
     out: &mut String,
     question: &str,
     line: &str,
 ) -> Result<(), AllocError> {
-    let (limit, line) = line.split_once(' ').unwrap_or((line, ""));
     let text = text_of(alloc, line)?;
     if text.len() > MOST_TEXT {
         return Ok(());
     }
-    match document_tokens(alloc, text, greatest(limit)) {
+    match document_tokens(alloc, text, greatest(question)) {
         Ok(scanned) => write_of_wide_tokens(alloc, out, question, &scanned),
         Err(fault) => write!(out, " {fault:?}"),
     }
@@ -111,7 +112,7 @@ fn write_of_wide_tokens(
     question: &str,
     scanned: &WideScanned,
 ) -> Result<(), AllocError> {
-    if question == "document" {
+    if question.ends_with("document") {
         write_document(alloc, out, scanned)
     } else {
         write_limited(out, scanned)

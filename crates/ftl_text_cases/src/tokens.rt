@@ -7,11 +7,11 @@ use ftl_written::{write_fixed, write_name, write_number};
 use std::alloc::{AllocError, Global};
 use std::fmt::Write;
 
-/// Where the numbers of a document end: at this limit if it is the wide one, or else early.
-pub(crate) fn greatest(limit: &str) -> u64
+/// Where the numbers of a document end.
+pub(crate) fn greatest(question: &str) -> u64
     ensures { IsGreatestNumber result }
 {
-    if limit == "140737488355327" {
+    if question.starts_with("wide") {
         140737488355327
     } else {
         2147483647
