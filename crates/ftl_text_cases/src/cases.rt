@@ -4,7 +4,7 @@
 //! - `kinds`: the kinds of its tokens
 //! - `places`: its tokens with their places
 //! - `numbers`: the numbers among its tokens
-//! - `limited`: the same as of a document, behind the number at which they end
+//! - `limited`: the number at which those of a document end, and the numbers among its tokens
 //! - `document`: the class and the rows of the document that it is
 //! - `wide-limited` and `wide-document`: the same where numbers end at 140737488355327
 //! - `grammar`: the canonical text of the grammar that it spells

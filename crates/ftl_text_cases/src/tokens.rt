@@ -46,8 +46,7 @@ fn write_place(out: &mut String, token: &Token) -> Result<(), AllocError> {
 pub(crate) fn write_numbers(out: &mut String, scanned: &Scanned) -> Result<(), AllocError> {
     for (k, token) in scanned.list().iter().enumerate() {
         if token.kind == Kind::Number {
-            out.push(' ')?;
-            write_number(out, u64::from(scanned.number(k)), "")?;
+            write_spaced(out, u64::from(scanned.number(k)))?;
         }
     }
     Ok(())
@@ -55,15 +54,19 @@ pub(crate) fn write_numbers(out: &mut String, scanned: &Scanned) -> Result<(), A
 
 /// Writes where the numbers end, and those among the tokens.
 pub(crate) fn write_limited(out: &mut String, scanned: &WideScanned) -> Result<(), AllocError> {
-    out.push(' ')?;
-    write_number(out, scanned.greatest(), ":")?;
+    write_spaced(out, scanned.greatest())?;
+    out.push(':')?;
     for (k, token) in scanned.list().iter().enumerate() {
         if token.kind == Kind::Number {
-            out.push(' ')?;
-            write_number(out, scanned.number(k), "")?;
+            write_spaced(out, scanned.number(k))?;
         }
     }
     Ok(())
+}
+
+fn write_spaced(out: &mut String, number: u64) -> Result<(), AllocError> {
+    out.push(' ')?;
+    write_number(out, number, "")
 }
 
 /// Writes the first of two names, and whether it is equal to its copy and to the second.
