@@ -7,8 +7,6 @@
 
 mod matrix;
 mod row;
-#[cfg(test)]
-mod tests;
 mod words;
 
 pub use matrix::BitMatrix;

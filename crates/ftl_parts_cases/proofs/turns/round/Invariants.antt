@@ -1,0 +1,14 @@
+use Rattle.std.proofs.Common.{◌≡◌, ◌≤◌, vec_capacity}
+use Rattle.ftl_cells.specs.State.{live}
+use Rattle.ftl_cells.specs.Calls.{IsMadeBy}
+use Rattle.ftl_cells.specs.declared.place.HandPlace.TheVariants.{Idle}
+use Rattle.ftl_parts_cases.proofs.turns.round.Given as goal
+
+abbrev pub invariant-loop-item : goal.invariant-loop-item
+invariant-loop-item g l = record {
+  made : IsMadeBy (g.W.Meant.meaning l.cells.1) l.cells.0 l.hand;
+  idle : l.hand.state.place ≡ live Idle;
+  buffer : (g.W.Meant.meaning l.cells.1).max_reads ≤ vec_capacity l.reads;
+  room : l.stack.room ≡ l.initial.stack.room;
+  few : l.taken ≤ l.item;
+}

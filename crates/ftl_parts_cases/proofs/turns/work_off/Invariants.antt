@@ -1,0 +1,11 @@
+use Rattle.std.proofs.Common.{◌≡◌}
+use Rattle.ftl_cells.specs.State.{live}
+use Rattle.ftl_cells.specs.Calls.{IsMadeBy}
+use Rattle.ftl_cells.specs.declared.place.HandPlace.TheVariants.{Idle}
+use Rattle.ftl_parts_cases.proofs.turns.work_off.Given as goal
+
+abbrev pub invariant-loop : goal.invariant-loop
+invariant-loop g l = record {
+  made : IsMadeBy (g.W.Meant.meaning l.cells.1) l.cells.0 l.hand;
+  idle : l.hand.state.place ≡ live Idle;
+}

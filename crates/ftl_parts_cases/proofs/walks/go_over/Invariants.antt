@@ -1,0 +1,6 @@
+use Rattle.ftl_cells.specs.Calls.{IsMadeBy}
+use Rattle.ftl_parts_cases.specs.Hands.{AreAll}
+use Rattle.ftl_parts_cases.proofs.walks.go_over.Given as goal
+
+abbrev pub invariant-loop-hand : goal.invariant-loop-hand
+invariant-loop-hand g l = AreAll (IsMadeBy (g.W.Meant.meaning l.cells.1) l.cells.0) l.hands.items

@@ -1,6 +1,0 @@
-use Rattle.ftl_cells.specs.Calls.{IsMadeBy}
-use Rattle.ftl_replay_tests.specs.Hands.{AreAll}
-use Rattle.ftl_replay_tests.proofs.random_walks.draw_walk.Given as goal
-
-abbrev pub invariant-loop : goal.invariant-loop
-invariant-loop g l = AreAll (IsMadeBy (g.W.Meant.meaning l.cells.1) l.cells.0) l.hands.items

@@ -1,9 +1,0 @@
-use Rattle.ftl_cells.specs.Calls.{IsMadeBy}
-use Rattle.ftl_replay_tests.specs.Hands.{AreAll}
-use Rattle.ftl_replay_tests.proofs.random_walks.go_round.Given as goal
-
-abbrev pub invariant-loop-event : goal.invariant-loop-event
-invariant-loop-event g l = AreAll (IsMadeBy (g.W.Meant.meaning l.cells.1) l.cells.0) l.hands.items
-
-abbrev pub invariant-loop-hand : goal.invariant-loop-hand
-invariant-loop-hand g l = AreAll (IsMadeBy (g.W.Meant.meaning l.cells.1) l.cells.0) l.hands.items

@@ -1,2 +1,0 @@
-mod matrices;
-mod rows;
