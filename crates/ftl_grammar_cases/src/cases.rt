@@ -44,8 +44,8 @@ fn write_of_grammar(
     write_answers(out, alloc, wanted, text, requests)
 }
 
-/// What is wanted of a document. Its title begins with the name of a shipped grammar, or with `own`,
-/// where the grammar's text stands before `==`; then may stand the way in which it asks.
+/// What is wanted of a document. Its title begins with the name of a shipped grammar, or with
+/// `own`, where the grammar's text stands before `==`; then may stand the way in which it asks.
 fn write_of_document(
     out: &mut String,
     alloc: Global,

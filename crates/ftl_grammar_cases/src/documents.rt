@@ -1,11 +1,11 @@
 //! What the text of a document means by a grammar: its refusal line, or where it has none, a line
-//! for each node of the tree, one with the inputs of all nodes, and the tree's canonical text. A case
-//! may ask for another way: `wide` for numbers of the wide width, `cut` for each front of the
-//! document, `built` for a document whose lines say how often a piece of it comes, of which only the
-//! counts are printed, `set` for inputs that are set to other numbers, which lines behind `==` name
-//! by node, field and number; of their tree only the text is printed; `bare` for the tree with the
-//! same rows and every input 0; and `instances` for a line for each node with its first instance, and
-//! each child's kids with theirs.
+//! for each node of the tree, one with the inputs of all nodes, and the tree's canonical text. A
+//! case may ask for another way: `wide` for numbers of the wide width, `cut` for each front of the
+//! document, `built` for a document whose lines say how often a piece of it comes, of which only
+//! the counts are printed, `set` for inputs that are set to other numbers, which lines behind `==`
+//! name by node, field and number; of their tree only the text is printed; `bare` for the tree with
+//! the same rows and every input 0; and `instances` for a line for each node with its first
+//! instance, and each child's kids with theirs.
 
 ghost use Rattle.std.specs.Prelude.{◌≡◌};
 ghost use Rattle.ftl_base.specs.Widths.{greatest_of_width};
@@ -55,7 +55,8 @@ pub(crate) fn write_document(
     }
 }
 
-/// A line for each front of a document of ASCII, with its length before it, and what the whole gives.
+/// A line for each front of a document of ASCII, with its length before it, and what the whole
+/// gives.
 fn write_fronts(
     alloc: Global,
     out: &mut String,

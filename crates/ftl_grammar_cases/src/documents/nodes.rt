@@ -38,10 +38,10 @@ fn write_inputs_of(
     tree: &Tree,
     scanned: &WideScanned,
 ) -> Result<(), AllocError> {
-    if let Ok(document) = read_written_document(alloc, scanned)
-        && let Ok(nodes) = document_nodes(alloc, tree.checked(), &document)
-    {
-        return write_inputs(out, nodes.inputs.as_slice());
+    if let Ok(document) = read_written_document(alloc, scanned) {
+        if let Ok(nodes) = document_nodes(alloc, tree.checked(), &document) {
+            write_inputs(out, nodes.inputs.as_slice())?;
+        }
     }
     Ok(())
 }
