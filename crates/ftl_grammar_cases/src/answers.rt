@@ -2,6 +2,8 @@
 
 ghost use Rattle.ftl_programs.specs.Compilable.{HasCode};
 
+use crate::documents::way::Way;
+use crate::documents::write_document;
 use crate::found::write_all_found;
 use crate::names::{write_attribute_names, write_rule_names};
 use crate::numbers::{write_attributes, write_classes};
@@ -13,43 +15,71 @@ use ftl_checked::Checked;
 use ftl_grammar_texts::grammar_of_text;
 use std::alloc::{AllocError, Global};
 
+/// What is wanted of a grammar.
+#[derive(Clone, Copy)]
+pub(crate) enum Wanted {
+    Found,
+    Names,
+    Rules,
+    Whole,
+    Schedules,
+    Requests(Width),
+    Document(Way),
+}
+
+/// What a word asks for.
+pub(crate) fn wanted_by(word: &str) -> Wanted {
+    match word {
+        "found" => Wanted::Found,
+        "names" => Wanted::Names,
+        "rules" => Wanted::Rules,
+        "whole" => Wanted::Whole,
+        "schedules" => Wanted::Schedules,
+        "wide" => Wanted::Requests(Width::Wide),
+        _ => Wanted::Requests(Width::Narrow),
+    }
+}
+
+/// The width of numbers.
+fn width_of(wanted: Wanted) -> Width {
+    match wanted {
+        Wanted::Requests(width) => width,
+        Wanted::Document(Way::Wide) => Width::Wide,
+        _ => Width::Narrow,
+    }
+}
+
 /// What is wanted of the grammar that the text spells.
 pub(crate) fn write_answers(
     out: &mut String,
     alloc: Global,
-    verb: &str,
+    wanted: Wanted,
     text: &str,
-    requests: &str,
+    body: &str,
 ) -> Result<(), AllocError> {
-    match grammar_of_text(alloc, text, width_of(verb))? {
-        Some(checked) => write_wanted(out, alloc, verb, &checked, requests),
+    match grammar_of_text(alloc, text, width_of(wanted))? {
+        Some(checked) => write_wanted(out, alloc, wanted, &checked, body),
         None => out.push_str("no lawful grammar\n"),
-    }
-}
-
-fn width_of(verb: &str) -> Width {
-    match verb {
-        "wide" => Width::Wide,
-        _ => Width::Narrow,
     }
 }
 
 fn write_wanted(
     out: &mut String,
     alloc: Global,
-    verb: &str,
+    wanted: Wanted,
     checked: &Checked,
-    requests: &str,
+    body: &str,
 ) -> Result<(), AllocError>
     requires code { HasCode checked.now.grammar }
 {
-    match verb {
-        "found" => write_all_found(out, checked, requests),
-        "names" => write_attribute_names(out, checked),
-        "rules" => write_rule_names(out, alloc, checked),
-        "whole" => write_whole(out, alloc, checked),
-        "schedules" => write_schedules(out, alloc, checked, requests),
-        _ => write_indexed(out, alloc, checked, requests),
+    match wanted {
+        Wanted::Found => write_all_found(out, checked, body),
+        Wanted::Names => write_attribute_names(out, checked),
+        Wanted::Rules => write_rule_names(out, alloc, checked),
+        Wanted::Whole => write_whole(out, alloc, checked),
+        Wanted::Schedules => write_schedules(out, alloc, checked, body),
+        Wanted::Requests(_) => write_indexed(out, alloc, checked, body),
+        Wanted::Document(way) => write_document(alloc, out, way, checked, body),
     }
 }
 

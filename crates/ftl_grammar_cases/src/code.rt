@@ -10,15 +10,19 @@ use std::str::SplitWhitespace;
 /// The rule and the part that these words name.
 pub(crate) fn part_in(words: &mut SplitWhitespace<'_>) -> Option<(u32, Part)> {
     let rule = words.next()?.parse::<u32>().ok()?;
-    let part = match words.next()? {
-        "plain" => Part::Plain,
-        "first" => Part::First,
-        "then" => Part::Then,
-        "from" => Part::From,
-        "with" => Part::With,
-        _ => return None,
-    };
+    let part = part_named(words.next()?)?;
     Some((rule, part))
+}
+
+fn part_named(word: &str) -> Option<Part> {
+    match word {
+        "plain" => Some(Part::Plain),
+        "first" => Some(Part::First),
+        "then" => Some(Part::Then),
+        "from" => Some(Part::From),
+        "with" => Some(Part::With),
+        _ => None,
+    }
 }
 
 /// The code that a request asks for by a rule and a part, and how many reads it takes.

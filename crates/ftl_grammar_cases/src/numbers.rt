@@ -14,10 +14,16 @@ pub(crate) fn write_attributes(out: &mut String, checked: &Checked) -> Result<()
         write!(out, "attribute {attr} ")?;
         write_attribute(out, checked, attr)?;
         out.push_str(kind_word(info.kind))?;
-        out.push_str(if info.of_class { " own" } else { "" })?;
-        out.push_str(if info.shown { " shown\n" } else { "\n" })?;
+        out.push_str(word_if(info.of_class, " own"))?;
+        out.push_str(word_if(info.shown, " shown"))?;
+        out.push('\n')?;
     }
     Ok(())
+}
+
+/// The word, where it holds.
+fn word_if(holds: bool, word: &'static str) -> &'static str {
+    if holds { word } else { "" }
 }
 
 fn kind_word(kind: AttrKind) -> &'static str {
@@ -43,6 +49,6 @@ pub(crate) fn write_classes(out: &mut String, checked: &Checked) -> Result<(), A
 }
 
 fn write_child(out: &mut String, child: u32, info: ChildInfo) -> Result<(), AllocError> {
-    let many = if info.many { " list" } else { "" };
+    let many = word_if(info.many, " list");
     write!(out, ", child {child} of {}{many}", info.interface)
 }

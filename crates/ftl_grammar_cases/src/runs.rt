@@ -5,6 +5,7 @@ use ftl_base::{CodeStack, Val};
 use ftl_visit::{Part, Programs, Runner, run_code};
 use std::alloc::{AllocError, Global};
 use std::fmt::Write;
+use std::str::SplitWhitespace;
 
 /// A part of a rule, and what it is run on.
 #[derive(Drop)]
@@ -21,19 +22,25 @@ fn run_in(alloc: Global, request: &str) -> Result<Option<Run>, AllocError> {
     let Some((rule, part)) = part_in(&mut words) else {
         return Ok(None);
     };
-    let Some(Some(so_far)) = words.next().map(value_in) else {
+    let Some(so_far) = words.next().and_then(value_in) else {
         return Ok(None);
     };
-    let mut reads = Vec::new(alloc);
-    for word in words {
-        reads.push(value_in(word))?;
-    }
+    let reads = values_in(alloc, words)?;
     Ok(Some(Run {
         rule,
         part,
         so_far,
         reads,
     }))
+}
+
+/// What the words are.
+fn values_in(alloc: Global, words: SplitWhitespace<'_>) -> Result<Vec<Option<Val>>, AllocError> {
+    let mut values = Vec::new(alloc);
+    for word in words {
+        values.push(value_in(word))?;
+    }
+    Ok(values)
 }
 
 /// A number or Overflow; none for any other word.
@@ -51,10 +58,19 @@ pub(crate) fn write_run(
     programs: &Programs,
     request: &str,
 ) -> Result<(), AllocError> {
-    let Some(run) = run_in(alloc, request)? else {
-        return out.push_str(" no request");
-    };
-    match given(alloc, programs, &run)? {
+    match run_in(alloc, request)? {
+        Some(run) => write_given(out, alloc, programs, &run),
+        None => out.push_str(" no request"),
+    }
+}
+
+fn write_given(
+    out: &mut String,
+    alloc: Global,
+    programs: &Programs,
+    run: &Run,
+) -> Result<(), AllocError> {
+    match given(alloc, programs, run)? {
         Some(value) => write_value(out, value),
         None => out.push_str(" no such part of so many reads"),
     }
@@ -78,10 +94,19 @@ pub(crate) fn write_twice(
     programs: &Programs,
     request: &str,
 ) -> Result<(), AllocError> {
-    let Some(run) = run_in(alloc, request)? else {
-        return out.push_str(" no request");
-    };
-    match given_twice(alloc, programs, &run)? {
+    match run_in(alloc, request)? {
+        Some(run) => write_given_twice(out, alloc, programs, &run),
+        None => out.push_str(" no request"),
+    }
+}
+
+fn write_given_twice(
+    out: &mut String,
+    alloc: Global,
+    programs: &Programs,
+    run: &Run,
+) -> Result<(), AllocError> {
+    match given_twice(alloc, programs, run)? {
         Some((runs, value)) => {
             write!(out, " {runs} runs,")?;
             write_value(out, value)

@@ -4,6 +4,7 @@ use ftl_schedule_syntax::PassKind;
 use ftl_visit::{RuleIndex, VisitOp, visit_list};
 use std::alloc::{AllocError, Global};
 use std::fmt::Write;
+use std::str::SplitWhitespace;
 
 /// The visit that a request asks for by its kind, its class and its attributes.
 pub(crate) fn write_visit(
@@ -13,16 +14,22 @@ pub(crate) fn write_visit(
     request: &str,
 ) -> Result<(), AllocError> {
     let mut words = request.split_whitespace();
-    let kind = words.next().and_then(kind_named);
-    let class = words.next().and_then(number_in);
-    let mut attrs = Vec::new(alloc);
+    let Some(kind) = words.next().and_then(kind_named) else {
+        return out.push_str(" no request");
+    };
+    let Some(class) = words.next().and_then(number_in) else {
+        return out.push_str(" no request");
+    };
+    let attrs = numbers_in(alloc, words)?;
+    write_ops(out, alloc, index, kind, attrs.as_slice(), class)
+}
+
+fn numbers_in(alloc: Global, words: SplitWhitespace<'_>) -> Result<Vec<u32>, AllocError> {
+    let mut numbers = Vec::new(alloc);
     for word in words {
-        attrs.push(number_in(word).unwrap_or(u32::MAX))?;
+        numbers.push(number_in(word).unwrap_or(u32::MAX))?;
     }
-    match (kind, class) {
-        (Some(kind), Some(class)) => write_ops(out, alloc, index, kind, attrs.as_slice(), class),
-        _ => out.push_str(" no request"),
-    }
+    Ok(numbers)
 }
 
 fn kind_named(word: &str) -> Option<PassKind> {

@@ -19,21 +19,38 @@ pub(crate) fn write_nodes(
     tree: &Tree,
     scanned: &WideScanned,
 ) -> Result<(), AllocError> {
+    write_all_nodes(out, tree)?;
+    write_inputs_of(alloc, out, tree, scanned)?;
+    write_text(alloc, out, tree)
+}
+
+fn write_all_nodes(out: &mut String, tree: &Tree) -> Result<(), AllocError> {
     for node in 0..tree.node_count() {
         write_node(out, tree, node)?;
     }
+    Ok(())
+}
+
+/// The inputs of all nodes, as the document gives them.
+fn write_inputs_of(
+    alloc: Global,
+    out: &mut String,
+    tree: &Tree,
+    scanned: &WideScanned,
+) -> Result<(), AllocError> {
     if let Ok(document) = read_written_document(alloc, scanned) {
         if let Ok(nodes) = document_nodes(alloc, tree.checked(), &document) {
             write_inputs(out, nodes.inputs.as_slice())?;
         }
     }
-    write_text(alloc, out, tree)
+    Ok(())
 }
 
 /// The tree's canonical text.
 pub(crate) fn write_text(alloc: Global, out: &mut String, tree: &Tree) -> Result<(), AllocError> {
+    out.push_str("text ")?;
     let text = print_document(alloc, tree)?;
-    write!(out, "text {text}")
+    out.push_str(text.as_str())
 }
 
 /// A line for each node of the tree that has the rows of this one and every input 0, and its text.
@@ -42,10 +59,12 @@ pub(crate) fn write_bare(alloc: Global, out: &mut String, tree: &Tree) -> Result
     let _instances = tree.instance_count();
     let rows = rows_of_tree(alloc, tree)?;
     let bare = bare_tree(alloc, tree.checked(), rows.as_slice())?;
-    for node in 0..bare.node_count() {
-        write_node(out, &bare, node)?;
-    }
-    write_text(alloc, out, &bare)
+    write_nodes_and_text(alloc, out, &bare)
+}
+
+fn write_nodes_and_text(alloc: Global, out: &mut String, tree: &Tree) -> Result<(), AllocError> {
+    write_all_nodes(out, tree)?;
+    write_text(alloc, out, tree)
 }
 
 fn rows_of_tree(alloc: Global, tree: &Tree) -> Result<Vec<NodeRow>, AllocError>

@@ -1,8 +1,11 @@
-//! What is found of a text, in words.
+//! What is found of a grammar's text, in words.
 
-use crate::shape::write_shape;
+pub(crate) mod rows;
+mod shape;
+
 use ftl_grammar::{Class, Grammar, Interface, SyntaxFault, read_grammar};
 use ftl_tokens::{Scanned, tokens};
+use shape::write_shape;
 use std::alloc::{AllocError, Global};
 use std::fmt::Write;
 
@@ -15,7 +18,7 @@ enum Wish {
     Nothing,
     Counts,
     /// A class and one of its rules.
-    Rule(usize, usize),
+    Rule(u32, u32),
 }
 
 /// Whether a text is read, or where it goes wrong.
@@ -29,7 +32,7 @@ enum Reading {
 }
 
 /// Whether a text is read, or where it goes wrong.
-pub fn write_answer(alloc: Global, out: &mut String, text: &str) -> Result<(), AllocError> {
+pub(crate) fn write_answer(alloc: Global, out: &mut String, text: &str) -> Result<(), AllocError> {
     match read_text(alloc, out, text, Wish::Nothing)? {
         Reading::Read => out.push_str("read"),
         Reading::Syntax(at) => write!(out, "syntax at {at}"),
@@ -40,7 +43,7 @@ pub fn write_answer(alloc: Global, out: &mut String, text: &str) -> Result<(), A
 }
 
 /// How many fronts of a text of ASCII are read, and of how many the answer is no place in them.
-pub fn write_cuts(alloc: Global, out: &mut String, text: &str) -> Result<(), AllocError> {
+pub(crate) fn write_cuts(alloc: Global, out: &mut String, text: &str) -> Result<(), AllocError> {
     let mut read = 0u32;
     let mut odd = 0u32;
     for len in 0..text.len() {
@@ -56,21 +59,21 @@ pub fn write_cuts(alloc: Global, out: &mut String, text: &str) -> Result<(), All
 
 /// Of each interface its name, its attributes and those it shows, then of each class its name, its
 /// own attributes, its children and its rules.
-pub fn write_counts(alloc: Global, out: &mut String, text: &str) -> Result<(), AllocError> {
+pub(crate) fn write_counts(alloc: Global, out: &mut String, text: &str) -> Result<(), AllocError> {
     read_text(alloc, out, text, Wish::Counts)?;
     Ok(())
 }
 
 /// The class and the rule with the numbers that the row begins with, and the rule form by form.
-pub fn write_rule(
+pub(crate) fn write_rule(
     alloc: Global,
     out: &mut String,
     text: &str,
     row: &str,
 ) -> Result<(), AllocError> {
-    let mut words = row.split(" ");
-    let class = words.next().unwrap_or("").parse::<usize>().unwrap_or(0);
-    let rule = words.next().unwrap_or("").parse::<usize>().unwrap_or(0);
+    let mut words = row.split_whitespace();
+    let class = words.next().unwrap_or("").parse::<u32>().unwrap_or(0);
+    let rule = words.next().unwrap_or("").parse::<u32>().unwrap_or(0);
     read_text(alloc, out, text, Wish::Rule(class, rule))?;
     Ok(())
 }
@@ -145,13 +148,13 @@ fn write_rule_of(
     alloc: Global,
     out: &mut String,
     grammar: &Grammar,
-    class: usize,
-    rule: usize,
+    class: u32,
+    rule: u32,
 ) -> Result<(), AllocError> {
-    let Some(found) = grammar.classes.get(class) else {
+    let Some(found) = grammar.classes.get(class as usize) else {
         return Ok(());
     };
-    let Some(found) = found.rules.get(rule) else {
+    let Some(found) = found.rules.get(rule as usize) else {
         return Ok(());
     };
     write!(out, "{class} {rule} ")?;

@@ -1,6 +1,6 @@
 //! Inputs of a tree that a case sets.
 
-use crate::answer::greatest_number;
+use crate::documents::greatest_number;
 use ftl_checked::Field;
 use ftl_tree::Tree;
 

@@ -10,12 +10,37 @@
 //!
 //! A part `` `64 (` `` of a text stands for 64 times `(`. Other lines are no rows.
 
-use crate::answers::{write_answer, write_counts, write_cuts, write_rule};
+use crate::repeated::push_repeated;
+use crate::syntax::{write_answer, write_counts, write_cuts, write_rule};
 use std::alloc::{AllocError, Global};
 use std::fmt::Write;
 
+/// The rows that are answered otherwise than they say, and how many rows there are.
+pub(crate) fn write_rows(alloc: Global, out: &mut String, text: &str) -> Result<(), AllocError> {
+    let mut rows = Rows::new(alloc);
+    let count = write_otherwise(alloc, out, &mut rows, text)?;
+    write!(out, "{count} rows\n")
+}
+
+/// Writes those rows, and counts all.
+fn write_otherwise(
+    alloc: Global,
+    out: &mut String,
+    rows: &mut Rows,
+    text: &str,
+) -> Result<u64, AllocError> {
+    let mut count = 0u64;
+    for line in text.lines() {
+        if rows.take(alloc, line)? {
+            count = count.wrapping_add(1);
+            rows.write_otherwise(out, line)?;
+        }
+    }
+    Ok(count)
+}
+
 #[derive(Drop)]
-pub struct Rows {
+struct Rows {
     frame: String,
     text: String,
     in_text: bool,
@@ -25,7 +50,7 @@ pub struct Rows {
 }
 
 impl Rows {
-    pub fn new(alloc: Global) -> Rows {
+    fn new(alloc: Global) -> Rows {
         Rows {
             frame: String::new(alloc),
             text: String::new(alloc),
@@ -36,7 +61,7 @@ impl Rows {
     }
 
     /// Writes the last row that was judged, where it is answered otherwise than it says.
-    pub fn write_otherwise(&self, out: &mut String, line: &str) -> Result<(), AllocError> {
+    fn write_otherwise(&self, out: &mut String, line: &str) -> Result<(), AllocError> {
         let (wanted, found) = (self.wanted.as_str(), self.found.as_str());
         if wanted == found {
             return Ok(());
@@ -45,7 +70,7 @@ impl Rows {
     }
 
     /// Whether a line is a row that is judged.
-    pub fn take(&mut self, alloc: Global, line: &str) -> Result<bool, AllocError> {
+    fn take(&mut self, alloc: Global, line: &str) -> Result<bool, AllocError> {
         if self.in_text {
             return self.text_line(alloc, line);
         }
@@ -54,7 +79,7 @@ impl Rows {
             self.in_text = true;
             return Ok(false);
         }
-        let (word, rest) = line.split_once(" ").unwrap_or(("", ""));
+        let (word, rest) = line.split_once(' ').unwrap_or(("", ""));
         if word == "in" {
             self.frame.clear();
             self.frame.push_str(rest)?;
@@ -67,7 +92,7 @@ impl Rows {
     fn text_line(&mut self, alloc: Global, line: &str) -> Result<bool, AllocError> {
         if line != "end" {
             self.text.push_str(line)?;
-            self.text.push_str("\n")?;
+            self.text.push('\n')?;
             return Ok(false);
         }
         self.in_text = false;
@@ -102,7 +127,7 @@ impl Rows {
     // A row where the frame has `~`.
     fn framed(&self, alloc: Global, row: &str) -> Result<String, AllocError> {
         let mut whole = String::new(alloc);
-        let (before, after) = self.frame.as_str().split_once("~").unwrap_or(("", ""));
+        let (before, after) = self.frame.as_str().split_once('~').unwrap_or(("", ""));
         whole.push_str(before)?;
         repeat_parts(&mut whole, row)?;
         whole.push_str(after)?;
@@ -111,37 +136,44 @@ impl Rows {
 
     // Whether a text is read, or goes wrong at its mark.
     fn marked(&mut self, alloc: Global, marked: &str) -> Result<(), AllocError> {
-        let (front, back, fault) = if let Some((front, back)) = marked.split_once("@") {
-            (front, back, "syntax at")
-        } else if let Some((front, back)) = marked.split_once("^") {
-            (front, back, "too deep at")
-        } else {
-            (marked, "", "read")
-        };
+        let (front, back) = split_at_mark(marked);
         self.text.clear();
         self.text.push_str(front)?;
         self.text.push_str(back)?;
         self.wanted.clear();
-        self.wanted.push_str(fault)?;
-        if fault != "read" {
-            write!(self.wanted, " {}", front.len())?;
-        }
+        write_wanted(&mut self.wanted, marked, front.len())?;
         self.found.clear();
         write_answer(alloc, &mut self.found, self.text.as_str())
     }
 }
 
-// A text with each part between backquotes repeated as often as it says.
+/// What stands before and after the mark of a text; all of it before, where it has none.
+fn split_at_mark(text: &str) -> (&str, &str) {
+    match text.split_once('@') {
+        Some(parts) => parts,
+        None => text.split_once('^').unwrap_or((text, "")),
+    }
+}
+
+/// The answer that the mark of a text asks for, at this place.
+fn write_wanted(out: &mut String, text: &str, at: usize) -> Result<(), AllocError> {
+    if text.contains('@') {
+        write!(out, "syntax at {at}")
+    } else if text.contains('^') {
+        write!(out, "too deep at {at}")
+    } else {
+        out.push_str("read")
+    }
+}
+
+/// A text with each part between backquotes repeated as often as it says.
 fn repeat_parts(out: &mut String, row: &str) -> Result<(), AllocError> {
     let mut inside = false;
-    for part in row.split("`") {
-        match part.split_once(" ") {
-            Some((times, middle)) if inside => {
-                for _time in 0..times.parse::<u32>().unwrap_or(0) {
-                    out.push_str(middle)?;
-                }
-            }
-            _ => out.push_str(part)?,
+    for part in row.split('`') {
+        if inside {
+            push_repeated(out, part, "")?;
+        } else {
+            out.push_str(part)?;
         }
         inside = !inside;
     }

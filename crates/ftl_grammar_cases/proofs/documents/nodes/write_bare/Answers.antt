@@ -6,7 +6,7 @@ use Rattle.ftl_grammar_faults.specs.Checked.{CheckedGrammar}
 use Rattle.ftl_tree.specs.Bare.{AreBareRows}
 use Rattle.ftl_tree_rows.specs.Rows.{rows_of}
 use Rattle.ftl_tree_rows.specs.declared.row.NodeRow.{NodeRow}
-use Rattle.ftl_document_cases.proofs.nodes.write_bare.Goals as goal
+use Rattle.ftl_grammar_cases.proofs.documents.nodes.write_bare.Goals as goal
 
 pub bare_tree-requires : goal.bare_tree-requires
 bare_tree-requires c =

@@ -9,7 +9,7 @@ use Rattle.ftl_model.specs.TreeOf.{IsTreeOf}
 use Rattle.ftl_tree_rows.specs.Rows.{row_of, rows_of}
 use Rattle.ftl_tree_rows.specs.declared.row.NodeRow.{NodeRow}
 use Rattle.ftl_tree_rows.proofs.Access.{at_node, length-by_node}
-use Rattle.ftl_document_cases.proofs.nodes.rows_of_tree.Goals as goal
+use Rattle.ftl_grammar_cases.proofs.documents.nodes.rows_of_tree.Goals as goal
 
 abbrev no_row : NodeRow
 no_row = record { class = 0; parent = 0; place = record { child = 0; kid = 0 } }

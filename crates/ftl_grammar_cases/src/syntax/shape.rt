@@ -25,7 +25,7 @@ enum Part<'a> {
 }
 
 /// Writes a rule: its target, and its right side.
-pub fn write_shape(alloc: Global, out: &mut String, rule: &Rule) -> Result<(), AllocError> {
+pub(crate) fn write_shape(alloc: Global, out: &mut String, rule: &Rule) -> Result<(), AllocError> {
     write_target(out, &rule.target)?;
     let mut left = Items::new(alloc);
     write_parts(out, &mut left, &rule.body)

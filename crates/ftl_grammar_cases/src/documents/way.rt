@@ -1,5 +1,6 @@
 //! The ways in which a case asks.
 
+use crate::repeated::push_repeated;
 use std::alloc::{AllocError, Global};
 
 /// How a case gives its document, and what of it is printed.
@@ -44,11 +45,7 @@ pub(crate) fn way_of(word: &str) -> Way {
 pub(crate) fn built(alloc: Global, lines: &str) -> Result<String, AllocError> {
     let mut document = String::new(alloc);
     for line in lines.lines() {
-        let (count, piece) = line.split_once(' ').unwrap_or(("0", line));
-        for _ in 0..count.parse::<u32>().unwrap_or(0) {
-            document.push_str(piece)?;
-            document.push(' ')?;
-        }
+        push_repeated(&mut document, line, " ")?;
     }
     Ok(document)
 }

@@ -12,8 +12,8 @@ use Rattle.ftl_order.proofs.Kids.{class_known}
 use Rattle.ftl_syntax.specs.declared.rules.Grammar.{Grammar}
 use Rattle.ftl_tree_rows.proofs.Access.{has_at}
 use Rattle.ftl_tree_rows.specs.declared.row.NodeRow.{NodeRow}
-use Rattle.ftl_document_cases.proofs.NamedInputs.{input_named}
-use Rattle.ftl_document_cases.proofs.edits.set.Goals as goal
+use Rattle.ftl_grammar_cases.proofs.NamedInputs.{input_named}
+use Rattle.ftl_grammar_cases.proofs.documents.edits.set.Goals as goal
 
 pub find_field-requires : goal.find_field-requires
 find_field-requires c =

@@ -6,7 +6,7 @@ use Rattle.ftl_model.specs.Path.{class_at, node_at}
 use Rattle.ftl_order.proofs.Kids.{class_known}
 use Rattle.ftl_tree_rows.proofs.Access.{has_at}
 use Rattle.ftl_tree_rows.specs.declared.row.NodeRow.{NodeRow}
-use Rattle.ftl_document_cases.proofs.instances.write_node.Goals as goal
+use Rattle.ftl_grammar_cases.proofs.documents.instances.write_node.Goals as goal
 
 pub child_count-child-end-requires : goal.child_count-child-end-requires
 child_count-child-end-requires c =
