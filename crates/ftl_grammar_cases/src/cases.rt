@@ -10,7 +10,7 @@ use std::alloc::{AllocError, Global};
 /// The cases, each with its first line.
 pub(crate) fn write_cases(alloc: Global, out: &mut String, text: &str) -> Result<(), AllocError> {
     for case in text.split('%').skip(1) {
-        let (title, body) = case.split_once('\n').unwrap_or((case, ""));
+        let (title, body) = parted(case, "\n");
         out.push('%')?;
         out.push_str(title)?;
         out.push('\n')?;
@@ -20,7 +20,7 @@ pub(crate) fn write_cases(alloc: Global, out: &mut String, text: &str) -> Result
 }
 
 fn write_case(out: &mut String, alloc: Global, title: &str, body: &str) -> Result<(), AllocError> {
-    let (verb, title) = title.split_once(' ').unwrap_or((title, ""));
+    let (verb, title) = parted(title, " ");
     match verb {
         "places" => write_places(out),
         "syntax" => write_rows(alloc, out, body),
@@ -40,7 +40,7 @@ fn write_of_grammar(
     if let Some(name) = title.strip_prefix("grammar ") {
         return write_answers(out, alloc, wanted, shipped(name).unwrap_or(""), body);
     }
-    let (text, requests) = body.split_once("\n\n").unwrap_or((body, ""));
+    let (text, requests) = parted(body, "\n\n");
     write_answers(out, alloc, wanted, text, requests)
 }
 
@@ -52,12 +52,17 @@ fn write_of_document(
     title: &str,
     body: &str,
 ) -> Result<(), AllocError> {
-    let (name, rest) = title.split_once(' ').unwrap_or((title, ""));
-    let (word, _title) = rest.split_once(' ').unwrap_or((rest, ""));
+    let (name, rest) = parted(title, " ");
+    let (word, _title) = parted(rest, " ");
     let wanted = Wanted::Document(way_of(word));
     if name != "own" {
         return write_answers(out, alloc, wanted, shipped(name).unwrap_or(""), body);
     }
-    let (text, document) = body.split_once("==").unwrap_or((body, ""));
+    let (text, document) = parted(body, "==");
     write_answers(out, alloc, wanted, text, document)
+}
+
+/// What stands before the mark, and what stands behind it; all and nothing where there is none.
+fn parted<'a>(text: &'a str, mark: &str) -> (&'a str, &'a str) {
+    text.split_once(mark).unwrap_or((text, ""))
 }
