@@ -1,5 +1,7 @@
+ghost use Rattle.std.specs.Prelude.{◌≡◌, ◌↔◌, IsTrue};
+
 /// When an item is filled.
-#[derive(Clone, Copy, PartialEq, Eq)]
+#[derive(Clone, Copy)]
 pub enum Turn {
     /// Before all ranges.
     First,
@@ -9,6 +11,19 @@ pub enum Turn {
 
     /// After all ranges.
     Last,
+}
+
+impl Turn {
+    /// Whether two turns are one.
+    pub fn is(self, other: Turn) -> bool
+        ensures same { IsTrue result ↔ (self ≡ other) }
+    {
+        match (self, other) {
+            (Turn::First, Turn::First) | (Turn::Last, Turn::Last) => true,
+            (Turn::Range(range), Turn::Range(other)) => range == other,
+            _ => false,
+        }
+    }
 }
 
 /// The turn of each item of a work, and the ranges.

@@ -1,0 +1,207 @@
+//! All turns of a work.
+ghost use Rattle.std.specs.Prelude.{◌≡◌, ◌+◌, ◌<◌, ◌≤◌, [], length, vec_len, IfOk};
+ghost use Rattle.std.specs.Prelude.{slice_range, vec_capacity};
+ghost use Rattle.ftl_cells.specs.State.{AreFirst, AreLast};
+ghost use Rattle.ftl_cells.specs.Work.{IsLawfulWork, item_total, cell_total};
+ghost use Rattle.ftl_ranges.specs.Filled.{IsFilledIn};
+ghost use Rattle.ftl_ranges.specs.Workers.{AreDone, AreReady, HaveRoom, IsDone, IsReady};
+ghost use Rattle.crossbeam_utils.specs.Padded.{padded_value};
+ghost use Rattle.ftl_turns.specs.Turns.{CanTake};
+ghost use Rattle.ftl_turns.specs.declared.turn.Turn.TheVariants.{First, Last};
+
+use crate::buffers::Buffers;
+use crate::fill::fill_turn;
+use crate::filler::RangeFiller;
+use crate::member::{Member, equip};
+use crossbeam_utils::CachePadded;
+use ftl_cells::Work;
+use ftl_edge::{Gate, OpenGate};
+use ftl_turns::{Turn, Turns};
+use std::alloc::{AllocError, Global};
+use std::mem;
+use std::thread::{Threads, for_each_mut};
+
+/// Fills the cells of a work, turn by turn: the items of the first turn by the calling thread, then
+/// those of each range by a worker of its own, which calls the gate before each, and those of the
+/// last turn by the calling thread again. No cell is shared while it is written.
+pub fn run_ranges<R: Threads + Sync, W: Work, G: Gate>(
+    rt: &R,
+    alloc: Global,
+    work: &W,
+    turns: &Turns,
+    words: Vec<u64>,
+    gate: &G,
+) -> Result<Vec<u64>, AllocError>
+    requires first { AreFirst (W.meaning work.now) words.items }
+    requires turns { CanTake (W.meaning work.now) turns.now }
+    ensures last { IfOk result (λ v. AreLast (W.meaning work.now) v.items) }
+{
+    let mut members = gather(alloc, work, turns)?;
+    let mut buffers = Buffers::new(alloc, work)?;
+    let _items = work.items();
+    let words = fill_all(work, turns, Turn::First, words, &mut buffers);
+    run_all(rt, alloc, work, turns, words.as_slice(), gate, members.as_mut_slice());
+    let words = join(work, turns, members.as_slice(), words)?;
+    Ok(fill_all(work, turns, Turn::Last, words, &mut buffers))
+}
+
+/// The words of all cells after the items of the first or the last turn.
+fn fill_all<W: Work>(
+    work: &W,
+    turns: &Turns,
+    turn: Turn,
+    words: Vec<u64>,
+    buffers: &mut Buffers,
+) -> Vec<u64>
+    requires filled { IsFilledIn (W.meaning work.now) turns.now turn [] words.items 0 0 0 }
+    requires room { HaveRoom (W.meaning work.now) buffers.old }
+    ensures filled { IsFilledIn (W.meaning work.now) turns.now turn [] result.items 0
+        (item_total (W.meaning work.now)) 0 }
+    ensures count { vec_len result ≡ vec_len words }
+    ensures room { HaveRoom (W.meaning work.now) buffers.new }
+{
+    let mut filler = RangeFiller {
+        work,
+        turns,
+        turn,
+        all: &[],
+        first: 0,
+        own: words,
+        item: 0,
+        step: 0,
+        reads: 0,
+    };
+    fill_turn(&mut filler, &OpenGate, 0, buffers);
+    filler.own
+}
+
+/// A worker for each range.
+fn gather<W: Work>(
+    alloc: Global,
+    work: &W,
+    turns: &Turns,
+) -> Result<Vec<CachePadded<Member>>, AllocError>
+    ensures count { IfOk result (λ v. vec_len v ≡ turns.now.ranges) }
+    ensures ready { IfOk result (λ v. AreReady (W.meaning work.now) turns.now v.items) }
+{
+    let cells = work.cells();
+    let mut members = Vec::with_capacity(alloc, turns.ranges as usize)?;
+    let mut first = 0;
+    for range in 0..turns.ranges {
+        let count = turns.size.min(cells - first);
+        members.push(equip(alloc, work, range, first, count)?)?;
+        first += count;
+    }
+    Ok(members)
+}
+
+/// Runs the workers, each in a thread of its own where one can be made.
+fn run_all<R: Threads + Sync, W: Work, G: Gate>(
+    rt: &R,
+    alloc: Global,
+    work: &W,
+    turns: &Turns,
+    all: &[u64],
+    gate: &G,
+    members: &mut [CachePadded<Member>],
+)
+    requires first { IsFilledIn (W.meaning work.now) turns.now First [] all.now 0
+        (item_total (W.meaning work.now)) 0 }
+    requires whole { length all.now ≡ cell_total (W.meaning work.now) }
+    requires ready { AreReady (W.meaning work.now) turns.now members.old }
+    requires known { length members.old ≡ turns.now.ranges }
+    ensures count { length members.new ≡ length members.old }
+    ensures done { AreDone (W.meaning work.now) turns.now all.now members.new }
+{
+    let threads = members.len().max(1);
+    for_each_mut(
+        rt,
+        members,
+        threads,
+        &|range: usize, member: &mut CachePadded<Member>|
+            requires first { IsFilledIn (W.meaning work.now) turns.now First [] all.now 0
+                (item_total (W.meaning work.now)) 0 }
+            requires whole { length all.now ≡ cell_total (W.meaning work.now) }
+            requires range { range < turns.now.ranges }
+            requires ready { IsReady (W.meaning work.now) turns.now range member.now }
+            ensures done { IsDone (W.meaning work.entry.now) turns.entry.now all.entry.now range
+                (padded_value member.exit.now).own.items }
+        { fill_range(alloc, work, turns, all, gate, range, member) },
+    );
+}
+
+/// Fills the items of a range. Its number is for the contract alone.
+fn fill_range<W: Work, G: Gate>(
+    alloc: Global,
+    work: &W,
+    turns: &Turns,
+    all: &[u64],
+    gate: &G,
+    _range: usize,
+    member: &mut CachePadded<Member>,
+)
+    requires first { IsFilledIn (W.meaning work.now) turns.now First [] all.now 0
+        (item_total (W.meaning work.now)) 0 }
+    requires whole { length all.now ≡ cell_total (W.meaning work.now) }
+    requires range { _range < turns.now.ranges }
+    requires ready { IsReady (W.meaning work.now) turns.now _range member.old }
+    ensures done { IsDone (W.meaning work.now) turns.now all.now _range
+        (padded_value member.new).own.items }
+{
+    let member: &mut Member = member;
+    let own = own_words(alloc, all, member);
+    let mut filler = RangeFiller {
+        work,
+        turns,
+        turn: Turn::Range(member.number),
+        all,
+        first: member.first,
+        own,
+        item: 0,
+        step: 0,
+        reads: 0,
+    };
+    fill_turn(&mut filler, gate, member.number, &mut member.buffers);
+    member.own = filler.own;
+}
+
+/// The words of a worker's range, copied into its room.
+fn own_words(alloc: Global, all: &[u64], member: &mut Member) -> Vec<u64>
+    requires none { member.old.own.items ≡ [] }
+    requires room { member.old.count ≤ vec_capacity member.old.own }
+    requires fits { member.old.first + member.old.count ≤ length all.now }
+    ensures words { result.items ≡ slice_range all.now member.old.first
+        (member.old.first + member.old.count) }
+    ensures number { member.new.number ≡ member.old.number }
+    ensures first { member.new.first ≡ member.old.first }
+    ensures buffers { member.new.buffers ≡ member.old.buffers }
+{
+    let first = member.first as usize;
+    let mut own = mem::replace(&mut member.own, Vec::new(alloc));
+    own.extend_from_slice(&all[first..first + member.count as usize])
+        .unwrap();
+    own
+}
+
+/// The words of all ranges, one after the other.
+fn join<W: Work>(
+    _work: &W,
+    _turns: &Turns,
+    members: &[CachePadded<Member>],
+    words: Vec<u64>,
+) -> Result<Vec<u64>, AllocError>
+    requires lawful { IsLawfulWork (W.meaning _work.now) }
+    requires turns { CanTake (W.meaning _work.now) _turns.now }
+    requires known { length members.now ≡ _turns.now.ranges }
+    requires done { AreDone (W.meaning _work.now) _turns.now words.items members.now }
+    ensures filled { IfOk result (λ v. IsFilledIn (W.meaning _work.now) _turns.now Last [] v.items
+        0 0 0) }
+    ensures count { IfOk result (λ v. vec_len v ≡ cell_total (W.meaning _work.now)) }
+{
+    let mut words = words;
+    words.clear();
+    for range in 0..members.len() {
+        words.extend_from_slice(members[range].own.as_slice())?;
+    }
+    Ok(words)
+}
