@@ -18,6 +18,7 @@ mod running;
 mod sound;
 mod stages;
 mod steps;
+mod turns;
 mod words;
 mod work;
 

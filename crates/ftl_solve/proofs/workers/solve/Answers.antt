@@ -14,17 +14,17 @@ loop-stage-init g c =
 pub words_after-requires : goal.words_after-requires
 words_after-requires g c κs =
     let first =
-    subst (λ (v : StageView). AreFirst (meaning_at v) c.loop-stage.words.items) (sym c.stage.ensures.stage)
+    subst (λ (v : StageView). AreFirst (meaning_at v) c.loop-stage.words.items) (sym c.stage-work.ensures.stage)
     c.loop-stage.invariant.first in (
       search sendable depth 30,
-      (search (stage_work_sync, sendable) depth 30, (search sendable depth 30, (first, (c.requires.some, c.requires.few)))),
+      (search (stage_work_sync, sendable) depth 30, (search sendable depth 30, (first, (c.in_ok-turns.ensures.turns, (c.requires.some, c.requires.few))))),
     )
 
 pub loop-stage-preserved : goal.loop-stage-preserved
 loop-stage-preserved g c =
     let words = c.in_ok-words-2.words.items in
     c.words_fit.ensures.next c.loop-stage.stage words
-    (subst (λ (v : StageView). AreLast (meaning_at v) words) c.stage.ensures.stage c.in_ok-words-2.ensures.last)
+    (subst (λ (v : StageView). AreLast (meaning_at v) words) c.stage-work.ensures.stage c.in_ok-words-2.ensures.last)
 
 pub returns : goal.returns
 returns g c =

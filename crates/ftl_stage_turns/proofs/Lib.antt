@@ -1,0 +1,4 @@
+mod Cells
+mod Turning
+mod Taken
+mod Pushed
