@@ -121,10 +121,13 @@ goes_on m t x all own first i f = record {
   given = f.given;
   later = f.later;
   filled = λ k l st b. f.filled k l st (⊎_elim
-      (λ (y : (turn_at t k ≡ x) × IsBefore k l (i + 1) 0). inl (y.0, ⊎_elim
-      (λ (z : k < i + 1). dite (ℕ_discrete k i)
-      (λ e. inr (e, subst (λ q. l < step_total m q) e st.step)) (λ ne. inl (omega arith)))
-      (λ (z : (k ≡ i + 1) × (l < 0)). absurd (omega (arith, z.1))) y.1))
+      (λ (y : (turn_at t k ≡ x) × IsBefore k l (i + 1) 0). inl (
+        y.0,
+        ⊎_elim
+            (λ (z : k < i + 1). dite (ℕ_discrete k i)
+            (λ e. inr (e, subst (λ q. l < step_total m q) e st.step)) (λ ne. inl (omega arith)))
+            (λ (z : (k ≡ i + 1) × (l < 0)). absurd (omega (arith, z.1))) y.1,
+      ))
       (λ y. inr y) b);
 }
 
@@ -139,9 +142,12 @@ passes_by m t x all own first i f other = record {
   given = f.given;
   later = f.later;
   filled = λ k l st b. f.filled k l st (⊎_elim
-      (λ (y : (turn_at t k ≡ x) × IsBefore k l (i + 1) 0). inl (y.0, ⊎_elim
-      (λ (z : k < i + 1). dite (ℕ_discrete k i)
-      (λ e. absurd (other (subst (λ q. turn_at t q ≡ x) e y.0))) (λ ne. inl (omega arith)))
-      (λ (z : (k ≡ i + 1) × (l < 0)). absurd (omega (arith, z.1))) y.1))
+      (λ (y : (turn_at t k ≡ x) × IsBefore k l (i + 1) 0). inl (
+        y.0,
+        ⊎_elim
+            (λ (z : k < i + 1). dite (ℕ_discrete k i)
+            (λ e. absurd (other (subst (λ q. turn_at t q ≡ x) e y.0))) (λ ne. inl (omega arith)))
+            (λ (z : (k ≡ i + 1) × (l < 0)). absurd (omega (arith, z.1))) y.1,
+      ))
       (λ y. inr y) b);
 }

@@ -131,9 +131,13 @@ find size cells c zero b = absurd (omega (arith, b))
 find size cells c (suc n) b =
     ⊎_elim
     (λ low. let f = find size cells c n low in
-        record { range = f.range; below = omega (arith, f.below); from = f.from; to = f.to })
-    (λ (high : range_first size cells n ≤ c). record { range = n; below = omega arith; from = high;
-        to = subst (λ y. c < range_first size cells y) (omega arith) b })
+    record { range = f.range; below = omega (arith, f.below); from = f.from; to = f.to })
+    (λ (high : range_first size cells n ≤ c). record {
+      range = n;
+      below = omega arith;
+      from = high;
+      to = subst (λ y. c < range_first size cells y) (omega arith) b;
+    })
     (below_or c (range_first size cells n))
 
 -- the words of each range, and where they stand among those of all

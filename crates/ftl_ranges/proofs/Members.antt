@@ -66,10 +66,10 @@ ready_push m t workers w ready new = record {
   each = λ b d l. ⊎_elim
       (λ less. subst (IsReady m t b) (sym (get_or_append_left workers (w ∷ []) d b less)) (ready.each b d less))
       (λ (more : length workers ≤ b).
-        let at : b ≡ length workers + 0 = omega (arith, more, l, length-append workers (w ∷ [])) in
-        let is : get_or (workers ++ w ∷ []) (length workers + 0) d ≡ w = get_or-append-add workers (w ∷ []) 0 d in
-        let here : IsReady m t b w = subst (λ n. IsReady m t n w) (omega (arith, at)) new in
-        subst (λ n. IsReady m t b (get_or (workers ++ w ∷ []) n d)) (sym at) (subst (IsReady m t b) (sym is) here))
+      let at : b ≡ length workers + 0 = omega (arith, more, l, length-append workers (w ∷ [])) in
+      let is : get_or (workers ++ w ∷ []) (length workers + 0) d ≡ w = get_or-append-add workers (w ∷ []) 0 d in
+      let here : IsReady m t b w = subst (λ n. IsReady m t n w) (omega (arith, at)) new in
+      subst (λ n. IsReady m t b (get_or (workers ++ w ∷ []) n d)) (sym at) (subst (IsReady m t b) (sym is) here))
       (below_or b (length workers));
 }
 
@@ -84,20 +84,20 @@ joined_push m t all workers words r e done near count joined =
           let P : ℕ → Type 0 = λ y. get_or (words ++ more) y 0 ≡ get_or (words_of (get_or workers b d)) c 0 in
           ⊎_elim
           (λ less.
-            let ends = (done.each b d (omega (arith, less, near))).count in
-            let step : (b + 1) * t.size ≤ r * t.size = mul-le-mul_right t.size (omega (arith, less)) in
-            let low : range_first t.size (cell_total m) b + c < length words =
-            omega (arith, inside, ends, step, count) in
-            get_or_append_left words more 0 (range_first t.size (cell_total m) b + c) low
-            ∙ joined.each b c d less inside)
+          let ends = (done.each b d (omega (arith, less, near))).count in
+          let step : (b + 1) * t.size ≤ r * t.size = mul-le-mul_right t.size (omega (arith, less)) in
+          let low : range_first t.size (cell_total m) b + c < length words =
+          omega (arith, inside, ends, step, count) in
+          get_or_append_left words more 0 (range_first t.size (cell_total m) b + c) low
+          ∙ joined.each b c d less inside)
           (λ (other : r ≤ b).
-            let same : b ≡ r = omega (arith, other, below) in
-            let is : get_or workers b d ≡ get_or workers r e =
-            ap (λ n. get_or workers n d) same ∙ get_or_default workers r d e near in
-            let at : range_first t.size (cell_total m) b + c ≡ length words + c =
-            omega (arith, count, ap (λ (n : ℕ). range_first t.size (cell_total m) n) same) in
-            subst P (sym at) (get_or-append-add words more c 0
-            ∙ ap (λ (w : CachePadded Member). get_or (words_of w) c 0) (sym is)))
+          let same : b ≡ r = omega (arith, other, below) in
+          let is : get_or workers b d ≡ get_or workers r e =
+          ap (λ n. get_or workers n d) same ∙ get_or_default workers r d e near in
+          let at : range_first t.size (cell_total m) b + c ≡ length words + c =
+          omega (arith, count, ap (λ (n : ℕ). range_first t.size (cell_total m) n) same) in
+          subst P (sym at) (get_or-append-add words more c 0
+          ∙ ap (λ (w : CachePadded Member). get_or (words_of w) c 0) (sym is)))
           (below_or b r);
     }
 
@@ -109,11 +109,13 @@ pub copied : (all own : List ℕ) (first count : ℕ) → first + count ≤ leng
 copied all own first count fits is =
     let cut : own ≡ drop first (take (first + count) all) = is ∙ between_is all first (first + count) in
     let size : length own ≡ count =
-    omega (arith, ap (λ (l : List ℕ). length l) cut, length-drop first (take (first + count) all), length-take-le (first + count) all fits) in
-    (size, λ d near.
-      ap (λ (l : List ℕ). get_or l d 0) cut
-      ∙ get_or-drop first (take (first + count) all) d 0
-      ∙ get_or-take (first + count) all (first + d) 0 (omega (arith, near, size)))
+    omega (arith, ap (λ (l : List ℕ). length l) cut, length-drop first (take (first + count) all), length-take-le (first + count) all fits) in (
+      size,
+      λ d near.
+          ap (λ (l : List ℕ). get_or l d 0) cut
+          ∙ get_or-drop first (take (first + count) all) d 0
+          ∙ get_or-take (first + count) all (first + d) 0 (omega (arith, near, size)),
+    )
 
 -- what a worker begins with
 pub starts : (m : Meaning) (t : Turns) (all own : List ℕ) (range count first number : ℕ)

@@ -79,8 +79,14 @@ impl<'a, W: Meant> Filler for RangeFiller<'a, W> {
 
     ghost keeps_self = { λ f. (refl, refl, refl, refl, refl, refl) };
 
-    ghost keeps_on = { λ f g h a b. (b.0 ∙ a.0, b.1 ∙ a.1, b.2 ∙ a.2, b.3 ∙ a.3, b.4 ∙ a.4,
-        b.5 ∙ a.5) };
+    ghost keeps_on = { λ f g h a b. (
+      b.0 ∙ a.0,
+      b.1 ∙ a.1,
+      b.2 ∙ a.2,
+      b.3 ∙ a.3,
+      b.4 ∙ a.4,
+      b.5 ∙ a.5,
+    ) };
 
     fn read(&mut self, cell: u32) -> Val {
         let word = self.word(cell);

@@ -10,4 +10,3 @@ mod member;
 mod ranges;
 
 pub use ranges::run_ranges;
-

@@ -40,7 +40,15 @@ pub fn run_ranges<R: Threads + Sync, W: Work, G: Gate>(
     let mut buffers = Buffers::new(alloc, work)?;
     let _items = work.items();
     let words = fill_all(work, turns, Turn::First, words, &mut buffers);
-    run_all(rt, alloc, work, turns, words.as_slice(), gate, members.as_mut_slice());
+    run_all(
+        rt,
+        alloc,
+        work,
+        turns,
+        words.as_slice(),
+        gate,
+        members.as_mut_slice(),
+    );
     let words = join(work, turns, members.as_slice(), words)?;
     Ok(fill_all(work, turns, Turn::Last, words, &mut buffers))
 }

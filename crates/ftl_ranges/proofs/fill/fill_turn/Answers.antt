@@ -22,8 +22,8 @@ loop-item-preserved g c =
           let at : c.index.result.now ≡ turn_at me.turns.now item =
           found ∙ get_or_default me.turns.now.turns.items item c.index.result.now Last there in
           let other : turn_at me.turns.now item ≢ me.turn = λ same.
-              let is_true = c.is.ensures.same.1 (at ∙ same ∙ sym inv.turn) in
-              absurd (cc) in
+          let is_true = c.is.ensures.same.1 (at ∙ same ∙ sym inv.turn) in
+          absurd (cc) in
           let next = passes_by (g.W.Meant.meaning me.work.now) me.turns.now me.turn me.all.now
           c.loop-item.filler.own.items me.first item inv.filled other in
           search rules

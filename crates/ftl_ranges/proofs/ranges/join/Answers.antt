@@ -25,8 +25,13 @@ loop-range-preserved g c =
     let length_is : length c.loop-range.words.items ≡ range_first t.size (cell_total m) range =
     omega (arith, inv.count) in
     record {
-      count = omega (arith, c.in_ok-extend_from_slice.ensures.len, ap (λ (l : List ℕ). length l) is, inv.count,
-          (c.requires.done.each range e near).count);
+      count = omega (
+        arith,
+        c.in_ok-extend_from_slice.ensures.len,
+        ap (λ (l : List ℕ). length l) is,
+        inv.count,
+        (c.requires.done.each range e near).count,
+      );
       joined = subst (AreJoinedBelow m t (range + 1) c.args.members.now) (sym added)
           (joined_push m t all c.args.members.now c.loop-range.words.items range e c.requires.done near length_is
           inv.joined);
@@ -45,6 +50,8 @@ returns g c =
       filled = rejoins m t c.args.words.items c.args.members.now c.loop-range.words.items c.requires.lawful
           c.requires.turns c.requires.known c.requires.done count
           (subst (λ y. AreJoinedBelow m t y c.args.members.now c.loop-range.words.items) here inv.joined);
-      count = omega (arith,
-          joined_count m t c.args.members.now c.loop-range.words.items c.requires.turns c.requires.known count);
+      count = omega (
+        arith,
+        joined_count m t c.args.members.now c.loop-range.words.items c.requires.turns c.requires.known count,
+      );
     }

@@ -16,6 +16,6 @@ returns c =
           (λ (r : Option Turns). (t : Turns) → r ≡ Some t → CanBeTaken w.item_tables.items t)
           (λ (r : Option Turns). (t : Turns) → r ≡ Some t → CanTake (meaning_at c.args.self.now) t)
           (λ r can t is. subst (λ (v : StageView). CanTake (meaning_at v) t) c.self.view_is
-            (can t is (schedule_of w) w.stage w.programs.now.max_stack fit.can fit.passes))
+          (can t is (schedule_of w) w.stage w.programs.now.max_stack fit.can fit.passes))
           c.stage_turns.ensures.turns;
     }
