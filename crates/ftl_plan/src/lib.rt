@@ -13,12 +13,12 @@ mod fitting;
 mod items;
 mod meant;
 mod parts;
+mod phases;
 mod plan;
 mod running;
 mod sound;
 mod stages;
 mod steps;
-mod turns;
 mod words;
 mod work;
 

@@ -1,4 +1,4 @@
--- Items of a turn that are filled in order.
+-- Items of a phase that are filled in order.
 use Rattle.std.proofs.Common.{◌≡◌, ◌≢◌, ℕ, ◌+◌, ◌<◌, ◌≤◌, ◌⊎◌, inl, inr, ⊎_elim, List, length, get_or, set, subst, refl, sym, ap, ◌∙◌, arith}
 use Rattle.std.proofs.lemmas.List.{get_or-set_same, get_or-set_other, length-set}
 use mathlib.Core.Logic.{dite}
@@ -8,23 +8,23 @@ use Rattle.ftl_model.specs.Values.{Value, IsValue, word_of_value}
 use Rattle.ftl_cells.specs.Work.{Meaning, IsStepOfItem, IsOwn, IsHandedOn, cell_total, kind_at, step_total, target_of, read_total, read_of, solution_at, solved_word}
 use Rattle.ftl_cells.specs.declared.kind.CellKind.TheVariants.{Given, Target, Later}
 use Rattle.ftl_steal.specs.Alone.{IsBefore}
-use Rattle.ftl_turns.specs.Turns.{ComesBefore, turn_at}
-use Rattle.ftl_turns.specs.declared.turn.Turn.{Turn}
-use Rattle.ftl_turns.specs.declared.turn.Turns.{Turns}
+use Rattle.ftl_phases.specs.Phases.{ComesBefore, phase_at}
+use Rattle.ftl_phases.specs.declared.phase.Phase.{Phase}
+use Rattle.ftl_phases.specs.declared.phase.Phases.{Phases}
 use Rattle.ftl_ranges.specs.Filled.{IsBeside, IsFilledIn, IsMade, Holds}
 
 -- the steps of an item that this one reads from are made
-handed_made : (t : Turns) (x : Turn) (i j p k : ℕ) → p < i → turn_at t i ≡ x
-    → (turn_at t p ≡ turn_at t i) ⊎ ComesBefore (turn_at t p) (turn_at t i) → IsMade t x i j p k
-handed_made t x i j p k less turn or =
-    ⊎_elim (λ same. inl (same ∙ turn, inl less))
-    (λ (before : ComesBefore (turn_at t p) (turn_at t i)). inr (subst (ComesBefore (turn_at t p)) turn before)) or
+handed_made : (t : Phases) (x : Phase) (i j p k : ℕ) → p < i → phase_at t i ≡ x
+    → (phase_at t p ≡ phase_at t i) ⊎ ComesBefore (phase_at t p) (phase_at t i) → IsMade t x i j p k
+handed_made t x i j p k less phase or =
+    ⊎_elim (λ same. inl (same ∙ phase, inl less))
+    (λ (before : ComesBefore (phase_at t p) (phase_at t i)). inr (subst (ComesBefore (phase_at t p)) phase before)) or
 
 -- each cell that a step reads holds the solution's word
-pub read_holds : (m : Meaning) (t : Turns) (x : Turn) (all own : List ℕ) (first i j r : ℕ)
-    → IsFilledIn m t x all own first i j → turn_at t i ≡ x → IsStepOfItem m i j → r < read_total m i j
+pub read_holds : (m : Meaning) (t : Phases) (x : Phase) (all own : List ℕ) (first i j r : ℕ)
+    → IsFilledIn m t x all own first i j → phase_at t i ≡ x → IsStepOfItem m i j → r < read_total m i j
     → Holds all own first (read_of m i j r) (solved_word m (read_of m i j r))
-read_holds m t x all own first i j r f turn st b =
+read_holds m t x all own first i j r f phase st b =
     let P : ℕ → Type 0 = λ c. Holds all own first c (solved_word m c) in
     let law = f.lawful in
     let here : j < step_total m i = st.step in
@@ -32,25 +32,25 @@ read_holds m t x all own first i j r f turn st b =
     (λ more. ⊎_elim
     (λ (is_own : IsOwn m i j (read_of m i j r)). subst P is_own.is
     (f.filled i is_own.step (record { item = st.item; step = omega (arith, is_own.earlier, here) })
-    (inl (turn, inr (refl, is_own.earlier)))))
+    (inl (phase, inr (refl, is_own.earlier)))))
     (λ (on : IsHandedOn m i (read_of m i j r)). subst P on.is
     (f.filled on.item on.step on.known
     (handed_made t x i j on.item on.step
     (subst (λ y. on.item < y) on.next.is (law.next_is_later on.item on.next.at on.next.known on.next.below))
-    turn (f.taken.handing on.item i on.next))))
+    phase (f.taken.handing on.item i on.next))))
     more)
     (law.readable i j r st b)
 
 -- so its word is that of the solution's value, which is what the word gives
-pub read_gives : (m : Meaning) (t : Turns) (x : Turn) (all own : List ℕ) (first i j r cell word : ℕ)
-    (answer : Option Value) → IsFilledIn m t x all own first i j → turn_at t i ≡ x → IsStepOfItem m i j
+pub read_gives : (m : Meaning) (t : Phases) (x : Phase) (all own : List ℕ) (first i j r cell word : ℕ)
+    (answer : Option Value) → IsFilledIn m t x all own first i j → phase_at t i ≡ x → IsStepOfItem m i j
     → r < read_total m i j → cell ≡ read_of m i j r → ((n : ℕ) → Holds all own first cell n → word ≡ n)
     → ((v : Value) → IsValue v → word ≡ word_of_value v → answer ≡ Some v) → answer ≡ Some (solution_at m cell)
-read_gives m t x all own first i j r cell word answer f turn st b at found only =
+read_gives m t x all own first i j r cell word answer f phase st b at found only =
     let law = f.lawful in
     let near : cell < cell_total m = omega (arith, at, law.read_in_range i j r st b) in
     let is : Holds all own first cell (solved_word m cell) =
-    subst (λ c. Holds all own first c (solved_word m c)) (sym at) (read_holds m t x all own first i j r f turn st b) in
+    subst (λ c. Holds all own first c (solved_word m c)) (sym at) (read_holds m t x all own first i j r f phase st b) in
     only (solution_at m cell) (law.values cell near) (found (solved_word m cell) is)
 
 -- a word of a range's own, set anew
@@ -75,14 +75,14 @@ set_other all own first d n c w ne h = record {
 }
 
 -- the next step, once this one's target is filled
-pub fills_on : (m : Meaning) (t : Turns) (x : Turn) (all own : List ℕ) (first i j d n : ℕ)
-    → IsFilledIn m t x all own first i j → turn_at t i ≡ x → IsStepOfItem m i j → target_of m i j ≡ first + d
+pub fills_on : (m : Meaning) (t : Phases) (x : Phase) (all own : List ℕ) (first i j d n : ℕ)
+    → IsFilledIn m t x all own first i j → phase_at t i ≡ x → IsStepOfItem m i j → target_of m i j ≡ first + d
     → n ≡ solved_word m (target_of m i j) → IsFilledIn m t x all (set own d n) first i (j + 1)
-fills_on m t x all own first i j d n f turn st at is =
+fills_on m t x all own first i j d n f phase st at is =
     let law = f.lawful in
     let count = length-set own d n in
     let kind : kind_at m (target_of m i j) ≡ Target = law.target_kind i j st in
-    let in_own : d < length own = omega (arith, at, (f.targets i j st turn).1) in
+    let in_own : d < length own = omega (arith, at, (f.targets i j st phase).1) in
     let new : Holds all (set own d n) first (target_of m i j) (solved_word m (target_of m i j)) =
     subst (λ y. Holds all (set own d n) first (target_of m i j) y) is
     (subst (λ c. Holds all (set own d n) first c n) (sym at) (set_same all own first d n in_own)) in
@@ -102,7 +102,7 @@ fills_on m t x all own first i j d n f turn st at is =
           (λ e. subst (λ c. Holds all (set own d n) first c (solved_word m c)) (sym e) new)
           (λ ne. old (target_of m k l) (solved_word m (target_of m k l)) ne
           (f.filled k l step (⊎_elim
-          (λ (y : (turn_at t k ≡ x) × IsBefore k l i (j + 1)). ⊎_elim
+          (λ (y : (phase_at t k ≡ x) × IsBefore k l i (j + 1)). ⊎_elim
           (λ (z : k < i). inl (y.0, inl z))
           (λ (z : (k ≡ i) × (l < j + 1)). dite (ℕ_discrete l j)
           (λ e. absurd (ne (λ q. target_of m (z.0 q) (e q))))
@@ -111,7 +111,7 @@ fills_on m t x all own first i j d n f turn st at is =
     }
 
 -- the next item, once each step of this one is made
-pub goes_on : (m : Meaning) (t : Turns) (x : Turn) (all own : List ℕ) (first i : ℕ)
+pub goes_on : (m : Meaning) (t : Phases) (x : Phase) (all own : List ℕ) (first i : ℕ)
     → IsFilledIn m t x all own first i (step_total m i) → IsFilledIn m t x all own first (i + 1) 0
 goes_on m t x all own first i f = record {
   lawful = f.lawful;
@@ -121,7 +121,7 @@ goes_on m t x all own first i f = record {
   given = f.given;
   later = f.later;
   filled = λ k l st b. f.filled k l st (⊎_elim
-      (λ (y : (turn_at t k ≡ x) × IsBefore k l (i + 1) 0). inl (
+      (λ (y : (phase_at t k ≡ x) × IsBefore k l (i + 1) 0). inl (
         y.0,
         ⊎_elim
             (λ (z : k < i + 1). dite (ℕ_discrete k i)
@@ -131,9 +131,9 @@ goes_on m t x all own first i f = record {
       (λ y. inr y) b);
 }
 
--- an item of another turn is not this one's to fill
-pub passes_by : (m : Meaning) (t : Turns) (x : Turn) (all own : List ℕ) (first i : ℕ)
-    → IsFilledIn m t x all own first i 0 → turn_at t i ≢ x → IsFilledIn m t x all own first (i + 1) 0
+-- an item of another phase is not this one's to fill
+pub passes_by : (m : Meaning) (t : Phases) (x : Phase) (all own : List ℕ) (first i : ℕ)
+    → IsFilledIn m t x all own first i 0 → phase_at t i ≢ x → IsFilledIn m t x all own first (i + 1) 0
 passes_by m t x all own first i f other = record {
   lawful = f.lawful;
   taken = f.taken;
@@ -142,11 +142,11 @@ passes_by m t x all own first i f other = record {
   given = f.given;
   later = f.later;
   filled = λ k l st b. f.filled k l st (⊎_elim
-      (λ (y : (turn_at t k ≡ x) × IsBefore k l (i + 1) 0). inl (
+      (λ (y : (phase_at t k ≡ x) × IsBefore k l (i + 1) 0). inl (
         y.0,
         ⊎_elim
             (λ (z : k < i + 1). dite (ℕ_discrete k i)
-            (λ e. absurd (other (subst (λ q. turn_at t q ≡ x) e y.0))) (λ ne. inl (omega arith)))
+            (λ e. absurd (other (subst (λ q. phase_at t q ≡ x) e y.0))) (λ ne. inl (omega arith)))
             (λ (z : (k ≡ i + 1) × (l < 0)). absurd (omega (arith, z.1))) y.1,
       ))
       (λ y. inr y) b);

@@ -1,14 +1,14 @@
--- From turn to turn: what stands before the first, in a range, before the last, and after it.
+-- From phase to phase: what stands before the first, in a range, before the last, and after it.
 use Rattle.std.proofs.Common.{◌≡◌, ℕ, zero, suc, ◌+◌, ◌-◌, ◌*◌, ◌<◌, ◌≤◌, ◌⊎◌, inl, inr, ⊎_elim, List, [], length, get_or, subst, refl, sym, ap, ◌∙◌, arith}
 use Rattle.ftl_cells.specs.Work.{Meaning, IsLawfulWork, IsStepOfItem, cell_total, kind_at, item_total, target_of, solved_word}
 use Rattle.ftl_cells.specs.State.{AreFirst, AreLast, first_word_of, last_word_of}
 use Rattle.ftl_cells.specs.declared.kind.CellKind.{CellKind}
 use Rattle.ftl_cells.specs.declared.kind.CellKind.TheVariants.{Given, Target, Later}
 use Rattle.ftl_steal.specs.Alone.{IsBefore}
-use Rattle.ftl_turns.specs.Turns.{CanTake, ComesBefore, turn_at}
-use Rattle.ftl_turns.specs.declared.turn.Turn.{Turn}
-use Rattle.ftl_turns.specs.declared.turn.Turn.TheVariants.{First, Range, Last}
-use Rattle.ftl_turns.specs.declared.turn.Turns.{Turns}
+use Rattle.ftl_phases.specs.Phases.{CanTake, ComesBefore, phase_at}
+use Rattle.ftl_phases.specs.declared.phase.Phase.{Phase}
+use Rattle.ftl_phases.specs.declared.phase.Phase.TheVariants.{First, Range, Last}
+use Rattle.ftl_phases.specs.declared.phase.Phases.{Phases}
 use Rattle.ftl_ranges.specs.Filled.{IsFilledIn, IsMade, Holds, range_first}
 
 -- ---- the words of all cells as those of one range
@@ -29,46 +29,46 @@ none_before : (k l : ℕ) → IsBefore k l 0 0 → ⊥
 none_before k l b =
     ⊎_elim (λ (x : k < 0). absurd (omega (arith, x))) (λ (x : (k ≡ 0) × (l < 0)). absurd (omega (arith, x.1))) b
 
--- and no turn before the first one
-none_first : (y : Turn) → ComesBefore y First → ⊥
+-- and no phase before the first one
+none_first : (y : Phase) → ComesBefore y First → ⊥
 none_first = elim [
   | First ↦ λ b. b
   | Range a ↦ λ b. b
   | Last ↦ λ b. b
 ]
 
--- before a range there is the first turn alone
-first_alone : (y : Turn) (b : ℕ) → ComesBefore y (Range b) → y ≡ First
+-- before a range there is the first phase alone
+first_alone : (y : Phase) (b : ℕ) → ComesBefore y (Range b) → y ≡ First
 first_alone = elim [
   | First ↦ λ b x. refl
   | Range a ↦ λ b x. absurd x
   | Last ↦ λ b x. absurd x
 ]
 
--- each turn but the last comes before it
-up_to_last : (y : Turn) → (y ≡ Last) ⊎ ComesBefore y Last
+-- each phase but the last comes before it
+up_to_last : (y : Phase) → (y ≡ Last) ⊎ ComesBefore y Last
 up_to_last = elim [
   | First ↦ inr tt
   | Range a ↦ inr tt
   | Last ↦ inl refl
 ]
 
--- before the first turn
-pub begins : (m : Meaning) (t : Turns) (words : List ℕ) → IsLawfulWork m → CanTake m t → AreFirst m words
+-- before the first phase
+pub begins : (m : Meaning) (t : Phases) (words : List ℕ) → IsLawfulWork m → CanTake m t → AreFirst m words
     → IsFilledIn m t First [] words 0 0 0
 begins m t words law can first = record {
   lawful = law;
   taken = can;
   there = λ c l beside. absurd (⊎_elim (λ (x : c < 0). omega (arith, x))
       (λ (x : 0 + length words ≤ c). omega (arith, x, l, first.count)) beside);
-  targets = λ i j st turn. (omega arith, omega (arith, law.target_in_range i j st, first.count));
+  targets = λ i j st phase. (omega arith, omega (arith, law.target_in_range i j st, first.count));
   given = λ c l kind. whole_holds [] words c (solved_word m c) (omega (arith, l, first.count))
       (first.each c l ∙ ap (λ q. first_word_of q (solved_word m c)) kind);
   later = λ c l kind. whole_holds [] words c 0 (omega (arith, l, first.count))
       (first.each c l ∙ ap (λ q. first_word_of q (solved_word m c)) kind);
   filled = λ k l st made. absurd (⊎_elim
-      (λ (x : (turn_at t k ≡ First) × IsBefore k l 0 0). none_before k l x.1)
-      (λ x. none_first (turn_at t k) x) made);
+      (λ (x : (phase_at t k ≡ First) × IsBefore k l 0 0). none_before k l x.1)
+      (λ x. none_first (phase_at t k) x) made);
 }
 
 -- ---- a range
@@ -82,7 +82,7 @@ copy_holds all own first c w copy is = record {
   outside = λ beside. is;
 }
 
-pub starts_range : (m : Meaning) (t : Turns) (all own : List ℕ) (b : ℕ)
+pub starts_range : (m : Meaning) (t : Phases) (all own : List ℕ) (b : ℕ)
     → IsFilledIn m t First [] all 0 (item_total m) 0 → length all ≡ cell_total m
     → range_first t.size (cell_total m) b + length own ≡ range_first t.size (cell_total m) (b + 1)
     → ((d : ℕ) → d < length own → get_or own d 0 ≡ get_or all (range_first t.size (cell_total m) b + d) 0)
@@ -92,8 +92,8 @@ starts_range m t all own b f whole count copy =
       lawful = f.lawful;
       taken = f.taken;
       there = λ c l beside. omega (arith, l, whole);
-      targets = λ i j st turn.
-          let near = f.taken.within i j b st turn in
+      targets = λ i j st phase.
+          let near = f.taken.within i j b st phase in
           let low : b * t.size ≤ target_of m i j = near.0 in
           let high : target_of m i j < (b + 1) * t.size = near.1 in
           let known = f.lawful.target_in_range i j st in
@@ -107,8 +107,8 @@ starts_range m t all own b f whole count copy =
           copy_holds all own first target (solved_word m target) copy
           (whole_is [] all target (solved_word m target) (omega (arith, f.lawful.target_in_range k l st, whole))
           (f.filled k l st (⊎_elim
-          (λ (x : (turn_at t k ≡ Range b) × IsBefore k l 0 0). absurd (none_before k l x.1))
-          (λ x. inl (first_alone (turn_at t k) b x, inl st.item)) made)));
+          (λ (x : (phase_at t k ≡ Range b) × IsBefore k l 0 0). absurd (none_before k l x.1))
+          (λ x. inl (first_alone (phase_at t k) b x, inl st.item)) made)));
     }
 
 -- ---- all ranges together
@@ -141,7 +141,7 @@ find size cells c (suc n) b =
     (below_or c (range_first size cells n))
 
 -- the words of each range, and where they stand among those of all
-pub record AreTogether (m : Meaning) (t : Turns) (all : List ℕ) (own : ℕ → List ℕ) (words : List ℕ) : Type 0 where
+pub record AreTogether (m : Meaning) (t : Phases) (all : List ℕ) (own : ℕ → List ℕ) (words : List ℕ) : Type 0 where
   pub law : IsLawfulWork m
   pub can : CanTake m t
   pub length_is : length words ≡ cell_total m
@@ -152,8 +152,8 @@ pub record AreTogether (m : Meaning) (t : Turns) (all : List ℕ) (own : ℕ →
   pub stand : (b d : ℕ) → b < t.ranges → d < length (own b)
       → get_or words (range_first t.size (cell_total m) b + d) 0 ≡ get_or (own b) d 0
 
--- the last turn begins with the words of all ranges
-module _ (m : Meaning) (t : Turns) (all : List ℕ) (own : ℕ → List ℕ) (words : List ℕ)
+-- the last phase begins with the words of all ranges
+module _ (m : Meaning) (t : Phases) (all : List ℕ) (own : ℕ → List ℕ) (words : List ℕ)
     (all_there : AreTogether m t all own words) where
   abbrev first_of : ℕ → ℕ
   first_of b = range_first t.size (cell_total m) b
@@ -179,8 +179,8 @@ module _ (m : Meaning) (t : Turns) (all : List ℕ) (own : ℕ → List ℕ) (wo
       whole_holds [] words c w (omega (arith, l, all_there.length_is))
       (told_by r.range c w r.below r.from r.to (tell r.range r.below))
 
-  -- each step of a turn before the last holds its word
-  made_holds : (k l : ℕ) → IsStepOfItem m k l → (y : Turn) → turn_at t k ≡ y → ComesBefore y Last
+  -- each step of a phase before the last holds its word
+  made_holds : (k l : ℕ) → IsStepOfItem m k l → (y : Phase) → phase_at t k ≡ y → ComesBefore y Last
       → Holds [] words 0 (target_of m k l) (solved_word m (target_of m k l))
   made_holds k l st = elim [
     | First ↦ λ is before.
@@ -206,17 +206,17 @@ module _ (m : Meaning) (t : Turns) (all : List ℕ) (own : ℕ → List ℕ) (wo
     taken = all_there.can;
     there = λ c l beside. absurd (⊎_elim (λ (x : c < 0). omega (arith, x))
         (λ (x : 0 + length words ≤ c). omega (arith, x, l, all_there.length_is)) beside);
-    targets = λ i j st turn.
+    targets = λ i j st phase.
         (omega arith, omega (arith, all_there.law.target_in_range i j st, all_there.length_is));
     given = λ c l kind. found c (solved_word m c) l (λ b known. (all_there.fills b known).given c l kind);
     later = λ c l kind. found c 0 l (λ b known. (all_there.fills b known).later c l kind);
     filled = λ k l st made. ⊎_elim
-        (λ (x : (turn_at t k ≡ Last) × IsBefore k l 0 0). absurd (none_before k l x.1))
-        (λ x. made_holds k l st (turn_at t k) refl x) made;
+        (λ (x : (phase_at t k ≡ Last) × IsBefore k l 0 0). absurd (none_before k l x.1))
+        (λ x. made_holds k l st (phase_at t k) refl x) made;
   }
 
--- after the last turn
-pub ends : (m : Meaning) (t : Turns) (words : List ℕ) → IsFilledIn m t Last [] words 0 (item_total m) 0
+-- after the last phase
+pub ends : (m : Meaning) (t : Phases) (words : List ℕ) → IsFilledIn m t Last [] words 0 (item_total m) 0
     → length words ≡ cell_total m → AreLast m words
 ends m t words f count = record {
   count = count;
@@ -227,7 +227,7 @@ ends m t words f count = record {
         | Target ↦ λ e. let target = f.lawful.each_target c l e in
             let st : IsStepOfItem m target.item target.step = target.known in
             let made : IsMade t Last (item_total m) 0 target.item target.step =
-            ⊎_elim (λ same. inl (same, inl st.item)) (λ before. inr before) (up_to_last (turn_at t target.item)) in
+            ⊎_elim (λ same. inl (same, inl st.item)) (λ before. inr before) (up_to_last (phase_at t target.item)) in
             whole_is [] words c (solved_word m c) near
             (subst (λ y. Holds [] words 0 y (solved_word m y)) target.is (f.filled target.item target.step st made))
         | Later ↦ λ e. whole_is [] words c 0 near (f.later c l e)

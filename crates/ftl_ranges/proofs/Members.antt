@@ -6,9 +6,9 @@ use Rattle.std.specs.Prelude.{slice_range}
 use Rattle.crossbeam_utils.specs.Padded.{padded_value}
 use Rattle.crossbeam_utils.specs.declared.cache_padded.CachePadded.{CachePadded}
 use Rattle.ftl_cells.specs.Work.{Meaning, IsLawfulWork, cell_total, item_total}
-use Rattle.ftl_turns.specs.Turns.{CanTake}
-use Rattle.ftl_turns.specs.declared.turn.Turn.TheVariants.{First, Range, Last}
-use Rattle.ftl_turns.specs.declared.turn.Turns.{Turns}
+use Rattle.ftl_phases.specs.Phases.{CanTake}
+use Rattle.ftl_phases.specs.declared.phase.Phase.TheVariants.{First, Range, Last}
+use Rattle.ftl_phases.specs.declared.phase.Phases.{Phases}
 use Rattle.ftl_ranges.specs.Filled.{IsFilledIn, range_first}
 use Rattle.ftl_ranges.specs.Workers.{AreDone, AreJoinedBelow, AreReady, IsDone, IsReady}
 use Rattle.ftl_ranges.specs.declared.member.Member.{Member}
@@ -26,14 +26,14 @@ some_of = elim [
 ]
 
 -- the words of all workers are those of all cells
-pub joined_count : (m : Meaning) (t : Turns) (workers : List (CachePadded Member)) (words : List ℕ) → CanTake m t
+pub joined_count : (m : Meaning) (t : Phases) (workers : List (CachePadded Member)) (words : List ℕ) → CanTake m t
     → length workers ≡ t.ranges → length words ≡ range_first t.size (cell_total m) (length workers)
     → length words ≡ cell_total m
 joined_count m t workers words can known count =
     omega (arith, count, known, can.cover, ap (λ (n : ℕ). n * t.size) known)
 
--- when each worker has done its range, and their words stand one after the other, the last turn can begin
-pub rejoins : (m : Meaning) (t : Turns) (all : List ℕ) (workers : List (CachePadded Member)) (words : List ℕ)
+-- when each worker has done its range, and their words stand one after the other, the last phase can begin
+pub rejoins : (m : Meaning) (t : Phases) (all : List ℕ) (workers : List (CachePadded Member)) (words : List ℕ)
     → IsLawfulWork m → CanTake m t → length workers ≡ t.ranges → AreDone m t all workers
     → length words ≡ range_first t.size (cell_total m) (length workers)
     → AreJoinedBelow m t (length workers) workers words → IsFilledIn m t Last [] words 0 0 0
@@ -60,7 +60,7 @@ rejoins m t all workers words law can known done count joined =
 
 -- ---- one more worker
 
-pub ready_push : (m : Meaning) (t : Turns) (workers : List (CachePadded Member)) (w : CachePadded Member)
+pub ready_push : (m : Meaning) (t : Phases) (workers : List (CachePadded Member)) (w : CachePadded Member)
     → AreReady m t workers → IsReady m t (length workers) w → AreReady m t (workers ++ w ∷ [])
 ready_push m t workers w ready new = record {
   each = λ b d l. ⊎_elim
@@ -74,7 +74,7 @@ ready_push m t workers w ready new = record {
 }
 
 -- the words of one more range
-pub joined_push : (m : Meaning) (t : Turns) (all : List ℕ) (workers : List (CachePadded Member)) (words : List ℕ)
+pub joined_push : (m : Meaning) (t : Phases) (all : List ℕ) (workers : List (CachePadded Member)) (words : List ℕ)
     (r : ℕ) (e : CachePadded Member) → AreDone m t all workers → r < length workers
     → length words ≡ range_first t.size (cell_total m) r → AreJoinedBelow m t r workers words
     → AreJoinedBelow m t (r + 1) workers (words ++ words_of (get_or workers r e))
@@ -118,7 +118,7 @@ copied all own first count fits is =
     )
 
 -- what a worker begins with
-pub starts : (m : Meaning) (t : Turns) (all own : List ℕ) (range count first number : ℕ)
+pub starts : (m : Meaning) (t : Phases) (all own : List ℕ) (range count first number : ℕ)
     → IsFilledIn m t First [] all 0 (item_total m) 0 → length all ≡ cell_total m
     → range_first t.size (cell_total m) range + count ≡ range_first t.size (cell_total m) (range + 1)
     → first ≡ range_first t.size (cell_total m) range → number ≡ range

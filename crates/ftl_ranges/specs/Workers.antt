@@ -4,8 +4,8 @@ use Rattle.std.specs.Vec.{vec_capacity}
 use Rattle.crossbeam_utils.specs.Padded.{padded_value}
 use Rattle.crossbeam_utils.specs.declared.cache_padded.CachePadded.{CachePadded}
 use Rattle.ftl_cells.specs.Work.{Meaning, cell_total, item_total}
-use Rattle.ftl_turns.specs.declared.turn.Turn.TheVariants.{Range}
-use Rattle.ftl_turns.specs.declared.turn.Turns.{Turns}
+use Rattle.ftl_phases.specs.declared.phase.Phase.TheVariants.{Range}
+use Rattle.ftl_phases.specs.declared.phase.Phases.{Phases}
 use Rattle.ftl_ranges.specs.Filled.{IsFilledIn, range_first}
 use Rattle.ftl_ranges.specs.declared.buffers.Buffers.{Buffers}
 use Rattle.ftl_ranges.specs.declared.member.Member.{Member}
@@ -25,27 +25,27 @@ pub record IsEquipped (m : Meaning) (number first count : ℕ) (worker : CachePa
   pub buffers : HaveRoom m (padded_value worker).buffers
 
 -- it is that of the range of this number
-pub record IsReady (m : Meaning) (t : Turns) (range : ℕ) (worker : CachePadded Member) : Type 0 where
+pub record IsReady (m : Meaning) (t : Phases) (range : ℕ) (worker : CachePadded Member) : Type 0 where
   pub count : ℕ
   pub ends : range_first t.size (cell_total m) range + count ≡ range_first t.size (cell_total m) (range + 1)
   pub equipped : IsEquipped m range (range_first t.size (cell_total m) range) count worker
 
 -- each of them is that of the range of its place
-pub record AreReady (m : Meaning) (t : Turns) (workers : List (CachePadded Member)) : Type 0 where
+pub record AreReady (m : Meaning) (t : Phases) (workers : List (CachePadded Member)) : Type 0 where
   pub each : (b : ℕ) (d : CachePadded Member) → b < length workers → IsReady m t b (slice_index_or workers b d)
 
--- these are the words of the range of this number after its turn, over the words of all cells after the first turn
-pub record IsDone (m : Meaning) (t : Turns) (all : List ℕ) (range : ℕ) (words : List ℕ) : Type 0 where
+-- these are the words of the range of this number after its phase, over the words of all cells after the first phase
+pub record IsDone (m : Meaning) (t : Phases) (all : List ℕ) (range : ℕ) (words : List ℕ) : Type 0 where
   pub count : range_first t.size (cell_total m) range + length words ≡ range_first t.size (cell_total m) (range + 1)
   pub filled : IsFilledIn m t (Range range) all words (range_first t.size (cell_total m) range) (item_total m) 0
 
 -- each of them has those of the range of its place
-pub record AreDone (m : Meaning) (t : Turns) (all : List ℕ) (workers : List (CachePadded Member)) : Type 0 where
+pub record AreDone (m : Meaning) (t : Phases) (all : List ℕ) (workers : List (CachePadded Member)) : Type 0 where
   pub each : (b : ℕ) (d : CachePadded Member) → b < length workers
       → IsDone m t all b (padded_value (slice_index_or workers b d)).own.items
 
 -- the words stand where those of the workers below this number do
-pub record AreJoinedBelow (m : Meaning) (t : Turns) (number : ℕ) (workers : List (CachePadded Member)) (words : List ℕ)
+pub record AreJoinedBelow (m : Meaning) (t : Phases) (number : ℕ) (workers : List (CachePadded Member)) (words : List ℕ)
     : Type 0 where
   pub each : (b c : ℕ) (d : CachePadded Member) → b < number
       → c < length (padded_value (slice_index_or workers b d)).own.items

@@ -2,19 +2,19 @@
 ghost use Rattle.std.specs.Prelude.{◌≡◌, ℕ, ◌<◌, length};
 ghost use Rattle.ftl_cells.specs.Work.{IsLawfulWork, item_total};
 ghost use Rattle.ftl_ranges.specs.Filled.{IsBeside, IsFilledIn, Holds};
-ghost use Rattle.ftl_turns.specs.Turns.{turn_at};
+ghost use Rattle.ftl_phases.specs.Phases.{phase_at};
 
 use ftl_base::{Val, val_of, word_of};
 use ftl_cells::{Filler, Meant};
-use ftl_turns::{Turn, Turns};
+use ftl_phases::{Phase, Phases};
 
 /// Reads the cells of a range from words of its own and all others from those of all cells, and
 /// fills cells of the range. Where it stands is for the contracts alone.
 #[derive(Drop)]
 pub(crate) struct RangeFiller<'a, W: Meant> {
     pub(crate) work: &'a W,
-    pub(crate) turns: &'a Turns,
-    pub(crate) turn: Turn,
+    pub(crate) phases: &'a Phases,
+    pub(crate) phase: Phase,
     pub(crate) all: &'a [u64],
     pub(crate) first: u32,
     pub(crate) own: Vec<u64>,
@@ -24,11 +24,11 @@ pub(crate) struct RangeFiller<'a, W: Meant> {
 }
 
 impl<'a, W: Meant> RangeFiller<'a, W> {
-    /// Goes to an item of its turn.
+    /// Goes to an item of its phase.
     pub(crate) fn begin(&mut self, item: u32)
         ensures work { self.new.work.now ≡ self.old.work.now }
-        ensures turns { self.new.turns.now ≡ self.old.turns.now }
-        ensures turn { self.new.turn ≡ self.old.turn }
+        ensures phases { self.new.phases.now ≡ self.old.phases.now }
+        ensures phase { self.new.phase ≡ self.old.phase }
         ensures all { self.new.all.now ≡ self.old.all.now }
         ensures first { self.new.first ≡ self.old.first }
         ensures own { self.new.own ≡ self.old.own }
@@ -62,7 +62,7 @@ impl<'a, W: Meant> Filler for RangeFiller<'a, W> {
     ghost use Rattle.ftl_cells.specs.State.{live};
     ghost use Rattle.ftl_cells.specs.declared.place.HandPlace.TheVariants.{Working};
     ghost use Rattle.ftl_ranges.specs.Filled.{IsFilledIn};
-    ghost use Rattle.ftl_turns.specs.Turns.{turn_at};
+    ghost use Rattle.ftl_phases.specs.Phases.{phase_at};
     ghost use Rattle.std.specs.Prelude.{◌≡◌, refl, vec_len};
     ghost use Rattle.std.proofs.Common.{◌∙◌};
 
@@ -70,11 +70,11 @@ impl<'a, W: Meant> Filler for RangeFiller<'a, W> {
 
     ghost place = { λ f. live (Working f.item f.step f.reads) };
 
-    ghost fit = { λ f. IsFilledIn (W.meaning f.work.now) f.turns.now f.turn f.all.now f.own.items
-        f.first f.item f.step × (turn_at f.turns.now f.item ≡ f.turn) };
+    ghost fit = { λ f. IsFilledIn (W.meaning f.work.now) f.phases.now f.phase f.all.now f.own.items
+        f.first f.item f.step × (phase_at f.phases.now f.item ≡ f.phase) };
 
-    ghost keeps = { λ f g. (g.work.now ≡ f.work.now) × (g.turns.now ≡ f.turns.now)
-        × (g.turn ≡ f.turn) × (g.all.now ≡ f.all.now) × (g.first ≡ f.first)
+    ghost keeps = { λ f g. (g.work.now ≡ f.work.now) × (g.phases.now ≡ f.phases.now)
+        × (g.phase ≡ f.phase) × (g.all.now ≡ f.all.now) × (g.first ≡ f.first)
         × (vec_len g.own ≡ vec_len f.own) };
 
     ghost keeps_self = { λ f. (refl, refl, refl, refl, refl, refl) };

@@ -1,6 +1,6 @@
 //! A work's items on ranges of its cells, each range by a worker on words of its own, without
-//! shared cells. Goes in: a work, the words of its cells, and the turns of its items. Comes out:
-//! the words of the solution. `Turns` of `ftl_turns` says which turns a work can take.
+//! shared cells. Goes in: a work, the words of its cells, and the phases of its items. Comes out:
+//! the words of the solution. `Phases` of `ftl_phases` says which phases a work can take.
 #![tactic(auto)]
 
 mod buffers;

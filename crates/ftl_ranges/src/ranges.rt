@@ -1,4 +1,4 @@
-//! All turns of a work.
+//! All phases of a work.
 ghost use Rattle.std.specs.Prelude.{◌≡◌, ◌+◌, ◌<◌, ◌≤◌, [], length, vec_len, IfOk};
 ghost use Rattle.std.specs.Prelude.{slice_range, vec_capacity};
 ghost use Rattle.ftl_cells.specs.State.{AreFirst, AreLast};
@@ -6,72 +6,72 @@ ghost use Rattle.ftl_cells.specs.Work.{IsLawfulWork, item_total, cell_total};
 ghost use Rattle.ftl_ranges.specs.Filled.{IsFilledIn};
 ghost use Rattle.ftl_ranges.specs.Workers.{AreDone, AreReady, HaveRoom, IsDone, IsReady};
 ghost use Rattle.crossbeam_utils.specs.Padded.{padded_value};
-ghost use Rattle.ftl_turns.specs.Turns.{CanTake};
-ghost use Rattle.ftl_turns.specs.declared.turn.Turn.TheVariants.{First, Last};
+ghost use Rattle.ftl_phases.specs.Phases.{CanTake};
+ghost use Rattle.ftl_phases.specs.declared.phase.Phase.TheVariants.{First, Last};
 
 use crate::buffers::Buffers;
-use crate::fill::fill_turn;
+use crate::fill::fill_phase;
 use crate::filler::RangeFiller;
 use crate::member::{Member, equip};
 use crossbeam_utils::CachePadded;
 use ftl_cells::Work;
 use ftl_edge::{Gate, OpenGate};
-use ftl_turns::{Turn, Turns};
+use ftl_phases::{Phase, Phases};
 use std::alloc::{AllocError, Global};
 use std::mem;
 use std::thread::{Threads, for_each_mut};
 
-/// Fills the cells of a work, turn by turn: the items of the first turn by the calling thread, then
+/// Fills the cells of a work, phase by phase: the items of the first phase by the calling thread, then
 /// those of each range by a worker of its own, which calls the gate before each, and those of the
-/// last turn by the calling thread again. No cell is shared while it is written.
+/// last phase by the calling thread again. No cell is shared while it is written.
 pub fn run_ranges<R: Threads + Sync, W: Work, G: Gate>(
     rt: &R,
     alloc: Global,
     work: &W,
-    turns: &Turns,
+    phases: &Phases,
     words: Vec<u64>,
     gate: &G,
 ) -> Result<Vec<u64>, AllocError>
     requires first { AreFirst (W.meaning work.now) words.items }
-    requires turns { CanTake (W.meaning work.now) turns.now }
+    requires phases { CanTake (W.meaning work.now) phases.now }
     ensures last { IfOk result (λ v. AreLast (W.meaning work.now) v.items) }
 {
-    let mut members = gather(alloc, work, turns)?;
+    let mut members = gather(alloc, work, phases)?;
     let mut buffers = Buffers::new(alloc, work)?;
     let _items = work.items();
-    let words = fill_all(work, turns, Turn::First, words, &mut buffers);
+    let words = fill_all(work, phases, Phase::First, words, &mut buffers);
     run_all(
         rt,
         alloc,
         work,
-        turns,
+        phases,
         words.as_slice(),
         gate,
         members.as_mut_slice(),
     );
-    let words = join(work, turns, members.as_slice(), words)?;
-    Ok(fill_all(work, turns, Turn::Last, words, &mut buffers))
+    let words = join(work, phases, members.as_slice(), words)?;
+    Ok(fill_all(work, phases, Phase::Last, words, &mut buffers))
 }
 
-/// The words of all cells after the items of the first or the last turn.
+/// The words of all cells after the items of the first or the last phase.
 fn fill_all<W: Work>(
     work: &W,
-    turns: &Turns,
-    turn: Turn,
+    phases: &Phases,
+    phase: Phase,
     words: Vec<u64>,
     buffers: &mut Buffers,
 ) -> Vec<u64>
-    requires filled { IsFilledIn (W.meaning work.now) turns.now turn [] words.items 0 0 0 }
+    requires filled { IsFilledIn (W.meaning work.now) phases.now phase [] words.items 0 0 0 }
     requires room { HaveRoom (W.meaning work.now) buffers.old }
-    ensures filled { IsFilledIn (W.meaning work.now) turns.now turn [] result.items 0
+    ensures filled { IsFilledIn (W.meaning work.now) phases.now phase [] result.items 0
         (item_total (W.meaning work.now)) 0 }
     ensures count { vec_len result ≡ vec_len words }
     ensures room { HaveRoom (W.meaning work.now) buffers.new }
 {
     let mut filler = RangeFiller {
         work,
-        turns,
-        turn,
+        phases,
+        phase,
         all: &[],
         first: 0,
         own: words,
@@ -79,7 +79,7 @@ fn fill_all<W: Work>(
         step: 0,
         reads: 0,
     };
-    fill_turn(&mut filler, &OpenGate, 0, buffers);
+    fill_phase(&mut filler, &OpenGate, 0, buffers);
     filler.own
 }
 
@@ -87,16 +87,16 @@ fn fill_all<W: Work>(
 fn gather<W: Work>(
     alloc: Global,
     work: &W,
-    turns: &Turns,
+    phases: &Phases,
 ) -> Result<Vec<CachePadded<Member>>, AllocError>
-    ensures count { IfOk result (λ v. vec_len v ≡ turns.now.ranges) }
-    ensures ready { IfOk result (λ v. AreReady (W.meaning work.now) turns.now v.items) }
+    ensures count { IfOk result (λ v. vec_len v ≡ phases.now.ranges) }
+    ensures ready { IfOk result (λ v. AreReady (W.meaning work.now) phases.now v.items) }
 {
     let cells = work.cells();
-    let mut members = Vec::with_capacity(alloc, turns.ranges as usize)?;
+    let mut members = Vec::with_capacity(alloc, phases.ranges as usize)?;
     let mut first = 0;
-    for range in 0..turns.ranges {
-        let count = turns.size.min(cells - first);
+    for range in 0..phases.ranges {
+        let count = phases.size.min(cells - first);
         members.push(equip(alloc, work, range, first, count)?)?;
         first += count;
     }
@@ -108,18 +108,18 @@ fn run_all<R: Threads + Sync, W: Work, G: Gate>(
     rt: &R,
     alloc: Global,
     work: &W,
-    turns: &Turns,
+    phases: &Phases,
     all: &[u64],
     gate: &G,
     members: &mut [CachePadded<Member>],
 )
-    requires first { IsFilledIn (W.meaning work.now) turns.now First [] all.now 0
+    requires first { IsFilledIn (W.meaning work.now) phases.now First [] all.now 0
         (item_total (W.meaning work.now)) 0 }
     requires whole { length all.now ≡ cell_total (W.meaning work.now) }
-    requires ready { AreReady (W.meaning work.now) turns.now members.old }
-    requires known { length members.old ≡ turns.now.ranges }
+    requires ready { AreReady (W.meaning work.now) phases.now members.old }
+    requires known { length members.old ≡ phases.now.ranges }
     ensures count { length members.new ≡ length members.old }
-    ensures done { AreDone (W.meaning work.now) turns.now all.now members.new }
+    ensures done { AreDone (W.meaning work.now) phases.now all.now members.new }
 {
     let threads = members.len().max(1);
     for_each_mut(
@@ -127,14 +127,14 @@ fn run_all<R: Threads + Sync, W: Work, G: Gate>(
         members,
         threads,
         &|range: usize, member: &mut CachePadded<Member>|
-            requires first { IsFilledIn (W.meaning work.now) turns.now First [] all.now 0
+            requires first { IsFilledIn (W.meaning work.now) phases.now First [] all.now 0
                 (item_total (W.meaning work.now)) 0 }
             requires whole { length all.now ≡ cell_total (W.meaning work.now) }
-            requires range { range < turns.now.ranges }
-            requires ready { IsReady (W.meaning work.now) turns.now range member.now }
-            ensures done { IsDone (W.meaning work.entry.now) turns.entry.now all.entry.now range
+            requires range { range < phases.now.ranges }
+            requires ready { IsReady (W.meaning work.now) phases.now range member.now }
+            ensures done { IsDone (W.meaning work.entry.now) phases.entry.now all.entry.now range
                 (padded_value member.exit.now).own.items }
-        { fill_range(alloc, work, turns, all, gate, range, member) },
+        { fill_range(alloc, work, phases, all, gate, range, member) },
     );
 }
 
@@ -142,26 +142,26 @@ fn run_all<R: Threads + Sync, W: Work, G: Gate>(
 fn fill_range<W: Work, G: Gate>(
     alloc: Global,
     work: &W,
-    turns: &Turns,
+    phases: &Phases,
     all: &[u64],
     gate: &G,
     _range: usize,
     member: &mut CachePadded<Member>,
 )
-    requires first { IsFilledIn (W.meaning work.now) turns.now First [] all.now 0
+    requires first { IsFilledIn (W.meaning work.now) phases.now First [] all.now 0
         (item_total (W.meaning work.now)) 0 }
     requires whole { length all.now ≡ cell_total (W.meaning work.now) }
-    requires range { _range < turns.now.ranges }
-    requires ready { IsReady (W.meaning work.now) turns.now _range member.old }
-    ensures done { IsDone (W.meaning work.now) turns.now all.now _range
+    requires range { _range < phases.now.ranges }
+    requires ready { IsReady (W.meaning work.now) phases.now _range member.old }
+    ensures done { IsDone (W.meaning work.now) phases.now all.now _range
         (padded_value member.new).own.items }
 {
     let member: &mut Member = member;
     let own = own_words(alloc, all, member);
     let mut filler = RangeFiller {
         work,
-        turns,
-        turn: Turn::Range(member.number),
+        phases,
+        phase: Phase::Range(member.number),
         all,
         first: member.first,
         own,
@@ -169,7 +169,7 @@ fn fill_range<W: Work, G: Gate>(
         step: 0,
         reads: 0,
     };
-    fill_turn(&mut filler, gate, member.number, &mut member.buffers);
+    fill_phase(&mut filler, gate, member.number, &mut member.buffers);
     member.own = filler.own;
 }
 
@@ -194,15 +194,15 @@ fn own_words(alloc: Global, all: &[u64], member: &mut Member) -> Vec<u64>
 /// The words of all ranges, one after the other.
 fn join<W: Work>(
     _work: &W,
-    _turns: &Turns,
+    _phases: &Phases,
     members: &[CachePadded<Member>],
     words: Vec<u64>,
 ) -> Result<Vec<u64>, AllocError>
     requires lawful { IsLawfulWork (W.meaning _work.now) }
-    requires turns { CanTake (W.meaning _work.now) _turns.now }
-    requires known { length members.now ≡ _turns.now.ranges }
-    requires done { AreDone (W.meaning _work.now) _turns.now words.items members.now }
-    ensures filled { IfOk result (λ v. IsFilledIn (W.meaning _work.now) _turns.now Last [] v.items
+    requires phases { CanTake (W.meaning _work.now) _phases.now }
+    requires known { length members.now ≡ _phases.now.ranges }
+    requires done { AreDone (W.meaning _work.now) _phases.now words.items members.now }
+    ensures filled { IfOk result (λ v. IsFilledIn (W.meaning _work.now) _phases.now Last [] v.items
         0 0 0) }
     ensures count { IfOk result (λ v. vec_len v ≡ cell_total (W.meaning _work.now)) }
 {

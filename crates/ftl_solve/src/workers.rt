@@ -4,15 +4,15 @@ ghost use Rattle.ftl_cells.specs.State.{AreFirst, AreLast};
 ghost use Rattle.ftl_dep_table.specs.Meant.{meant};
 ghost use Rattle.ftl_items.specs.WordLaws.{HoldTheSolution};
 ghost use Rattle.ftl_solution.specs.Solution.{solution};
-ghost use Rattle.ftl_turns.specs.Turns.{CanTake};
-ghost use Rattle.ftl_turns.specs.declared.turn.Turns.{Turns};
+ghost use Rattle.ftl_phases.specs.Phases.{CanTake};
+ghost use Rattle.ftl_phases.specs.declared.phase.Phases.{Phases};
 
 use ftl_cells::{Cells, Work};
 use ftl_edge::Gate;
+use ftl_phases::Phases;
 use ftl_plan::{Plan, solve_alone};
 use ftl_ranges::run_ranges;
 use ftl_steal::{run_alone, run_stage};
-use ftl_turns::Turns;
 use std::alloc::{AllocError, Global};
 use std::sync::Wait;
 use std::thread::Threads;
@@ -39,26 +39,27 @@ pub fn solve<R: Threads + Wait + Sync, G: Gate>(
     let mut words = plan.first_words(alloc)?;
     for stage in 0..plan.stage_count() {
         let work = plan.stage(stage);
-        let turns = work.turns(alloc, workers)?;
-        words = words_after(rt, alloc, work, turns, words, workers, gate)?;
+        let ranges = workers.min(work.items().max(1));
+        let phases = work.phases(alloc, ranges)?;
+        words = words_after(rt, alloc, work, phases, words, workers, gate)?;
     }
     Ok(words)
 }
 
 /// The words after a work, from those that fit it. An item by itself is computed by the calling
-/// thread on the words as they are. Where the items have turns, each worker fills a range of the
+/// thread on the words as they are. Where the items have phases, each worker fills a range of the
 /// cells on words of its own; elsewhere workers share the cells and take items from each other.
 fn words_after<R: Threads + Wait + Sync, W: Work + Drop, G: Gate>(
     rt: &R,
     alloc: Global,
     work: W,
-    turns: Option<Turns>,
+    phases: Option<Phases>,
     words: Vec<u64>,
     workers: u32,
     gate: &G,
 ) -> Result<Vec<u64>, AllocError>
     requires first { AreFirst (W.meaning work) words.items }
-    requires turns { (t : Turns) → turns ≡ Some t → CanTake (W.meaning work) t }
+    requires phases { (t : Phases) → phases ≡ Some t → CanTake (W.meaning work) t }
     requires some { 0 < workers }
     requires few { workers ≤ 64 }
     ensures last { IfOk result (λ v. AreLast (W.meaning work) v.items) }
@@ -66,8 +67,8 @@ fn words_after<R: Threads + Wait + Sync, W: Work + Drop, G: Gate>(
     if work.items() < 2 {
         return run_alone(alloc, &work, words);
     }
-    if let Some(turns) = turns {
-        return run_ranges(rt, alloc, &work, &turns, words, gate);
+    if let Some(phases) = phases {
+        return run_ranges(rt, alloc, &work, &phases, words, gate);
     }
     let (cells, hand) = Cells::open(alloc, work, words)?;
     let hand = run_stage(rt, alloc, &cells, hand, workers, gate)?;

@@ -5,15 +5,15 @@ use Rattle.ftl_ranges.specs.declared.member.Member.{Member}
 use Rattle.ftl_ranges.proofs.Members.{starts}
 use Rattle.ftl_ranges.proofs.ranges.fill_range.Goals as goal
 
-pub fill_turn-requires-clause-filled : goal.fill_turn-requires-clause-filled
-fill_turn-requires-clause-filled g c κs within =
+pub fill_phase-requires-clause-filled : goal.fill_phase-requires-clause-filled
+fill_phase-requires-clause-filled g c κs within =
     let m = g.W.Meant.meaning c.args.work.now in
     let ready = c.requires.ready in
     let own = c.own_words-own in
     let is : c.deref_mut-member.result.now ≡ padded_value c.args.member.now = c.deref_mut-member.ensures.value in
     let count : c.deref_mut-member.result.now.count ≡ ready.count =
     ap (λ (w : Member). w.count) is ∙ ready.equipped.count_is in
-    starts m c.args.turns.now c.args.all.now own.result.items c.args._range ready.count own.new.member.first
+    starts m c.args.phases.now c.args.all.now own.result.items c.args._range ready.count own.new.member.first
     own.new.member.number c.requires.first c.requires.whole ready.ends
     (own.ensures.first ∙ ap (λ (w : Member). w.first) is ∙ ready.equipped.first_is)
     (own.ensures.number ∙ ap (λ (w : Member). w.number) is ∙ ready.equipped.number_is)

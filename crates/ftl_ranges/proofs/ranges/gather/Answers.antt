@@ -9,7 +9,7 @@ use Rattle.ftl_ranges.proofs.ranges.gather.Goals as goal
 pub loop-range-preserved : goal.loop-range-preserved
 loop-range-preserved g c =
     let m = g.W.Meant.meaning c.args.work.now in
-    let t = c.args.turns.now in
+    let t = c.args.phases.now in
     let inv = c.loop-range.invariant in
     let range = c.loop-range.range in
     let count : c.min-count.result ≡ min t.size (c.cells-cells.result - c.loop-range.first) = c.min-count.ensures in

@@ -11,7 +11,7 @@ use Rattle.ftl_ranges.proofs.ranges.join.Goals as goal
 pub loop-range-preserved : goal.loop-range-preserved
 loop-range-preserved g c =
     let m = g.W.Meant.meaning c.args._work.now in
-    let t = c.args._turns.now in
+    let t = c.args._phases.now in
     let inv = c.loop-range.invariant in
     let range = c.loop-range.range in
     let all = c.args.words.items in
@@ -40,7 +40,7 @@ loop-range-preserved g c =
 pub returns : goal.returns
 returns g c =
     let m = g.W.Meant.meaning c.args._work.now in
-    let t = c.args._turns.now in
+    let t = c.args._phases.now in
     let inv = c.loop-range.invariant in
     let here : c.loop-range.range ≡ length c.args.members.now =
     omega (arith, c.loop-range-test.false, c.loop-range.auto.range-end) in
@@ -48,10 +48,10 @@ returns g c =
     subst (λ y. length c.loop-range.words.items ≡ range_first t.size (cell_total m) y) here (omega (arith, inv.count)) in
     record {
       filled = rejoins m t c.args.words.items c.args.members.now c.loop-range.words.items c.requires.lawful
-          c.requires.turns c.requires.known c.requires.done count
+          c.requires.phases c.requires.known c.requires.done count
           (subst (λ y. AreJoinedBelow m t y c.args.members.now c.loop-range.words.items) here inv.joined);
       count = omega (
         arith,
-        joined_count m t c.args.members.now c.loop-range.words.items c.requires.turns c.requires.known count,
+        joined_count m t c.args.members.now c.loop-range.words.items c.requires.phases c.requires.known count,
       );
     }

@@ -6,6 +6,6 @@ use Rattle.ftl_ranges.proofs.ranges.join.Given as goal
 
 abbrev pub invariant-loop-range : goal.invariant-loop-range
 invariant-loop-range g l = record {
-  count : vec_len l.words ≡ range_first l._turns.size (cell_total (g.W.Meant.meaning l._work)) l.range;
-  joined : AreJoinedBelow (g.W.Meant.meaning l._work) l._turns l.range l.members l.words.items;
+  count : vec_len l.words ≡ range_first l._phases.size (cell_total (g.W.Meant.meaning l._work)) l.range;
+  joined : AreJoinedBelow (g.W.Meant.meaning l._work) l._phases l.range l.members l.words.items;
 }

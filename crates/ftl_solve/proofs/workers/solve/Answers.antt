@@ -17,7 +17,7 @@ words_after-requires g c κs =
     subst (λ (v : StageView). AreFirst (meaning_at v) c.loop-stage.words.items) (sym c.stage-work.ensures.stage)
     c.loop-stage.invariant.first in (
       search sendable depth 30,
-      (search (stage_work_sync, sendable) depth 30, (search sendable depth 30, (first, (c.in_ok-turns.ensures.turns, (c.requires.some, c.requires.few))))),
+      (search (stage_work_sync, sendable) depth 30, (search sendable depth 30, (first, (c.in_ok-phases.ensures.phases, (c.requires.some, c.requires.few))))),
     )
 
 pub loop-stage-preserved : goal.loop-stage-preserved

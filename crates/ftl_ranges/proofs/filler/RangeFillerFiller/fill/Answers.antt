@@ -33,7 +33,7 @@ returns-clause-fit g c =
     let b = c.requires.fit.0.targets me.item me.step st c.requires.fit.1 in
     let at : target_of m me.item me.step ≡ me.first + (c.args.cell - me.first) =
     omega (arith, c.requires.cell, b.0) in (
-      fills_on m me.turns.now me.turn me.all.now me.own.items me.first me.item me.step (c.args.cell - me.first)
+      fills_on m me.phases.now me.phase me.all.now me.own.items me.first me.item me.step (c.args.cell - me.first)
           c.word_of.result c.requires.fit.0 c.requires.fit.1 st at
           (c.word_of.ensures.word ∙ ap word_of_value c.requires.working.2),
       c.requires.fit.1,

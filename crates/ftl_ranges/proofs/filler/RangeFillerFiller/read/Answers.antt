@@ -25,7 +25,7 @@ pub unwrap-requires : goal.unwrap-requires
 unwrap-requires g c =
     let me = c.args.self.now in
     let st = has_step (g.W.Meant.meaning me.work.now) me.item me.step c.requires.working.0 in
-    let is = read_gives (g.W.Meant.meaning me.work.now) me.turns.now me.turn me.all.now me.own.items me.first me.item
+    let is = read_gives (g.W.Meant.meaning me.work.now) me.phases.now me.phase me.all.now me.own.items me.first me.item
     me.step me.reads c.args.cell c.word-word.result c.val_of.result c.requires.fit.0 c.requires.fit.1 st
     c.requires.working.1 c.requires.cell c.word-word.ensures.word c.val_of.ensures.only in
     search rules
@@ -34,7 +34,7 @@ pub returns-clause-value : goal.returns-clause-value
 returns-clause-value g c =
     let me = c.args.self.now in
     let st = has_step (g.W.Meant.meaning me.work.now) me.item me.step c.requires.working.0 in
-    let is = read_gives (g.W.Meant.meaning me.work.now) me.turns.now me.turn me.all.now me.own.items me.first me.item
+    let is = read_gives (g.W.Meant.meaning me.work.now) me.phases.now me.phase me.all.now me.own.items me.first me.item
     me.step me.reads c.args.cell c.word-word.result c.val_of.result c.requires.fit.0 c.requires.fit.1 st
     c.requires.working.1 c.requires.cell c.word-word.ensures.word c.val_of.ensures.only in
     search rules

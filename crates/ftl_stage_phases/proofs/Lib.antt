@@ -1,0 +1,4 @@
+mod Cells
+mod Ordered
+mod Taken
+mod Pushed

@@ -1,4 +1,0 @@
-mod Cells
-mod Turning
-mod Taken
-mod Pushed
