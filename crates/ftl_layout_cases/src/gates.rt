@@ -73,15 +73,15 @@ impl Gate for Counting {
     }
 }
 
-/// Lays out the page by so many workers. The text that was written, and the status.
-fn lay_out<R: Threads + Wait + Sync, G: Gate>(
+/// Obeys a command on the page. The text that was written, and the status.
+fn answer_to<R: Threads + Wait + Sync, G: Gate>(
     rt: &R,
     alloc: Global,
-    workers: &str,
+    command: &[&str],
     gate: &G,
 ) -> Result<String, AllocError> {
     let mut words = Vec::new(alloc);
-    for &word in &["run", "--workers", workers, "--grain", "1"] {
+    for &word in command {
         words.push(String::from_str(alloc, word)?)?;
     }
     let page = Vec::from_slice(alloc, PAGE.as_bytes())?;
@@ -91,22 +91,35 @@ fn lay_out<R: Threads + Wait + Sync, G: Gate>(
     told(alloc, &sink, status)
 }
 
-/// Prints whether two workers began an item each, and how often one worker called the gate, with
-/// what was written.
+/// Prints whether two workers began an item each, on cells that they shared and on ranges of their
+/// own, and how often one worker called the gate, with what was written.
 pub(crate) fn print_gates<R: Threads + Wait + Sync + Print + AllocGlobal>(
     rt: &R,
 ) -> io::Result<()> {
-    let meeting = Meeting::new();
-    let answer = lay_out(rt, rt.alloc(), "2", &meeting)?;
-    println!(rt; "two workers began an item each: {}", meeting.both_came())?;
-    print!(rt; "{answer}")?;
+    print_meeting(rt, &["run", "--workers", "2", "--grain", "1"])?;
+    print_meeting(
+        rt,
+        &["sample", "20000", "--grammar", "table", "--workers", "2"],
+    )?;
     let counting = Counting {
         calls: AtomicU64::new(0),
     };
-    let answer = lay_out(rt, rt.alloc(), "1", &counting)?;
+    let command = ["run", "--workers", "1", "--grain", "1"];
+    let answer = answer_to(rt, rt.alloc(), &command, &counting)?;
     println!(rt;
         "one worker called the gate: {}",
         counting.calls.load(Ordering::SeqCst)
     )?;
+    print!(rt; "{answer}")
+}
+
+/// Prints whether two workers began an item each while a command was obeyed, with what was written.
+fn print_meeting<R: Threads + Wait + Sync + Print + AllocGlobal>(
+    rt: &R,
+    command: &[&str],
+) -> io::Result<()> {
+    let meeting = Meeting::new();
+    let answer = answer_to(rt, rt.alloc(), command, &meeting)?;
+    println!(rt; "two workers began an item each: {}", meeting.both_came())?;
     print!(rt; "{answer}")
 }
