@@ -1,6 +1,5 @@
 -- Words by their first.
-use Rattle.std.proofs.Common.{◌≡◌, ◌<◌, List, [], ◌∷◌, length, map, get_or, drop, codes, refl, sym, ◌∙◌, ap, Bool, true, false, Option, Some, None, if◌then◌else◌, arith, String, Global}
-use Rattle.std.proofs.Math.Seq.{drop-cons}
+use Rattle.std.proofs.Common.{◌≡◌, ◌<◌, List, [], ◌∷◌, length, map, get_or, drop, codes, refl, sym, ◌∙◌, ap, Bool, true, false, Option, None, if◌then◌else◌, arith, String, Global}
 use Rattle.std.specs.String.{string_bytes}
 use Rattle.std.specs.Option.{option_and_then}
 use Rattle.std.specs.Str.{bytes_eq}

@@ -1,5 +1,5 @@
 -- Which words are which command.
-use Rattle.std.specs.Prelude.{ℕ, List, [], ◌∷◌, Option, Some, None, codes, if◌then◌else◌, Result, Ok, Err, is_some}
+use Rattle.std.specs.Prelude.{List, [], ◌∷◌, Option, Some, None, codes, if◌then◌else◌, Result, Ok, Err, is_some}
 use Rattle.std.specs.Option.{option_and_then, option_map}
 use Rattle.std.specs.Str.{bytes_eq}
 use Rattle.clap.specs.Words.{Row, Text, first_of}
@@ -10,17 +10,14 @@ use Rattle.ftl_commands.specs.declared.command.Command.TheVariants as command
 use Rattle.ftl_commands.specs.declared.command.CommandFault.{CommandFault}
 use Rattle.ftl_commands.specs.declared.command.CommandFault.TheVariants.{BadWords}
 use Rattle.ftl_solving.specs.Numerals.{number_of}
-use Rattle.ftl_solving.specs.Solvings.{number_by, solving}
+use Rattle.ftl_solving.specs.Solvings.{solving_by}
 use Rattle.ftl_solving.specs.declared.solving.Solving.{Solving}
 
 -- ---- options
 
 -- how a page is solved: by 1 to 64 workers, with 1 to 1048576 nodes a subtree
 abbrev pub solving_of : List Row → Option Solving
-solving_of rows =
-    option_and_then (λ workers. option_map (solving workers)
-    (number_by 1048576 64 (first_of (codes "grain") rows)))
-    (number_by 64 1 (first_of (codes "workers") rows))
+solving_of rows = solving_by (first_of (codes "workers") rows) (first_of (codes "grain") rows)
 
 -- the name, where a grammar of this name comes with the program
 abbrev pub shipped_name : (name : Text) → Option Text
@@ -46,11 +43,15 @@ sample_of [] = None
 sample_of (pieces ∷ rest) =
     option_and_then (sample_by pieces) (taken (sample_app (codes "sample")) (pieces ∷ rest))
 
+-- to run by options
+abbrev pub run_by : List Row → Option Command
+run_by rows = option_map command.Run (solving_of rows)
+
 -- the words, by the name of the command, which is the first of them
 abbrev pub command_named : (name : Text) → (rest : List Text) → Option Command
 command_named name rest =
     if bytes_eq name (codes "run")
-    then option_map command.Run (option_and_then solving_of (taken (solving_app (codes "run")) (name ∷ rest)))
+    then option_and_then run_by (taken (solving_app (codes "run")) (name ∷ rest))
     else if bytes_eq name (codes "check")
     then option_map (λ rows. command.Check) (taken (plain_app (codes "check")) (name ∷ rest))
     else if bytes_eq name (codes "schedule")

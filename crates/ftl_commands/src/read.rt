@@ -6,10 +6,9 @@ ghost use Rattle.std.specs.String.{string_bytes};
 ghost use Rattle.clap.specs.Walk.{rows_of};
 ghost use Rattle.clap.specs.Words.{found_of};
 ghost use Rattle.ftl_model.specs.Outcome.{Gives};
-ghost use Rattle.ftl_commands.specs.Commands.{answer_by, command_of, grammar_by};
+ghost use Rattle.ftl_commands.specs.Commands.{answer_by, command_of, grammar_by, run_by};
 ghost use Rattle.ftl_commands.specs.Commands.{sample_by, sample_of, shipped_name, solving_of};
 ghost use Rattle.ftl_commands.specs.Options.{plain_app, sample_app, solving_app, taken};
-ghost use Rattle.ftl_commands.specs.declared.command.Command.TheVariants as command;
 ghost use Rattle.ftl_commands.specs.declared.command.CommandFault.TheVariants.{OutOfMemory};
 
 use crate::command::{Command, CommandFault};
@@ -53,12 +52,18 @@ fn no_options(alloc: Global, name: &'static str, words: &[String]) -> Result<(),
 }
 
 fn run(alloc: Global, words: &[String]) -> Result<Command, CommandFault>
-    ensures exact { Gives OutOfMemory (λ c. c) result (answer_by (option_map command.Run
-        (option_and_then solving_of
-        (taken (solving_app (codes "run")) (map string_bytes words.now))))) }
+    ensures exact { Gives OutOfMemory (λ c. c) result (answer_by (option_and_then run_by
+        (taken (solving_app (codes "run")) (map string_bytes words.now)))) }
 {
     let matches = options(solving_command(alloc, "run")?, words)?;
-    let solving = solving(&matches).ok_or(CommandFault::BadWords)?;
+    run_by(&matches)
+}
+
+fn run_by(matches: &ArgMatches<'_>) -> Result<Command, CommandFault>
+    ensures exact { Gives OutOfMemory (λ c. c) result
+        (answer_by (run_by (rows_of (found_of matches.now)))) }
+{
+    let solving = solving(matches).ok_or(CommandFault::BadWords)?;
     Ok(Command::Run(solving))
 }
 

@@ -1,6 +1,6 @@
-use Rattle.std.proofs.Common.{◌≡◌, ◌∙◌, drop, map, ap, sym}
+use Rattle.std.proofs.Common.{◌∙◌, drop, map, ap}
 use Rattle.std.specs.String.{string_bytes}
-use Rattle.ftl_commands.specs.Commands.{answer_by, command_of}
+use Rattle.ftl_commands.specs.Commands.{answer_by}
 use Rattle.ftl_commands.proofs.Words.{by_first, command_at, no_command}
 use Rattle.ftl_commands.proofs.read.read_command.Goals as goal
 
