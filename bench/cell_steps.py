@@ -1,11 +1,12 @@
 #!/usr/bin/env python3
-"""Compares the steps of stages on shared cells with the same steps on plain words by one worker, on a page of 200,000
-pieces of four shipped grammars. Prints the milliseconds of processor time of all stages that have several items: alone,
-by workers that take turns on one processor, which is what the steps themselves and the items cost, and by workers on
-all processors, where they also wait for what others write; and the ratios of these. The time of workers is that of all
-together, with the start and end of their threads. A stage of one item is computed on plain words by either. What
-opening and closing the cells and dealing the items costs is told beside it. Of several runs the quickest counts, stage
-by stage.
+"""Compares the steps of stages by several workers with the same steps by one worker, on a page of 200,000 pieces of four
+shipped grammars. Prints the milliseconds of processor time of all stages that have several items: alone, by workers that
+take turns on one processor, which is what the steps themselves and the items cost, and by workers on all processors,
+where they also wait for what others write; and the ratios of these. The time of workers is that of all together, with
+the start and end of their threads. What is done beside them by one thread is told beside it: with ranges the items of
+the first and the last phase, and joining the words; with shared cells opening and closing these and dealing the items.
+So of a stage by ranges the time of workers is only what they do of it. A stage of one item is computed on plain words
+by either. Of several runs the quickest counts, stage by stage.
 
 usage: bench/cell_steps.py [WORKERS [PROGRAM]]     2 workers, and crates/ftl_layout/out/ftl_layout if left out
 """
@@ -59,8 +60,8 @@ def main():
             alone, _ = quickest(program, page.name, 1, functions)
             turns, beside = quickest(program, page.name, workers, functions, one)
             free, _ = quickest(program, page.name, workers, functions)
-        shared = [place for place, stage in enumerate(turns) if stage[0] == "workers"]
-        spent = [sum(stages[place][1] for place in shared) for stages in (alone, turns, free)]
+        several = [place for place, stage in enumerate(turns) if stage[0] == "workers"]
+        spent = [sum(stages[place][1] for place in several) for stages in (alone, turns, free)]
         ratios = spent[1] / spent[0], spent[2] / spent[0]
         print(
             f"{grammar:8} {spent[0]:8.1f} {spent[1]:8.1f} {ratios[0]:8.2f} {spent[2]:8.1f} {ratios[1]:8.2f} "

@@ -53,6 +53,10 @@ class Stopped:
         """Milliseconds of processor time so far."""
         return time.clock_gettime_ns((~self.pid << 3) | 2) / 1e6
 
+    def passed(self):
+        """Milliseconds that have passed, whatever the program did."""
+        return time.monotonic_ns() / 1e6
+
     def peek(self, place):
         return libc.ptrace(PEEK, self.pid, place, None) & 0xFFFFFFFFFFFFFFFF
 
@@ -77,16 +81,16 @@ class Stopped:
         return registers[INSTRUCTION], self.peek(registers[STACK])
 
 
-def timed_calls(program, words, page, functions, processors=None):
-    """The calls of these functions as they return: the name, and at which milliseconds of processor time the call began
-    and returned. Time begins with the process."""
+def timed_calls(program, words, page, functions, processors=None, clock=Stopped.spent):
+    """The calls of these functions as they return: the name, and at which milliseconds the call began and returned. By
+    the first clock this is processor time from the start of the process on."""
     process = Stopped(program, words, page, processors)
     starts = {process.base + place: name for name, place in functions.items()}
     for place in starts:
         process.set(place)
     running, calls = {}, []
     while stop := process.go_on():
-        now = process.spent()
+        now = clock(process)
         if stop[0] in running:
             start, began = running.pop(stop[0])
             calls.append((starts[start], began, now))
