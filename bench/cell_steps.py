@@ -4,7 +4,7 @@ shipped grammars. Prints the milliseconds of processor time of all stages that h
 take turns on one processor, which is what the steps themselves and the items cost, and by workers on all processors,
 where they also wait for what others write; and the ratios of these. The time of workers is that of all together, with
 the start and end of their threads. What is done beside them by one thread is told beside it: with ranges the items of
-the first and the last phase, and joining the words; with shared cells opening and closing these and dealing the items.
+the first and the last phase; with shared cells opening and closing these and dealing the items.
 So of a stage by ranges the time of workers is only what they do of it. A stage of one item is computed on plain words
 by either. Of several runs the quickest counts, stage by stage.
 
@@ -24,6 +24,7 @@ FUNCTIONS = {
     "words": r"^ftl_plan::plan::Plan::first_words",
     "alone": r"^ftl_steal::alone::run_alone",
     "workers": r"^std::thread::fork::chunks_from",
+    "ranges": r"^ftl_ranges::ranges::fill_ranges",
     "show": PARTS["show"],
 }
 
@@ -31,7 +32,7 @@ FUNCTIONS = {
 def stages_of(program, page, workers, functions, processors=None, more=()):
     """For each stage how it was run and how long, and the time beside them from the first words to the last."""
     calls = timed_calls(program, ["run", "--workers", str(workers), *more], page, functions, processors)
-    stages = [(name, ended - began) for name, began, ended in calls if name in ("alone", "workers")]
+    stages = [(name, ended - began) for name, began, ended in calls if name in ("alone", "workers", "ranges")]
     first = next(ended for name, _, ended in calls if name == "words")
     last = next(began for name, began, _ in calls if name == "show")
     return stages, last - first - sum(time for _, time in stages)
@@ -60,7 +61,7 @@ def main():
             alone, _ = quickest(program, page.name, 1, functions)
             turns, beside = quickest(program, page.name, workers, functions, one)
             free, _ = quickest(program, page.name, workers, functions)
-        several = [place for place, stage in enumerate(turns) if stage[0] == "workers"]
+        several = [place for place, stage in enumerate(turns) if stage[0] != "alone"]
         spent = [sum(stages[place][1] for place in several) for stages in (alone, turns, free)]
         ratios = spent[1] / spent[0], spent[2] / spent[0]
         print(

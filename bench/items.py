@@ -1,8 +1,8 @@
 #!/usr/bin/env python3
 """Runs a stage of a million items, each of one step that reads nothing: the nodes of a page at grain 1. Prints
 milliseconds of processor time alone, and by 2 and 4 workers on ranges of the cells, that take turns on one processor,
-and that run on all; and the nanoseconds that an item takes beside its step. Beside that stand finding the phases of the
-items and joining the words. Of several runs the quickest counts.
+and that run on all; and the nanoseconds that an item takes beside its step. Beside that stands finding the phases of
+the items. Of several runs the quickest counts.
 
 usage: bench/items.py [PROGRAM]     PROGRAM is crates/ftl_layout/out/ftl_layout if left out
 """
@@ -35,7 +35,7 @@ def main():
         page.flush()
         words = ["--grain", "1"]
         alone = sum(time for _, time in quickest(program, page.name, 1, functions, more=words)[0])
-        print(f"{'workers':>12} {'ms':>8} {'ns beside a step':>17} {'phases, joining':>18}")
+        print(f"{'workers':>12} {'ms':>8} {'ns beside a step':>17} {'phases':>18}")
         print(f"{'alone':>12} {alone:8.1f}")
         for workers in (2, 4):
             for told, processors in (("in turns", {min(os.sched_getaffinity(0))}), ("at once", None)):

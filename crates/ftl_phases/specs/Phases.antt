@@ -1,6 +1,6 @@
 -- Which phases the items of a work can take: ranges know nothing of each other.
 use Rattle.std.specs.Prelude.{◌≡◌, ℕ, ◌+◌, ◌*◌, ◌<◌, ◌≤◌, ◌⊎◌, length, slice_index_or}
-use Rattle.ftl_cells.specs.Work.{Meaning, IsNext, IsStepOfItem, cell_total, item_total, target_of}
+use Rattle.ftl_cells.specs.Work.{Meaning, IsNext, IsStepOfItem, cell_total, item_total, read_of, read_total, target_of}
 use Rattle.ftl_phases.specs.declared.phase.Phase.{Phase}
 use Rattle.ftl_phases.specs.declared.phase.Phase.TheVariants.{First, Range, Last}
 use Rattle.ftl_phases.specs.declared.phase.Phases.{Phases}
@@ -24,10 +24,12 @@ abbrev pub IsInRange : (size range cell : ℕ) → Type 0
 IsInRange size b c = (b * size ≤ c) × (c < (b + 1) * size)
 
 -- A work can take these phases. Each item has one; the ranges have all cells; an item hands on to items of its own phase
--- or of later ones; and what the items of a range fill lies in it.
+-- or of later ones; and what the items of a range fill and read lies in it.
 pub record CanTake (m : Meaning) (t : Phases) : Type 0 where
   pub count : length t.phases.items ≡ item_total m
   pub known : (i b : ℕ) → phase_at t i ≡ Range b → b < t.ranges
   pub cover : cell_total m ≤ t.ranges * t.size
   pub handing : (p i : ℕ) → IsNext m p i → (phase_at t p ≡ phase_at t i) ⊎ ComesBefore (phase_at t p) (phase_at t i)
   pub within : (i j b : ℕ) → IsStepOfItem m i j → phase_at t i ≡ Range b → IsInRange t.size b (target_of m i j)
+  pub reads : (i j r b : ℕ) → IsStepOfItem m i j → r < read_total m i j → phase_at t i ≡ Range b
+      → IsInRange t.size b (read_of m i j r)

@@ -1,5 +1,5 @@
 -- Items of a phase that are filled in order.
-use Rattle.std.proofs.Common.{◌≡◌, ◌≢◌, ℕ, ◌+◌, ◌<◌, ◌≤◌, ◌⊎◌, inl, inr, ⊎_elim, List, length, get_or, set, subst, refl, sym, ap, ◌∙◌, arith}
+use Rattle.std.proofs.Common.{◌≡◌, ◌≢◌, ℕ, ◌+◌, ◌<◌, ◌⊎◌, inl, inr, ⊎_elim, List, length, get_or, set, subst, refl, sym, ap, ◌∙◌, arith}
 use Rattle.std.proofs.lemmas.List.{get_or-set_same, get_or-set_other, length-set}
 use mathlib.Core.Logic.{dite}
 use native.Mathlib.Decide.{ℕ_discrete}
@@ -11,7 +11,7 @@ use Rattle.ftl_steal.specs.Alone.{IsBefore}
 use Rattle.ftl_phases.specs.Phases.{ComesBefore, phase_at}
 use Rattle.ftl_phases.specs.declared.phase.Phase.{Phase}
 use Rattle.ftl_phases.specs.declared.phase.Phases.{Phases}
-use Rattle.ftl_ranges.specs.Filled.{IsBeside, IsFilledIn, IsMade, Holds}
+use Rattle.ftl_ranges.specs.Filled.{HoldMade, Holds, IsFilledIn, IsMade}
 
 -- the steps of an item that this one reads from are made
 handed_made : (t : Phases) (x : Phase) (i j p k : ℕ) → p < i → phase_at t i ≡ x
@@ -21,20 +21,20 @@ handed_made t x i j p k less phase or =
     (λ (before : ComesBefore (phase_at t p) (phase_at t i)). inr (subst (ComesBefore (phase_at t p)) phase before)) or
 
 -- each cell that a step reads holds the solution's word
-pub read_holds : (m : Meaning) (t : Phases) (x : Phase) (all own : List ℕ) (first i j r : ℕ)
-    → IsFilledIn m t x all own first i j → phase_at t i ≡ x → IsStepOfItem m i j → r < read_total m i j
-    → Holds all own first (read_of m i j r) (solved_word m (read_of m i j r))
-read_holds m t x all own first i j r f phase st b =
-    let P : ℕ → Type 0 = λ c. Holds all own first c (solved_word m c) in
+pub read_holds : (m : Meaning) (t : Phases) (x : Phase) (words : List ℕ) (first i j r : ℕ)
+    → IsFilledIn m t x words first i j → phase_at t i ≡ x → IsStepOfItem m i j → r < read_total m i j
+    → Holds words first (read_of m i j r) (solved_word m (read_of m i j r))
+read_holds m t x words first i j r f phase st b =
+    let P : ℕ → Type 0 = λ c. Holds words first c (solved_word m c) in
     let law = f.lawful in
     let here : j < step_total m i = st.step in
-    ⊎_elim (λ given. f.given (read_of m i j r) (law.read_in_range i j r st b) given)
+    ⊎_elim (λ given. f.made.given (read_of m i j r) (law.read_in_range i j r st b) given)
     (λ more. ⊎_elim
     (λ (is_own : IsOwn m i j (read_of m i j r)). subst P is_own.is
-    (f.filled i is_own.step (record { item = st.item; step = omega (arith, is_own.earlier, here) })
+    (f.made.filled i is_own.step (record { item = st.item; step = omega (arith, is_own.earlier, here) })
     (inl (phase, inr (refl, is_own.earlier)))))
     (λ (on : IsHandedOn m i (read_of m i j r)). subst P on.is
-    (f.filled on.item on.step on.known
+    (f.made.filled on.item on.step on.known
     (handed_made t x i j on.item on.step
     (subst (λ y. on.item < y) on.next.is (law.next_is_later on.item on.next.at on.next.known on.next.below))
     phase (f.taken.handing on.item i on.next))))
@@ -42,85 +42,87 @@ read_holds m t x all own first i j r f phase st b =
     (law.readable i j r st b)
 
 -- so its word is that of the solution's value, which is what the word gives
-pub read_gives : (m : Meaning) (t : Phases) (x : Phase) (all own : List ℕ) (first i j r cell word : ℕ)
-    (answer : Option Value) → IsFilledIn m t x all own first i j → phase_at t i ≡ x → IsStepOfItem m i j
-    → r < read_total m i j → cell ≡ read_of m i j r → ((n : ℕ) → Holds all own first cell n → word ≡ n)
-    → ((v : Value) → IsValue v → word ≡ word_of_value v → answer ≡ Some v) → answer ≡ Some (solution_at m cell)
-read_gives m t x all own first i j r cell word answer f phase st b at found only =
+pub read_gives : (m : Meaning) (t : Phases) (x : Phase) (words : List ℕ) (first i j r cell d : ℕ)
+    (answer : Option Value) → IsFilledIn m t x words first i j → phase_at t i ≡ x → IsStepOfItem m i j
+    → r < read_total m i j → cell ≡ read_of m i j r → cell ≡ first + d
+    → ((v : Value) → IsValue v → get_or words d 0 ≡ word_of_value v → answer ≡ Some v) → answer ≡ Some (solution_at m cell)
+read_gives m t x words first i j r cell d answer f phase st b at is only =
     let law = f.lawful in
     let near : cell < cell_total m = omega (arith, at, law.read_in_range i j r st b) in
-    let is : Holds all own first cell (solved_word m cell) =
-    subst (λ c. Holds all own first c (solved_word m c)) (sym at) (read_holds m t x all own first i j r f phase st b) in
-    only (solution_at m cell) (law.values cell near) (found (solved_word m cell) is)
+    let inside : d < length words = omega (arith, at, is, (f.reads i j r st b phase).1) in
+    let holds : Holds words first cell (solved_word m cell) =
+    subst (λ c. Holds words first c (solved_word m c)) (sym at) (read_holds m t x words first i j r f phase st b) in
+    only (solution_at m cell) (law.values cell near) (holds d is inside)
 
--- a word of a range's own, set anew
-set_same : (all own : List ℕ) (first d n : ℕ) → d < length own → Holds all (set own d n) first (first + d) n
-set_same all own first d n b = record {
-  inside = λ e is l.
-      let same : e ≡ d = omega (arith, is) in
-      subst (λ y. get_or (set own d n) y 0 ≡ n) (sym same) (get_or-set_same own d n 0 b);
-  outside = λ beside.
-      absurd (⊎_elim (λ (x : first + d < first). omega (arith, x))
-      (λ (x : first + length (set own d n) ≤ first + d). omega (arith, x, b, length-set own d n)) beside);
-}
+-- a word, set anew
+set_same : (words : List ℕ) (first d n : ℕ) → d < length words → Holds (set words d n) first (first + d) n
+set_same words first d n b e is l =
+    let same : e ≡ d = omega (arith, is) in
+    subst (λ y. get_or (set words d n) y 0 ≡ n) (sym same) (get_or-set_same words d n 0 b)
 
 -- and all other cells hold what they did
-set_other : (all own : List ℕ) (first d n c w : ℕ) → c ≢ first + d → Holds all own first c w
-    → Holds all (set own d n) first c w
-set_other all own first d n c w ne h = record {
-  inside = λ e is l.
-      get_or-set_other own d e n 0 (λ same. ne (is ∙ ap (λ y. first + y) same))
-      ∙ h.inside e is (omega (arith, l, length-set own d n));
-  outside = λ beside. h.outside (subst (λ y. IsBeside y first c) (length-set own d n) beside);
-}
+set_other : (words : List ℕ) (first d n c w : ℕ) → c ≢ first + d → Holds words first c w
+    → Holds (set words d n) first c w
+set_other words first d n c w ne h e is l =
+    get_or-set_other words d e n 0 (λ same. ne (is ∙ ap (λ y. first + y) same))
+    ∙ h e is (omega (arith, l, length-set words d n))
 
 -- the next step, once this one's target is filled
-pub fills_on : (m : Meaning) (t : Phases) (x : Phase) (all own : List ℕ) (first i j d n : ℕ)
-    → IsFilledIn m t x all own first i j → phase_at t i ≡ x → IsStepOfItem m i j → target_of m i j ≡ first + d
-    → n ≡ solved_word m (target_of m i j) → IsFilledIn m t x all (set own d n) first i (j + 1)
-fills_on m t x all own first i j d n f phase st at is =
+pub fills_on : (m : Meaning) (t : Phases) (x : Phase) (words : List ℕ) (first i j d n : ℕ)
+    → IsFilledIn m t x words first i j → phase_at t i ≡ x → IsStepOfItem m i j → target_of m i j ≡ first + d
+    → n ≡ solved_word m (target_of m i j) → IsFilledIn m t x (set words d n) first i (j + 1)
+fills_on m t x words first i j d n f phase st at is =
     let law = f.lawful in
-    let count = length-set own d n in
+    let count = length-set words d n in
     let kind : kind_at m (target_of m i j) ≡ Target = law.target_kind i j st in
-    let in_own : d < length own = omega (arith, at, (f.targets i j st phase).1) in
-    let new : Holds all (set own d n) first (target_of m i j) (solved_word m (target_of m i j)) =
-    subst (λ y. Holds all (set own d n) first (target_of m i j) y) is
-    (subst (λ c. Holds all (set own d n) first c n) (sym at) (set_same all own first d n in_own)) in
-    let old : (c w : ℕ) → c ≢ target_of m i j → Holds all own first c w → Holds all (set own d n) first c w =
-    λ c w ne h. set_other all own first d n c w (λ same. ne (same ∙ sym at)) h in record {
+    let inside : d < length words = omega (arith, at, (f.targets i j st phase).1) in
+    let new : Holds (set words d n) first (target_of m i j) (solved_word m (target_of m i j)) =
+    subst (λ y. Holds (set words d n) first (target_of m i j) y) is
+    (subst (λ c. Holds (set words d n) first c n) (sym at) (set_same words first d n inside)) in
+    let old : (c w : ℕ) → c ≢ target_of m i j → Holds words first c w → Holds (set words d n) first c w =
+    λ c w ne h. set_other words first d n c w (λ same. ne (same ∙ sym at)) h in record {
       lawful = law;
       taken = f.taken;
-      there = λ c l beside. f.there c l (subst (λ y. IsBeside y first c) count beside);
-      targets = λ k l step same.
-          let b = f.targets k l step same in
-          (b.0, omega (arith, b.1, count));
-      given = λ c l k. old c (solved_word m c) (λ e. let same : Given ≡ Target = sym k ∙ ap (kind_at m) e ∙ kind in
-          absurd (cc)) (f.given c l k);
-      later = λ c l k. old c 0 (λ e. let same : Later ≡ Target = sym k ∙ ap (kind_at m) e ∙ kind in
-          absurd (cc)) (f.later c l k);
-      filled = λ k l step b. dite (ℕ_discrete (target_of m k l) (target_of m i j))
-          (λ e. subst (λ c. Holds all (set own d n) first c (solved_word m c)) (sym e) new)
-          (λ ne. old (target_of m k l) (solved_word m (target_of m k l)) ne
-          (f.filled k l step (⊎_elim
-          (λ (y : (phase_at t k ≡ x) × IsBefore k l i (j + 1)). ⊎_elim
-          (λ (z : k < i). inl (y.0, inl z))
-          (λ (z : (k ≡ i) × (l < j + 1)). dite (ℕ_discrete l j)
-          (λ e. absurd (ne (λ q. target_of m (z.0 q) (e q))))
-          (λ other. inl (y.0, inr (z.0, omega (arith, z.1))))) y.1)
-          (λ y. inr y) b)));
+      targets = λ k l step same. let b = f.targets k l step same in (b.0, omega (arith, b.1, count));
+      reads = λ k l r step near same. let b = f.reads k l r step near same in (b.0, omega (arith, b.1, count));
+      made = record {
+        given = λ c l k. old c (solved_word m c)
+            (λ e. let same : Given ≡ Target = sym k ∙ ap (kind_at m) e ∙ kind in absurd (cc)) (f.made.given c l k);
+        later = λ c l k. old c 0
+            (λ e. let same : Later ≡ Target = sym k ∙ ap (kind_at m) e ∙ kind in absurd (cc)) (f.made.later c l k);
+        filled = λ k l step b. dite (ℕ_discrete (target_of m k l) (target_of m i j))
+            (λ e. subst (λ c. Holds (set words d n) first c (solved_word m c)) (sym e) new)
+            (λ ne. old (target_of m k l) (solved_word m (target_of m k l)) ne
+            (f.made.filled k l step (⊎_elim
+            (λ (y : (phase_at t k ≡ x) × IsBefore k l i (j + 1)). ⊎_elim
+            (λ (z : k < i). inl (y.0, inl z))
+            (λ (z : (k ≡ i) × (l < j + 1)). dite (ℕ_discrete l j)
+            (λ e. absurd (ne (λ q. target_of m (z.0 q) (e q))))
+            (λ other. inl (y.0, inr (z.0, omega (arith, z.1))))) y.1)
+            (λ y. inr y) b)));
+      };
     }
 
+-- the same words, when more steps are made
+pub made_more : (m : Meaning) (less more : (k l : ℕ) → Type 0) (words : List ℕ) (first : ℕ)
+    → ((k l : ℕ) → IsStepOfItem m k l → more k l → less k l) → HoldMade m less words first
+    → HoldMade m more words first
+made_more m less more words first each h = record {
+  given = h.given;
+  later = h.later;
+  filled = λ k l st b. h.filled k l st (each k l st b);
+}
+
 -- the next item, once each step of this one is made
-pub goes_on : (m : Meaning) (t : Phases) (x : Phase) (all own : List ℕ) (first i : ℕ)
-    → IsFilledIn m t x all own first i (step_total m i) → IsFilledIn m t x all own first (i + 1) 0
-goes_on m t x all own first i f = record {
+pub goes_on : (m : Meaning) (t : Phases) (x : Phase) (words : List ℕ) (first i : ℕ)
+    → IsFilledIn m t x words first i (step_total m i) → IsFilledIn m t x words first (i + 1) 0
+goes_on m t x words first i f = record {
   lawful = f.lawful;
   taken = f.taken;
-  there = f.there;
   targets = f.targets;
-  given = f.given;
-  later = f.later;
-  filled = λ k l st b. f.filled k l st (⊎_elim
+  reads = f.reads;
+  made = made_more m (IsMade t x i (step_total m i)) (IsMade t x (i + 1) 0) words first
+      (λ k l st b. ⊎_elim
       (λ (y : (phase_at t k ≡ x) × IsBefore k l (i + 1) 0). inl (
         y.0,
         ⊎_elim
@@ -128,20 +130,19 @@ goes_on m t x all own first i f = record {
             (λ e. inr (e, subst (λ q. l < step_total m q) e st.step)) (λ ne. inl (omega arith)))
             (λ (z : (k ≡ i + 1) × (l < 0)). absurd (omega (arith, z.1))) y.1,
       ))
-      (λ y. inr y) b);
+      (λ y. inr y) b) f.made;
 }
 
 -- an item of another phase is not this one's to fill
-pub passes_by : (m : Meaning) (t : Phases) (x : Phase) (all own : List ℕ) (first i : ℕ)
-    → IsFilledIn m t x all own first i 0 → phase_at t i ≢ x → IsFilledIn m t x all own first (i + 1) 0
-passes_by m t x all own first i f other = record {
+pub passes_by : (m : Meaning) (t : Phases) (x : Phase) (words : List ℕ) (first i : ℕ)
+    → IsFilledIn m t x words first i 0 → phase_at t i ≢ x → IsFilledIn m t x words first (i + 1) 0
+passes_by m t x words first i f other = record {
   lawful = f.lawful;
   taken = f.taken;
-  there = f.there;
   targets = f.targets;
-  given = f.given;
-  later = f.later;
-  filled = λ k l st b. f.filled k l st (⊎_elim
+  reads = f.reads;
+  made = made_more m (IsMade t x i 0) (IsMade t x (i + 1) 0) words first
+      (λ k l st b. ⊎_elim
       (λ (y : (phase_at t k ≡ x) × IsBefore k l (i + 1) 0). inl (
         y.0,
         ⊎_elim
@@ -149,5 +150,5 @@ passes_by m t x all own first i f other = record {
             (λ e. absurd (other (subst (λ q. phase_at t q ≡ x) e y.0))) (λ ne. inl (omega arith)))
             (λ (z : (k ≡ i + 1) × (l < 0)). absurd (omega (arith, z.1))) y.1,
       ))
-      (λ y. inr y) b);
+      (λ y. inr y) b) f.made;
 }

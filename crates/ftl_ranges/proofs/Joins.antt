@@ -1,5 +1,6 @@
--- From phase to phase: what stands before the first, in a range, before the last, and after it.
-use Rattle.std.proofs.Common.{◌≡◌, ℕ, zero, suc, ◌+◌, ◌-◌, ◌*◌, ◌<◌, ◌≤◌, ◌⊎◌, inl, inr, ⊎_elim, List, [], length, get_or, subst, refl, sym, ap, ◌∙◌, arith}
+-- From phase to phase, and from the words of ranges to those of all.
+use Rattle.std.proofs.Common.{◌≡◌, ℕ, zero, suc, ◌+◌, ◌-◌, ◌*◌, ◌^◌, ◌<◌, ◌≤◌, ◌⊎◌, inl, inr, ⊎_elim, List, ◌++◌, length, get_or, min, subst, refl, sym, ap, ◌∙◌, arith, length-append, mul-le-mul_right}
+use Rattle.std.proofs.lemmas.List.{get_or_append_left, get_or-append-add}
 use Rattle.ftl_cells.specs.Work.{Meaning, IsLawfulWork, IsStepOfItem, cell_total, kind_at, item_total, target_of, solved_word}
 use Rattle.ftl_cells.specs.State.{AreFirst, AreLast, first_word_of, last_word_of}
 use Rattle.ftl_cells.specs.declared.kind.CellKind.{CellKind}
@@ -9,20 +10,14 @@ use Rattle.ftl_phases.specs.Phases.{CanTake, ComesBefore, phase_at}
 use Rattle.ftl_phases.specs.declared.phase.Phase.{Phase}
 use Rattle.ftl_phases.specs.declared.phase.Phase.TheVariants.{First, Range, Last}
 use Rattle.ftl_phases.specs.declared.phase.Phases.{Phases}
-use Rattle.ftl_ranges.specs.Filled.{IsFilledIn, IsMade, Holds, range_first}
+use Rattle.ftl_ranges.specs.Filled.{HoldMade, Holds, IsFilledIn, IsMade, IsOfFirst, IsOfFirstOrRanges, IsOfRanges, range_first}
+use Rattle.std.specs.List.{All}
+use Rattle.crossbeam_utils.specs.declared.cache_padded.CachePadded.{CachePadded}
+use Rattle.ftl_ranges.specs.Workers.{AreFilled, CanFill, HasRoom}
+use Rattle.ftl_ranges.specs.declared.buffers.Buffers.{Buffers}
+use Rattle.ftl_ranges.proofs.Fills.{made_more}
 
--- ---- the words of all cells as those of one range
-
--- such a word is what its cell holds
-whole_holds : (all own : List ℕ) (c w : ℕ) → c < length own → get_or own c 0 ≡ w → Holds all own 0 c w
-whole_holds all own c w b is = record {
-  inside = λ d same l. subst (λ y. get_or own y 0 ≡ w) (omega (arith, same)) is;
-  outside = λ beside. absurd (⊎_elim (λ (x : c < 0). omega (arith, x)) (λ (x : 0 + length own ≤ c). omega (arith, x, b))
-      beside);
-}
-
-whole_is : (all own : List ℕ) (c w : ℕ) → c < length own → Holds all own 0 c w → get_or own c 0 ≡ w
-whole_is all own c w b h = h.inside c (omega arith) b
+-- ---- phases in their order
 
 -- no step comes before the first of the first item
 none_before : (k l : ℕ) → IsBefore k l 0 0 → ⊥
@@ -53,184 +48,273 @@ up_to_last = elim [
   | Last ↦ inl refl
 ]
 
--- before the first phase
-pub begins : (m : Meaning) (t : Phases) (words : List ℕ) → IsLawfulWork m → CanTake m t → AreFirst m words
-    → IsFilledIn m t First [] words 0 0 0
-begins m t words law can first = record {
-  lawful = law;
-  taken = can;
-  there = λ c l beside. absurd (⊎_elim (λ (x : c < 0). omega (arith, x))
-      (λ (x : 0 + length words ≤ c). omega (arith, x, l, first.count)) beside);
-  targets = λ i j st phase. (omega arith, omega (arith, law.target_in_range i j st, first.count));
-  given = λ c l kind. whole_holds [] words c (solved_word m c) (omega (arith, l, first.count))
-      (first.each c l ∙ ap (λ q. first_word_of q (solved_word m c)) kind);
-  later = λ c l kind. whole_holds [] words c 0 (omega (arith, l, first.count))
-      (first.each c l ∙ ap (λ q. first_word_of q (solved_word m c)) kind);
-  filled = λ k l st made. absurd (⊎_elim
-      (λ (x : (phase_at t k ≡ First) × IsBefore k l 0 0). none_before k l x.1)
-      (λ x. none_first (phase_at t k) x) made);
-}
-
--- ---- a range
-
--- a copy of some of all words
-copy_holds : (all own : List ℕ) (first c w : ℕ)
-    → ((d : ℕ) → d < length own → get_or own d 0 ≡ get_or all (first + d) 0) → get_or all c 0 ≡ w
-    → Holds all own first c w
-copy_holds all own first c w copy is = record {
-  inside = λ d same l. copy d l ∙ subst (λ y. get_or all y 0 ≡ w) same is;
-  outside = λ beside. is;
-}
-
-pub starts_range : (m : Meaning) (t : Phases) (all own : List ℕ) (b : ℕ)
-    → IsFilledIn m t First [] all 0 (item_total m) 0 → length all ≡ cell_total m
-    → range_first t.size (cell_total m) b + length own ≡ range_first t.size (cell_total m) (b + 1)
-    → ((d : ℕ) → d < length own → get_or own d 0 ≡ get_or all (range_first t.size (cell_total m) b + d) 0)
-    → IsFilledIn m t (Range b) all own (range_first t.size (cell_total m) b) 0 0
-starts_range m t all own b f whole count copy =
-    let first = range_first t.size (cell_total m) b in record {
-      lawful = f.lawful;
-      taken = f.taken;
-      there = λ c l beside. omega (arith, l, whole);
-      targets = λ i j st phase.
-          let near = f.taken.within i j b st phase in
-          let low : b * t.size ≤ target_of m i j = near.0 in
-          let high : target_of m i j < (b + 1) * t.size = near.1 in
-          let known = f.lawful.target_in_range i j st in
-          (omega (arith, low), omega (arith, high, known, count));
-      given = λ c l kind. copy_holds all own first c (solved_word m c) copy
-          (whole_is [] all c (solved_word m c) (omega (arith, l, whole)) (f.given c l kind));
-      later = λ c l kind. copy_holds all own first c 0 copy
-          (whole_is [] all c 0 (omega (arith, l, whole)) (f.later c l kind));
-      filled = λ k l st made.
-          let target = target_of m k l in
-          copy_holds all own first target (solved_word m target) copy
-          (whole_is [] all target (solved_word m target) (omega (arith, f.lawful.target_in_range k l st, whole))
-          (f.filled k l st (⊎_elim
-          (λ (x : (phase_at t k ≡ Range b) × IsBefore k l 0 0). absurd (none_before k l x.1))
-          (λ x. inl (first_alone (phase_at t k) b x, inl st.item)) made)));
-    }
-
--- ---- all ranges together
-
--- the range below this number in which a cell lies
-record InRange (size cells number c : ℕ) : Type 0 where
-  range : ℕ
-  below : range < number
-  from : range_first size cells range ≤ c
-  to : c < range_first size cells (range + 1)
-
-pub below_or : (a b : ℕ) → (a < b) ⊎ (b ≤ a)
+below_or : (a b : ℕ) → (a < b) ⊎ (b ≤ a)
 below_or a zero = inr (omega arith)
 below_or zero (suc b) = inl (omega arith)
 below_or (suc a) (suc b) =
     ⊎_elim (λ less. inl (omega (arith, less))) (λ (more : b ≤ a). inr (omega (arith, more))) (below_or a b)
 
-find : (size cells c number : ℕ) → c < range_first size cells number → InRange size cells number c
-find size cells c zero b = absurd (omega (arith, b))
-find size cells c (suc n) b =
-    ⊎_elim
-    (λ low. let f = find size cells c n low in
-    record { range = f.range; below = omega (arith, f.below); from = f.from; to = f.to })
-    (λ (high : range_first size cells n ≤ c). record {
-      range = n;
-      below = omega arith;
-      from = high;
-      to = subst (λ y. c < range_first size cells y) (omega arith) b;
-    })
-    (below_or c (range_first size cells n))
+-- ---- the words of all cells
 
--- the words of each range, and where they stand among those of all
-pub record AreTogether (m : Meaning) (t : Phases) (all : List ℕ) (own : ℕ → List ℕ) (words : List ℕ) : Type 0 where
-  pub law : IsLawfulWork m
-  pub can : CanTake m t
-  pub length_is : length words ≡ cell_total m
-  pub counts : (b : ℕ) → b < t.ranges
-      → range_first t.size (cell_total m) b + length (own b) ≡ range_first t.size (cell_total m) (b + 1)
-  pub fills : (b : ℕ) → b < t.ranges
-      → IsFilledIn m t (Range b) all (own b) (range_first t.size (cell_total m) b) (item_total m) 0
-  pub stand : (b d : ℕ) → b < t.ranges → d < length (own b)
-      → get_or words (range_first t.size (cell_total m) b + d) 0 ≡ get_or (own b) d 0
+whole_holds : (words : List ℕ) (c w : ℕ) → get_or words c 0 ≡ w → Holds words 0 c w
+whole_holds words c w is d same l = subst (λ y. get_or words y 0 ≡ w) (omega (arith, same)) is
 
--- the last phase begins with the words of all ranges
-module _ (m : Meaning) (t : Phases) (all : List ℕ) (own : ℕ → List ℕ) (words : List ℕ)
-    (all_there : AreTogether m t all own words) where
-  abbrev first_of : ℕ → ℕ
-  first_of b = range_first t.size (cell_total m) b
+whole_is : (words : List ℕ) (c w : ℕ) → c < length words → Holds words 0 c w → get_or words c 0 ≡ w
+whole_is words c w b h = h c (omega arith) b
 
-  -- what a range tells of its cells stands in the words of all
-  told_by : (b c w : ℕ) → b < t.ranges → first_of b ≤ c → c < first_of (b + 1)
-      → Holds all (own b) (first_of b) c w → get_or words c 0 ≡ w
-  told_by b c w known low high h =
-      let d = c - first_of b in
-      let at : c ≡ first_of b + d = omega (arith, low) in
-      let near : d < length (own b) = omega (arith, at, high, all_there.counts b known) in
-      subst (λ y. get_or words y 0 ≡ get_or (own b) d 0) (sym at) (all_there.stand b d known near)
-      ∙ h.inside d at near
+-- a phase on all words
+pub on_all : (m : Meaning) (t : Phases) (x : Phase) (words : List ℕ) → IsLawfulWork m → CanTake m t
+    → length words ≡ cell_total m → HoldMade m (IsMade t x 0 0) words 0 → IsFilledIn m t x words 0 0 0
+on_all m t x words law can count made = record {
+  lawful = law;
+  taken = can;
+  targets = λ i j st phase. (omega arith, omega (arith, law.target_in_range i j st, count));
+  reads = λ i j r st near phase. (omega arith, omega (arith, law.read_in_range i j r st near, count));
+  made = made;
+}
 
-  -- the range of a cell
-  range_of : (c : ℕ) → c < cell_total m → InRange t.size (cell_total m) t.ranges c
-  range_of c l = find t.size (cell_total m) c t.ranges (omega (arith, l, all_there.can.cover))
+-- before the first phase
+pub begins : (m : Meaning) (t : Phases) (words : List ℕ) → IsLawfulWork m → CanTake m t → AreFirst m words
+    → IsFilledIn m t First words 0 0 0
+begins m t words law can first = on_all m t First words law can first.count (record {
+  given = λ c l kind. whole_holds words c (solved_word m c)
+      (first.each c l ∙ ap (λ q. first_word_of q (solved_word m c)) kind);
+  later = λ c l kind. whole_holds words c 0
+      (first.each c l ∙ ap (λ q. first_word_of q (solved_word m c)) kind);
+  filled = λ k l st made. absurd (⊎_elim
+      (λ (x : (phase_at t k ≡ First) × IsBefore k l 0 0). none_before k l x.1)
+      (λ x. none_first (phase_at t k) x) made);
+})
 
-  found : (c w : ℕ) → c < cell_total m
-      → ((b : ℕ) → b < t.ranges → Holds all (own b) (first_of b) c w) → Holds [] words 0 c w
-  found c w l tell =
-      let r = range_of c l in
-      whole_holds [] words c w (omega (arith, l, all_there.length_is))
-      (told_by r.range c w r.below r.from r.to (tell r.range r.below))
+-- after the first phase
+pub first_made : (m : Meaning) (t : Phases) (words : List ℕ) → IsFilledIn m t First words 0 (item_total m) 0
+    → HoldMade m (IsOfFirst t) words 0
+first_made m t words f =
+    made_more m (IsMade t First (item_total m) 0) (IsOfFirst t) words 0
+    (λ k l st is. inl (is, inl st.item)) f.made
 
-  -- each step of a phase before the last holds its word
-  made_holds : (k l : ℕ) → IsStepOfItem m k l → (y : Phase) → phase_at t k ≡ y → ComesBefore y Last
-      → Holds [] words 0 (target_of m k l) (solved_word m (target_of m k l))
-  made_holds k l st = elim [
-    | First ↦ λ is before.
-        found (target_of m k l) (solved_word m (target_of m k l)) (all_there.law.target_in_range k l st)
-        (λ b known. (all_there.fills b known).filled k l st
-        (inr (subst (λ y. ComesBefore y (Range b)) (sym is) tt)))
-    | Range b ↦ λ is before.
-        let target = target_of m k l in
-        let near = all_there.can.within k l b st is in
-        let low : b * t.size ≤ target = near.0 in
-        let high : target < (b + 1) * t.size = near.1 in
-        let in_all = all_there.law.target_in_range k l st in
-        let known = all_there.can.known k b is in
-        whole_holds [] words target (solved_word m target) (omega (arith, in_all, all_there.length_is))
-        (told_by b target (solved_word m target) known (omega (arith, low)) (omega (arith, high, in_all))
-        ((all_there.fills b known).filled k l st (inl (is, inl st.item))))
-    | Last ↦ λ is before. absurd before
-  ]
-
-  pub joins : IsFilledIn m t Last [] words 0 0 0
-  joins = record {
-    lawful = all_there.law;
-    taken = all_there.can;
-    there = λ c l beside. absurd (⊎_elim (λ (x : c < 0). omega (arith, x))
-        (λ (x : 0 + length words ≤ c). omega (arith, x, l, all_there.length_is)) beside);
-    targets = λ i j st phase.
-        (omega arith, omega (arith, all_there.law.target_in_range i j st, all_there.length_is));
-    given = λ c l kind. found c (solved_word m c) l (λ b known. (all_there.fills b known).given c l kind);
-    later = λ c l kind. found c 0 l (λ b known. (all_there.fills b known).later c l kind);
-    filled = λ k l st made. ⊎_elim
-        (λ (x : (phase_at t k ≡ Last) × IsBefore k l 0 0). absurd (none_before k l x.1))
-        (λ x. made_holds k l st (phase_at t k) refl x) made;
-  }
+-- before the last phase
+pub last_begins : (m : Meaning) (t : Phases) (words : List ℕ) → IsLawfulWork m → CanTake m t
+    → length words ≡ cell_total m → HoldMade m (IsOfFirstOrRanges t 0 t.ranges) words 0
+    → IsFilledIn m t Last words 0 0 0
+last_begins m t words law can count made =
+    on_all m t Last words law can count (made_more m (IsOfFirstOrRanges t 0 t.ranges) (IsMade t Last 0 0) words 0
+    (λ k l st b. ⊎_elim
+    (λ (x : (phase_at t k ≡ Last) × IsBefore k l 0 0). absurd (none_before k l x.1))
+    (λ x.
+    let by : (y : Phase) → phase_at t k ≡ y → ComesBefore y Last → IsOfFirstOrRanges t 0 t.ranges k l = elim [
+      | First ↦ λ is before. inl is
+      | Range b ↦ λ is before.
+          inr (record { range = b; low = omega arith; high = omega (arith, can.known k b is); is = is })
+      | Last ↦ λ is before. absurd before
+    ] in
+    by (phase_at t k) refl x) b)
+    made)
 
 -- after the last phase
-pub ends : (m : Meaning) (t : Phases) (words : List ℕ) → IsFilledIn m t Last [] words 0 (item_total m) 0
+pub ends : (m : Meaning) (t : Phases) (words : List ℕ) → IsFilledIn m t Last words 0 (item_total m) 0
     → length words ≡ cell_total m → AreLast m words
 ends m t words f count = record {
   count = count;
   each = λ c l.
       let near : c < length words = omega (arith, l, count) in
       let by : (q : CellKind) → kind_at m c ≡ q → get_or words c 0 ≡ last_word_of q (solved_word m c) = elim [
-        | Given ↦ λ e. whole_is [] words c (solved_word m c) near (f.given c l e)
+        | Given ↦ λ e. whole_is words c (solved_word m c) near (f.made.given c l e)
         | Target ↦ λ e. let target = f.lawful.each_target c l e in
             let st : IsStepOfItem m target.item target.step = target.known in
             let made : IsMade t Last (item_total m) 0 target.item target.step =
             ⊎_elim (λ same. inl (same, inl st.item)) (λ before. inr before) (up_to_last (phase_at t target.item)) in
-            whole_is [] words c (solved_word m c) near
-            (subst (λ y. Holds [] words 0 y (solved_word m y)) target.is (f.filled target.item target.step st made))
-        | Later ↦ λ e. whole_is [] words c 0 near (f.later c l e)
+            whole_is words c (solved_word m c) near
+            (subst (λ y. Holds words 0 y (solved_word m y)) target.is (f.made.filled target.item target.step st made))
+        | Later ↦ λ e. whole_is words c 0 near (f.made.later c l e)
       ] in
       by (kind_at m c) refl;
 }
+
+-- ---- one range
+
+module _ (m : Meaning) (t : Phases) where
+  abbrev from : ℕ → ℕ
+  from b = range_first t.size (cell_total m) b
+
+  pub starts : (words : List ℕ) (b first : ℕ) → IsLawfulWork m → CanTake m t → first ≡ from b
+      → first + length words ≡ from (b + 1) → HoldMade m (IsOfFirst t) words first
+      → IsFilledIn m t (Range b) words first 0 0
+  starts words b first law can at count made = record {
+    lawful = law;
+    taken = can;
+    targets = λ i j st phase.
+        let near = can.within i j b st phase in
+        let low : b * t.size ≤ target_of m i j = near.0 in
+        let high : target_of m i j < (b + 1) * t.size = near.1 in
+        (omega (arith, low, at), omega (arith, high, at, law.target_in_range i j st, count));
+    reads = λ i j r st here phase.
+        let near = can.reads i j r b st here phase in
+        let low = near.0 in
+        let high = near.1 in
+        (omega (arith, low, at), omega (arith, high, at, law.read_in_range i j r st here, count));
+    made = made_more m (IsOfFirst t) (IsMade t (Range b) 0 0) words first
+        (λ k l st x. ⊎_elim
+        (λ (y : (phase_at t k ≡ Range b) × IsBefore k l 0 0). absurd (none_before k l y.1))
+        (λ y. first_alone (phase_at t k) b y) x) made;
+  }
+
+  pub range_made : (words : List ℕ) (b first : ℕ) → IsFilledIn m t (Range b) words first (item_total m) 0
+      → HoldMade m (IsOfFirstOrRanges t b 1) words first
+  range_made words b first f =
+      made_more m (IsMade t (Range b) (item_total m) 0) (IsOfFirstOrRanges t b 1) words first
+      (λ k l st x. ⊎_elim
+      (λ (is : phase_at t k ≡ First). inr (subst (λ y. ComesBefore y (Range b)) (sym is) tt))
+      (λ (y : IsOfRanges t b 1 k).
+      let same : y.range ≡ b = omega (arith, y.low, y.high) in
+      inl (y.is ∙ ap (λ (n : ℕ). Range n) same, inl st.item)) x) f.made
+
+  -- no range
+  pub none_made : (words : List ℕ) (b first : ℕ) → HoldMade m (IsOfFirst t) words first
+      → HoldMade m (IsOfFirstOrRanges t b 0) words first
+  none_made words b first h =
+      made_more m (IsOfFirst t) (IsOfFirstOrRanges t b 0) words first
+      (λ k l st x. ⊎_elim (λ is. is) (λ (y : IsOfRanges t b 0 k). absurd (omega (arith, y.low, y.high))) x) h
+
+  -- ---- several ranges
+
+  holds_both : (xs ys : List ℕ) (first c w : ℕ) → Holds xs first c w → Holds ys (first + length xs) c w
+      → Holds (xs ++ ys) first c w
+  holds_both xs ys first c w left right d is l =
+      ⊎_elim (λ less. get_or_append_left xs ys 0 d less ∙ left d is less)
+      (λ (more : length xs ≤ d).
+      let e = d - length xs in
+      let at : d ≡ length xs + e = omega (arith, more) in
+      subst (λ y. get_or (xs ++ ys) y 0 ≡ w) (sym at)
+      (get_or-append-add xs ys e 0
+      ∙ right e (omega (arith, is, at)) (omega (arith, at, l, length-append xs ys))))
+      (below_or d (length xs))
+
+  pub made_left : (is_made : (k l : ℕ) → Type 0) (xs ys : List ℕ) (first : ℕ) → HoldMade m is_made (xs ++ ys) first
+      → HoldMade m is_made xs first
+  made_left is_made xs ys first h =
+      let of : (c w : ℕ) → Holds (xs ++ ys) first c w → Holds xs first c w = λ c w holds d is l.
+      sym (get_or_append_left xs ys 0 d l) ∙ holds d is (omega (arith, l, length-append xs ys)) in record {
+        given = λ c l k. of c (solved_word m c) (h.given c l k);
+        later = λ c l k. of c 0 (h.later c l k);
+        filled = λ k l st b. of (target_of m k l) (solved_word m (target_of m k l)) (h.filled k l st b);
+      }
+
+  pub made_right : (is_made : (k l : ℕ) → Type 0) (xs ys : List ℕ) (first : ℕ) → HoldMade m is_made (xs ++ ys) first
+      → HoldMade m is_made ys (first + length xs)
+  made_right is_made xs ys first h =
+      let of : (c w : ℕ) → Holds (xs ++ ys) first c w → Holds ys (first + length xs) c w = λ c w holds d is l.
+      sym (get_or-append-add xs ys d 0)
+      ∙ holds (length xs + d) (omega (arith, is)) (omega (arith, l, length-append xs ys)) in record {
+        given = λ c l k. of c (solved_word m c) (h.given c l k);
+        later = λ c l k. of c 0 (h.later c l k);
+        filled = λ k l st b. of (target_of m k l) (solved_word m (target_of m k l)) (h.filled k l st b);
+      }
+
+  pub made_both : (xs ys : List ℕ) (first b n p : ℕ) → IsLawfulWork m → CanTake m t → first ≡ from b
+      → first + length xs ≡ from (b + n) → HoldMade m (IsOfFirstOrRanges t b n) xs first
+      → HoldMade m (IsOfFirstOrRanges t (b + n) p) ys (first + length xs)
+      → HoldMade m (IsOfFirstOrRanges t b (n + p)) (xs ++ ys) first
+  made_both xs ys first b n p law can at next left right = record {
+    given = λ c l k. holds_both xs ys first c (solved_word m c) (left.given c l k) (right.given c l k);
+    later = λ c l k. holds_both xs ys first c 0 (left.later c l k) (right.later c l k);
+    filled = λ k l st x.
+        let target = target_of m k l in
+        let w = solved_word m target in
+        let inside = law.target_in_range k l st in
+        ⊎_elim
+        (λ (is : phase_at t k ≡ First). holds_both xs ys first target w (left.filled k l st (inl is))
+        (right.filled k l st (inl is)))
+        (λ (y : IsOfRanges t b (n + p) k).
+        let near = can.within k l y.range st y.is in
+        let low : y.range * t.size ≤ target = near.0 in
+        let high : target < (y.range + 1) * t.size = near.1 in
+        ⊎_elim
+        (λ (less : y.range < b + n).
+        let up : (y.range + 1) * t.size ≤ (b + n) * t.size = mul-le-mul_right t.size (omega (arith, less)) in
+        holds_both xs ys first target w
+        (left.filled k l st (inr (record { range = y.range; low = y.low; high = less; is = y.is })))
+        (λ d is l. absurd (omega (arith, is, next, high, up, inside))))
+        (λ (more : b + n ≤ y.range).
+        let up : (b + n) * t.size ≤ y.range * t.size = mul-le-mul_right t.size more in
+        holds_both xs ys first target w
+        (λ d is l. absurd (omega (arith, is, l, next, low, up)))
+        (right.filled k l st
+        (inr (record { range = y.range; low = more; high = omega (arith, y.high); is = y.is }))))
+        (below_or y.range (b + n))) x;
+  }
+
+  -- where the words of so many ranges end, of those of several
+  pub middle_is : (count b n whole middle first : ℕ) → first ≡ from b → first + whole ≡ from (b + count) → n ≤ count
+      → middle ≡ min (n * t.size) whole → first + middle ≡ from (b + n)
+  middle_is count b n whole middle first at stop less is =
+      let more : n * t.size ≤ count * t.size = mul-le-mul_right t.size less in
+      let sum : (b + n) * t.size ≡ b * t.size + n * t.size = omega (arith) in
+      let sums : (b + count) * t.size ≡ b * t.size + count * t.size = omega (arith) in
+      omega (arith, at, stop, is, more, sum, sums)
+
+  -- the ranges of some of the workers
+  pub left_can : (range first : ℕ) (xs ys : List ℕ) (us vs : List (CachePadded Buffers))
+      → CanFill m t range first (xs ++ ys) (us ++ vs) → first + length xs ≡ from (range + length us)
+      → CanFill m t range first xs us
+  left_can range first xs ys us vs c stop = record {
+    lawful = c.lawful;
+    taken = c.taken;
+    begin = c.begin;
+    ends = stop;
+    known = omega (arith, c.known, length-append us vs);
+    made = made_left (IsOfFirst t) xs ys first c.made;
+    few = c.few;
+    narrow = c.narrow;
+    room = λ k d l. subst (HasRoom m) (get_or_append_left us vs d k l)
+        (c.room k d (omega (arith, l, length-append us vs)));
+  }
+
+  pub right_can : (range first next next_first : ℕ) (xs ys : List ℕ) (us vs : List (CachePadded Buffers))
+      → CanFill m t range first (xs ++ ys) (us ++ vs) → first + length xs ≡ from (range + length us)
+      → next ≡ range + length us → next_first ≡ first + length xs → CanFill m t next next_first ys vs
+  right_can range first next next_first xs ys us vs c stop is first_is = record {
+    lawful = c.lawful;
+    taken = c.taken;
+    begin = first_is ∙ stop ∙ ap from (sym is);
+    ends =
+        let count : range + length (us ++ vs) ≡ next + length vs = omega (arith, is, length-append us vs) in
+        let sum : next_first + length ys ≡ first + length (xs ++ ys) = omega (arith, length-append xs ys, first_is) in
+        sum ∙ c.ends ∙ ap from count;
+    known = omega (arith, c.known, is, length-append us vs);
+    made = subst (HoldMade m (IsOfFirst t) ys) (sym first_is) (made_right (IsOfFirst t) xs ys first c.made);
+    few = c.few;
+    narrow = c.narrow;
+    room = λ k d l. subst (HasRoom m) (get_or-append-add us vs k d)
+        (c.room (length us + k) d (omega (arith, l, length-append us vs)));
+  }
+
+  -- both filled
+  pub filled_both : (range first next next_first : ℕ) (xs ys us vs : List ℕ) (n p : ℕ) → IsLawfulWork m → CanTake m t
+      → first ≡ from range → first + length xs ≡ from (range + n) → next ≡ range + n
+      → next_first ≡ first + length xs → AreFilled m t range n first xs us
+      → AreFilled m t next p next_first ys vs → AreFilled m t range (n + p) first (xs ++ ys) (us ++ vs)
+  filled_both range first next next_first xs ys us vs n p law can at stop is first_is left right =
+      let same : next_first ≡ first + length us = omega (arith, first_is, left.count_is) in record {
+        count_is = omega (arith, length-append xs ys, length-append us vs, left.count_is, right.count_is);
+        made = made_both us vs first range n p law can at
+            (omega (arith, left.count_is, stop)) left.made
+            (subst (λ y. HoldMade m (IsOfFirstOrRanges t y p) vs (first + length us)) is
+            (subst (HoldMade m (IsOfFirstOrRanges t next p) vs) same right.made));
+      }
+
+  -- all ranges
+  pub all_can : (words : List ℕ) (workers : List (CachePadded Buffers)) → IsFilledIn m t First words 0 (item_total m) 0
+      → length words ≡ cell_total m → length workers ≡ t.ranges → All (HasRoom m) workers → t.ranges < 2 ^ 32
+      → cell_total m < 2 ^ 32 → CanFill m t 0 0 words workers
+  all_can words workers f count known room few narrow = record {
+    lawful = f.lawful;
+    taken = f.taken;
+    begin = omega (arith);
+    ends = omega (arith, count, known, f.taken.cover, ap (λ (n : ℕ). n * t.size) known);
+    known = omega (arith, known);
+    few = few;
+    narrow = narrow;
+    made = first_made m t words f;
+    room = room;
+  }

@@ -48,7 +48,7 @@ pub fn solve<R: Threads + Wait + Sync, G: Gate>(
 
 /// The words after a work, from those that fit it. An item by itself is computed by the calling
 /// thread on the words as they are. Where the items have phases, each worker fills a range of the
-/// cells on words of its own; elsewhere workers share the cells and take items from each other.
+/// cells in place; elsewhere workers share the cells and take items from each other.
 fn words_after<R: Threads + Wait + Sync, W: Work + Drop, G: Gate>(
     rt: &R,
     alloc: Global,

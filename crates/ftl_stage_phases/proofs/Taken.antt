@@ -6,21 +6,24 @@ use Rattle.std.proofs.lemmas.List.{get_or-map, get_or_past, length-map, map-appe
 use Rattle.std.proofs.lemmas.List.Elements.{Contains-get_or}
 use Rattle.std.proofs.lemmas.Simd.{map-map}
 use mathlib.Core.Path.{fun_ext}
-use Rattle.ftl_cells.specs.Shape.{ComesNext, WorkShape}
-use Rattle.ftl_cells.specs.Work.{IsNext, IsStepOfItem, Meaning, target_of}
-use Rattle.ftl_cells.proofs.Shapes.{cell_total-listed, comes_next, has_step, item_total-listed, target_of-listed}
-use Rattle.ftl_lists.proofs.Elements.{in_filter, in_range_from}
-use Rattle.ftl_model.specs.AttributeGrammar.{AttributeGrammar, Sort, inherited, input, local, synthesized}
-use Rattle.ftl_model.specs.Path.{Above, AtOrAbove, Has, Path, down, top}
-use Rattle.ftl_model.specs.Solves.{rule_node}
+use Rattle.ftl_cells.specs.Shape.{ComesNext, HasStep, WorkShape}
+use Rattle.ftl_cells.specs.Work.{IsNext, IsStepOfItem, Meaning, read_of, read_total, target_of}
+use Rattle.ftl_cells.proofs.Shapes.{cell_total-listed, comes_next, has_step, item_total-listed, read_of-listed, read_total-listed, target_of-listed}
+use Rattle.ftl_lists.proofs.Elements.{in_filter, in_range_from, nothing_in}
+use Rattle.ftl_lists.proofs.Rising.{in_map}
+use Rattle.ftl_model.specs.AttributeGrammar.{AttributeGrammar, Occurrence, Rule, Sort, inherited, input, kid, local, own, read_occurrences, synthesized}
+use Rattle.ftl_model.specs.Path.{Above, AtOrAbove, Has, Path, down, kids_at, top}
+use Rattle.ftl_model.specs.Solves.{Instance, IsInstance, rule_kid, rule_node, rule_of, seen_from}
 use Rattle.ftl_model.specs.Table.{first_instance, instance_count, instance_number}
 use Rattle.ftl_model.specs.Tree.{Forest, IsTree}
 use Rattle.ftl_order.specs.LegalOrder.{turn_of}
+use Rattle.ftl_order.specs.Reads.{equation_reads, rule_reads}
 use Rattle.ftl_order.specs.Schedule.{Pass, PassKind, Schedule, inorder}
 use Rattle.ftl_order.proofs.Kids.{root_there}
+use Rattle.ftl_order.proofs.TreeEquations.{inside_by}
 use Rattle.ftl_items.specs.Cut.{begins, subtree, tops}
 use Rattle.ftl_items.specs.Items.{Item, hands_on, is_next, item, items, items_of_pass, nexts, no_item, pass_in, passes_of}
-use Rattle.ftl_items.specs.StageWork.{stage_work, step_at, steps_in, no_instance}
+use Rattle.ftl_items.specs.StageWork.{no_instance, reads_at, stage_work, step_at, steps_in}
 use Rattle.ftl_items.proofs.CutLaws.{in_tops}
 use Rattle.ftl_items.proofs.StepLaws.{ItemHere, item_here, step_here}
 use Rattle.ftl_items.proofs.Subtrees.{in_subtree}
@@ -57,6 +60,26 @@ runs_above inherited top = inl refl
 runs_above input p = inl refl
 runs_above synthesized p = inl refl
 runs_above local p = inl refl
+
+-- a rule sees its own node and the kids of it
+seen_below : (p : Path) (o : Occurrence) → AtOrAbove p (seen_from p o).node
+seen_below p (own a) = inl refl
+seen_below p (kid c k a) = inr (inl refl)
+
+rule_reads_below : (t : Forest) (rule : Rule) (p : Path) (k : ℕ) (j : Instance) → Contains (rule_reads t rule p k) j
+    → AtOrAbove p j.node
+rule_reads_below t rule p k j h =
+    let m = in_map (seen_from p) (read_occurrences rule.parts (kids_at t p) k) j h in
+    subst (λ (x : Instance). AtOrAbove p x.node) m.is (seen_below p m.from)
+
+-- what an equation reads is at the node where its rule runs or at a kid of it
+read_below : (g : AttributeGrammar) (t : Forest) (sort : Sort) (p : Path) (a : ℕ) (j : Instance)
+    → Contains (equation_reads g t sort p a) j → AtOrAbove (rule_node sort p) j.node
+read_below g t input p a j h = absurd (nothing_in j h)
+read_below g t inherited p a j h =
+    rule_reads_below t (rule_of g t inherited p a) (rule_node inherited p) (rule_kid inherited p) j h
+read_below g t synthesized p a j h = rule_reads_below t (rule_of g t synthesized p a) p 0 j h
+read_below g t local p a j h = rule_reads_below t (rule_of g t local p a) p 0 j h
 
 -- each phase is that of the item of its number
 module _ (g : AttributeGrammar) (t : Forest) (grain size : ℕ) (passes : List Pass) where
@@ -135,9 +158,14 @@ module _ (g : AttributeGrammar) (s : Schedule) (t : Forest) (can : CanBePlanned 
 
     -- ---- a range has what its items fill
 
-    within : (i j b : ℕ) → IsStepOfItem m i j → phase_at phases i ≡ Range b → IsInRange phases.size b (target_of m i j)
-    within i j b is e =
-        let has = has_step shape i j is in
+    -- a step of an item with a range, visited at the first node of the item or below it
+    record StepBelow (first : Path) (q : Instance) : Type 0 where
+      pub valid : IsInstance g t q
+      pub above : AtOrAbove first (turn_of g q).visit
+
+    step_below : (i j b : ℕ) → HasStep shape i j → phase_at phases i ≡ Range b
+        → StepBelow (x_at i).first (step_at g s t grain stage i j)
+    step_below i j b has e =
         let x = x_at i in
         let q = step_at g s t grain stage i j in
         let of = is_ranged i b e in
@@ -149,13 +177,45 @@ module _ (g : AttributeGrammar) (s : Schedule) (t : Forest) (can : CanBePlanned 
         let held : Contains (subtree t x.first) (turn_of g q).visit =
         subst (λ c. Contains (if c then subtree t x.first else x.first ∷ []) (turn_of g q).visit) of.small
         (step.held of.some) in
-        let above =
-        at_or_above x.first (turn_of g q).visit q.node
-        (in_subtree t x.first (turn_of g q).visit (first_there i b e) held).0
-        (runs_above (g.sort q.attribute) q.node) in
-        let cells = cells_within g t can.is_tree x.first q above step.step.0 in
+        record {
+          valid = step.step.0;
+          above = (in_subtree t x.first (turn_of g q).visit (first_there i b e) held).0;
+        }
+
+    -- the cell of an instance at that node or below it is in the range
+    cell_in_range : (i b : ℕ) → phase_at phases i ≡ Range b → (q : Instance) → AtOrAbove (x_at i).first q.node
+        → IsInstance g t q → IsInRange phases.size b (instance_number g t q)
+    cell_in_range i b e q above valid =
+        let cells = cells_within g t can.is_tree (x_at i).first q above valid in
+        in_range g t phases.size (x_at i).first b (instance_number g t q) (is_ranged i b e).takes cells.0 cells.1
+
+    within : (i j b : ℕ) → IsStepOfItem m i j → phase_at phases i ≡ Range b → IsInRange phases.size b (target_of m i j)
+    within i j b is e =
+        let has = has_step shape i j is in
+        let q = step_at g s t grain stage i j in
+        let step = step_below i j b has e in
         subst (IsInRange phases.size b) (sym (target_of-listed shape i j has))
-        (in_range g t phases.size x.first b (instance_number g t q) of.takes cells.0 cells.1)
+        (cell_in_range i b e q
+        (at_or_above (x_at i).first (turn_of g q).visit q.node step.above (runs_above (g.sort q.attribute) q.node))
+        step.valid)
+
+    -- ---- and what they read
+
+    reads : (i j r b : ℕ) → IsStepOfItem m i j → r < read_total m i j → phase_at phases i ≡ Range b
+        → IsInRange phases.size b (read_of m i j r)
+    reads i j r b is below e =
+        let has = has_step shape i j is in
+        let q = step_at g s t grain stage i j in
+        let known : r < length (reads_at g s t grain stage i j) =
+        subst (λ n. r < n) (read_total-listed shape i j has) below in
+        let o = get_or (reads_at g s t grain stage i j) r no_instance in
+        let read = Contains-get_or (reads_at g s t grain stage i j) r no_instance known in
+        let step = step_below i j b has e in
+        subst (IsInRange phases.size b) (sym (read_of-listed shape i j r has known))
+        (cell_in_range i b e o
+        (at_or_above (x_at i).first (turn_of g q).visit o.node step.above
+        (read_below g t (g.sort q.attribute) q.node q.attribute o read))
+        (inside_by g can.law t can.is_tree (g.sort q.attribute) q.node q.attribute refl step.valid.0 step.valid.1 o read))
 
     -- ---- items hand on to their own phase or to a later one
 
@@ -202,6 +262,7 @@ module _ (g : AttributeGrammar) (s : Schedule) (t : Forest) (can : CanBePlanned 
           cover = (let all = cell_total-listed shape in omega (arith, all, covers));
           handing = handing;
           within = within;
+          reads = reads;
         }
 
 -- where there is some value, this holds of it

@@ -5,14 +5,14 @@ use Rattle.ftl_steal.proofs.Filling.{has_step}
 use Rattle.ftl_ranges.proofs.Fills.{fills_on}
 use Rattle.ftl_ranges.proofs.filler.RangeFillerFiller.fill.Goals as goal
 
-pub overflow_sub-cell : goal.overflow_sub-cell
-overflow_sub-cell g c =
+pub overflow_sub-self : goal.overflow_sub-self
+overflow_sub-self g c =
     let me = c.args.self.now in
     let st = has_step (g.W.Meant.meaning me.work.now) me.item me.step c.requires.working.0 in
     omega (arith, c.requires.cell, (c.requires.fit.0.targets me.item me.step st c.requires.fit.1).0)
 
-pub index_mut-requires : goal.index_mut-requires
-index_mut-requires g c =
+pub bounds-self-cell : goal.bounds-self-cell
+bounds-self-cell g c =
     let me = c.args.self.now in
     let st = has_step (g.W.Meant.meaning me.work.now) me.item me.step c.requires.working.0 in
     let b = c.requires.fit.0.targets me.item me.step st c.requires.fit.1 in
@@ -33,7 +33,7 @@ returns-clause-fit g c =
     let b = c.requires.fit.0.targets me.item me.step st c.requires.fit.1 in
     let at : target_of m me.item me.step ≡ me.first + (c.args.cell - me.first) =
     omega (arith, c.requires.cell, b.0) in (
-      fills_on m me.phases.now me.phase me.all.now me.own.items me.first me.item me.step (c.args.cell - me.first)
+      fills_on m me.phases.now me.phase me.words.now me.first me.item me.step (c.args.cell - me.first)
           c.word_of.result c.requires.fit.0 c.requires.fit.1 st at
           (c.word_of.ensures.word ∙ ap word_of_value c.requires.working.2),
       c.requires.fit.1,
