@@ -21,7 +21,7 @@ from stops import addresses, timed_calls
 PIECES = 200_000
 RUNS = 7
 FUNCTIONS = {
-    "words": r"^ftl_plan::plan::Plan::first_words",
+    "words": r"^ftl_plan::plans::plan::Plan::first_words",
     "alone": r"^ftl_steal::alone::run_alone",
     "workers": r"^std::thread::fork::chunks_from",
     "ranges": r"^ftl_ranges::ranges::fill_ranges",

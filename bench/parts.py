@@ -18,10 +18,10 @@ TOP = os.path.dirname(os.path.dirname(os.path.abspath(__file__)))
 GRAMMARS = ["flow", "stack", "table", "float"]
 SIZES = [20_000, 200_000]
 PARTS = {
-    "read": r"ftl_sections::growing::tree_of$",
-    "plan": r"ftl_plan::plan::Plan::new$",
-    "solve": r"ftl_plan::alone::solve_alone$",
-    "show": r"ftl_run::shown::table_shown$",
+    "read": r"ftl_requests::sections::growing::tree_of$",
+    "plan": r"ftl_plan::plans::plan::Plan::new$",
+    "solve": r"ftl_plan::plans::alone::solve_alone$",
+    "show": r"ftl_run::calls::shown::table_shown$",
 }
 
 

@@ -1,6 +1,4 @@
-pub mod Stages
-pub mod Answer
-pub mod Texts
-pub mod Summary
-pub mod Answers
-pub mod Worked
+pub mod refusals
+pub mod answers
+pub mod summary
+pub mod headline

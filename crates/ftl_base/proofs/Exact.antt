@@ -1,7 +1,7 @@
 -- The machine's sum and difference of two values' numbers are exact.
 use Rattle.std.proofs.Common.{◌≡◌, ℕ, ℤ, ◌+ℤ◌, ◌-ℤ◌, arith, ap, to_z, of_z, w64}
 use Rattle.std.proofs.lemmas.Int.{ints}
-use Rattle.ftl_model.specs.Values.{Value, number, IsValue, value_of, sum_of, difference_of}
+use Rattle.ftl_model.specs.layout.Values.{Value, number, IsValue, value_of, sum_of, difference_of}
 
 -- what a machine holds of a number
 abbrev pub held : ℤ → ℤ

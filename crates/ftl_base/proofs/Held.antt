@@ -2,7 +2,7 @@
 use Rattle.std.proofs.Common.{◌≡◌, ℤ, arith}
 use Rattle.std.proofs.lemmas.Int.{ints}
 use Rattle.std.specs.Int.{int_max}
-use Rattle.ftl_model.specs.Values.{value_of, greatest_of, wide}
+use Rattle.ftl_model.specs.layout.Values.{value_of, greatest_of, wide}
 use Rattle.ftl_base.specs.Held.{IsHeld}
 
 -- the greater of two held numbers holds the greatest of the two values

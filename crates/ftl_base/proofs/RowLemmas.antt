@@ -2,7 +2,7 @@
 use Rattle.std.proofs.Common.{◌≡◌, ℕ, zero, suc, ◌<◌, Bool, true, false, List, [], ◌∷◌, ◌++◌, length, take, get_or}
 use Rattle.std.proofs.Common.{refl, ap, arith, ◌∙◌, sym, length-append}
 use Rattle.std.specs.Prelude.{slice_set}
-use Rattle.ftl_model.specs.Values.{Value}
+use Rattle.ftl_model.specs.layout.Values.{Value}
 use Rattle.ftl_base.specs.declared.truth.Truth.{Truth}
 use Rattle.ftl_base.specs.declared.stack.Entry.{Entry}
 use Rattle.ftl_base.specs.declared.stack.Entry.TheVariants.{Number, Test}

@@ -2,7 +2,7 @@
 use Rattle.std.proofs.Common.{◌≡◌, ℕ, suc, ◌+◌, ◌-◌, ◌<◌, List, [], ◌∷◌, ◌++◌, length, take, get_or, true, false}
 use Rattle.std.proofs.Common.{ap, arith, ◌∙◌, sym, length-append, add-one, length-take}
 use Rattle.std.specs.Prelude.{slice_set}
-use Rattle.ftl_model.specs.Values.{Value, overflow}
+use Rattle.ftl_model.specs.layout.Values.{Value, overflow}
 use Rattle.ftl_base.specs.declared.truth.Truth.{Truth}
 use Rattle.ftl_base.specs.declared.truth.Truth.TheVariants.{No}
 use Rattle.ftl_base.specs.declared.stack.Entry.{Entry}

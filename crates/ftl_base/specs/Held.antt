@@ -1,7 +1,7 @@
 -- How one machine number holds a value: a number of the wide range holds itself, and the one after the greatest of them
 -- holds Overflow.
 use Rattle.std.specs.Prelude.{ℤ, pos, negsuc, ◌≤ℤ◌}
-use Rattle.ftl_model.specs.Values.{Value, number, overflow, wide}
+use Rattle.ftl_model.specs.layout.Values.{Value, number, overflow, wide}
 
 -- in the wide range, or the number after the greatest of it
 abbrev pub IsHeld : ℤ → Type 0

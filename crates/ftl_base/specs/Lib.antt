@@ -1,4 +1,4 @@
-pub use Rattle.ftl_model.specs.Values
+pub use Rattle.ftl_model.specs.layout.Values
 pub mod Held
 pub mod StackRows
 pub mod Stacked

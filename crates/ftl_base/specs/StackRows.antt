@@ -1,7 +1,7 @@
 -- The entries that stand in the rows of a stack: at each place a value and a truth, and a mark that says which of them
 -- is the entry.
 use Rattle.std.specs.Prelude.{◌≤◌, ◌≡◌, Bool, true, false, List, [], ◌∷◌, length, take}
-use Rattle.ftl_model.specs.Values.{Value}
+use Rattle.ftl_model.specs.layout.Values.{Value}
 use Rattle.ftl_base.specs.declared.truth.Truth.{Truth}
 use Rattle.ftl_base.specs.declared.stack.Entry.{Entry}
 use Rattle.ftl_base.specs.declared.stack.Entry.TheVariants.{Number, Test}

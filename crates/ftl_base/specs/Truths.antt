@@ -1,7 +1,7 @@
 -- Truths: what a comparison of values gives, and the operators on what comparisons gave.
 use Rattle.std.specs.Prelude.{Bool, true, false, not, ℤ, int_lt, int_le}
 use Rattle.std.specs.Ordering.{int_eq}
-use Rattle.ftl_model.specs.Values.{Value, number, overflow}
+use Rattle.ftl_model.specs.layout.Values.{Value, number, overflow}
 use Rattle.ftl_base.specs.declared.comparison.Cmp.{Cmp}
 use Rattle.ftl_base.specs.declared.comparison.Cmp.TheVariants.{Less, LessEq, More, MoreEq, Equal, Unequal}
 use Rattle.ftl_base.specs.declared.truth.Truth.{Truth}

@@ -1,6 +1,6 @@
 -- The two widths of numbers.
 use Rattle.std.specs.Prelude.{ℕ}
-use Rattle.ftl_model.specs.Values.{narrow, wide}
+use Rattle.ftl_model.specs.layout.Values.{narrow, wide}
 use Rattle.ftl_base.specs.declared.width.Width.{Width}
 use Rattle.ftl_base.specs.declared.width.Width.TheVariants.{Narrow, Wide}
 

@@ -1,6 +1,7 @@
 ghost use Rattle.std.specs.Prelude.{◌≡◌, ◌≤◌, ◌*ℤ◌};
-ghost use Rattle.ftl_model.specs.Values.{value_of, sum_of, difference_of, product_of, negated_of};
-ghost use Rattle.ftl_model.specs.Values.{quotient_of, least_of, greatest_of};
+ghost use Rattle.ftl_model.specs.layout.Values.{value_of, sum_of, difference_of, product_of};
+ghost use Rattle.ftl_model.specs.layout.Values.{negated_of};
+ghost use Rattle.ftl_model.specs.layout.Values.{quotient_of, least_of, greatest_of};
 ghost use Rattle.ftl_base.specs.Widths.{greatest_of_width};
 
 use crate::val::Val;

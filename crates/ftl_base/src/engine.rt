@@ -1,5 +1,5 @@
 ghost use Rattle.std.specs.Prelude.{◌≡◌, ℕ, length};
-ghost use Rattle.ftl_model.specs.Values.{Value};
+ghost use Rattle.ftl_model.specs.layout.Values.{Value};
 
 use crate::truth::Truth;
 use crate::val::Val;

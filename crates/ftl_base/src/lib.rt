@@ -1,7 +1,7 @@
 //! Values as machine words: a number or Overflow, the operators on them in two widths, and the word
-//! that a cell holds. What they mean stands in `ftl_model`, in `Values`, as exact arithmetic on
-//! whole numbers, and what comparisons give in `specs/Truths`. The stack of values and truths that
-//! code runs on is here too.
+//! that a cell holds. What they mean stands in `ftl_model::layout`, in `Values`, as exact
+//! arithmetic on whole numbers, and what comparisons give in `specs/Truths`. The stack of values
+//! and truths that code runs on is here too.
 #![tactic(auto)]
 
 mod arithmetic;

@@ -1,5 +1,5 @@
 ghost use Rattle.std.specs.Prelude.{◌≡◌, ℕ, ◌+◌, ◌<◌, [], ◌∷◌, ◌++◌, length, IfOk};
-ghost use Rattle.ftl_model.specs.Values.{Value};
+ghost use Rattle.ftl_model.specs.layout.Values.{Value};
 ghost use Rattle.ftl_base.specs.Stacked.{EndsInValue, EndsInTruth};
 
 use crate::engine::Engine;

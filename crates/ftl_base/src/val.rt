@@ -1,5 +1,5 @@
 ghost use Rattle.std.specs.Prelude.{◌≡◌, MatchOption};
-ghost use Rattle.ftl_model.specs.Values.{value_of, wide, IsValue, number, overflow};
+ghost use Rattle.ftl_model.specs.layout.Values.{value_of, wide, IsValue, number, overflow};
 ghost use Rattle.ftl_base.specs.Widths.{greatest_of_width};
 
 use crate::width::Width;
@@ -17,7 +17,7 @@ pub struct Val {
 
 impl Model for Val {
     ghost use Rattle.std.specs.Prelude.{◌≡◌};
-    ghost use Rattle.ftl_model.specs.Values;
+    ghost use Rattle.ftl_model.specs.layout.Values;
     ghost use Rattle.ftl_base.specs.Held.{IsHeld, holder_of};
     ghost use Rattle.std.proofs.Common.{arith};
     ghost use Rattle.std.proofs.lemmas.Int.{ints};

@@ -1,5 +1,5 @@
 ghost use Rattle.std.specs.Prelude.{◌≡◌, ℕ, ◌<◌, ◌≤◌, ◌⊎◌, MatchOption, None, Some};
-ghost use Rattle.ftl_model.specs.Values.{Value, IsValue, word_of_value};
+ghost use Rattle.ftl_model.specs.layout.Values.{Value, IsValue, word_of_value};
 
 use crate::val::Val;
 

@@ -1,11 +1,2 @@
-pub mod Count
-pub mod Work
-pub mod State
-pub mod Kept
-pub mod Calls
-pub mod Told
-pub mod Table
-pub mod Diamond
-pub mod Shape
-pub mod Interleavings
-pub mod Filling
+pub mod shared
+pub mod work_phases

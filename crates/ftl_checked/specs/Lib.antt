@@ -1,6 +1,4 @@
-pub mod Positions
-pub mod Slots
-pub mod Needs
-pub mod Kept
-pub mod ReadNumbers
-pub use Rattle.ftl_syntax.specs.Trees
+pub mod names
+pub mod lookup
+pub mod declarations
+pub mod grammars

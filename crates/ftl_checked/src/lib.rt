@@ -1,22 +1,13 @@
-//! The check of grammars. Goes in: a grammar as it is written, and the width of its numbers. Comes
-//! out: `Checked`, the lawful grammar with what its numbers stand for, or the first fault, which
-//! `ftl_grammar_faults` defines. `specs/Positions.antt` says where an expression of a rule stands,
-//! and `specs/ReadNumbers.antt` what the names that a rule reads stand for.
+//! TODO: what this room has. Its folders, from the bottom up:
+//!
+//! - `names`: Names in order, each found by its text in one look-up.
+//! - `lookup`: Look-ups in a grammar, by name and by number.
+//! - `declarations`: The conditions on what a grammar declares: how much there is of anything, and
+//!   names.
+//! - `grammars`: The check of grammars.
 #![tactic(auto)]
 
-mod check;
-mod checked;
-mod class_checks;
-mod forms;
-mod needs;
-mod numbered_read;
-mod reading;
-mod rules;
-mod slots;
-
-pub use check::check_grammar;
-pub use checked::Checked;
-pub use ftl_formula::ReadName;
-pub use ftl_grammar_faults::{AttrInfo, ChildInfo, Field, GrammarFault, RuleInfo, RuleName, What};
-pub use numbered_read::{NumberedRead, PartReads};
-pub use reading::At;
+pub mod declarations;
+pub mod grammars;
+pub mod lookup;
+pub mod names;

@@ -1,4 +1,2 @@
-pub mod DepReads
-pub mod Writers
-pub mod DepLaws
-pub mod Worked
+pub mod reads
+pub mod parts

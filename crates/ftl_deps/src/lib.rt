@@ -1,13 +1,8 @@
-//! What each rule of a grammar reads, and which rule writes that first. Goes in: the grammar with
-//! its names gone, of `ftl_model`. Comes out: `specs/DepReads.antt`, the reads of a rule in the
-//! order of the text; `specs/Writers.antt`, the rules that write them. There is no code here but
-//! the types of reads, and laws that tie them to the pairs of `ftl_order`.
+//! TODO: what this room has. Its folders, from the bottom up:
+//!
+//! - `reads`: What each rule of a checked grammar reads, and which rule writes that first.
+//! - `parts`: The parts of rules by number.
 #![tactic(auto)]
 
-mod dep_read;
-mod laws;
-mod worked;
-
-pub use dep_read::{DepRead, Form, Site};
-pub use laws::{dep_reads_are_pairs, first_writers};
-pub use worked::{first_writers_of_notes, reads_of_notes, reads_of_stack};
+pub mod parts;
+pub mod reads;

@@ -1,11 +1,14 @@
-//! Documents of a grammar, read from tokens. Goes in: a grammar that `ftl_checked` accepted, and
-//! the tokens of a text. Comes out: the tree that the text means, or the first fault: too many
-//! open braces, too many nodes, the place at which the tokens go wrong, a node's fault, too many
-//! attributes. `specs/ReadTree.antt` says which tree or fault is the answer.
+//! TODO: what this room has. Its folders, from the bottom up:
+//!
+//! - `syntax`: Documents as they are written.
+//! - `faults`: The first fault of a document, and the tree that it means.
+//! - `fields`: What the names of a written document stand for.
+//! - `nodes`: The nodes of a written document, one after another.
+//! - `reading`: Documents of a grammar, read from tokens.
 #![tactic(auto)]
 
-mod laws;
-mod read;
-
-pub use laws::one_tree;
-pub use read::read_document;
+pub mod faults;
+pub mod fields;
+pub mod nodes;
+pub mod reading;
+pub mod syntax;

@@ -1,3 +1,3 @@
-pub mod ReadBack
-pub use Rattle.ftl_document_text.specs.DocumentText
-pub use Rattle.ftl_document_faults.specs.WrittenOf
+pub mod text
+pub mod trees
+pub mod round_trip

@@ -1,8 +1,12 @@
-//! The canonical text of a tree, that of its document in the canonical order, is read back: a law
-//! takes a checked grammar and a tree of it within the limits of documents, and says that the text
-//! has tokens, and that what is read of them is the tree. `specs/ReadBack.antt` says which trees.
+//! TODO: what this room has. Its folders, from the bottom up:
+//!
+//! - `text`: The canonical text of a document.
+//! - `trees`: The canonical text of a tree.
+//! - `round_trip`: The canonical text of a tree, that of its document in the canonical order, is
+//!   read back: a law takes a checked grammar and a tree of it within the limits of documents, and
+//!   says that the text has tokens, and that what is read of them is the tree.
 #![tactic(auto)]
 
-mod laws;
-
-pub use laws::printed_documents;
+pub mod round_trip;
+pub mod text;
+pub mod trees;

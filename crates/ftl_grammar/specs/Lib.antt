@@ -1,10 +1,4 @@
-pub mod View
-pub mod Read
-pub mod Printed
-pub use Rattle.ftl_reading.specs.Depth
-pub use Rattle.ftl_reading.specs.Place
-pub use Rattle.ftl_syntax.specs.Brackets
-pub use Rattle.ftl_syntax.specs.Spelling
-pub use Rattle.ftl_syntax.specs.GrammarSpelling
-pub use Rattle.ftl_printing.specs.GrammarTokens
-pub use Rattle.ftl_printing.specs.TextOf
+pub mod syntax
+pub mod expressions
+pub mod printing
+pub mod reading

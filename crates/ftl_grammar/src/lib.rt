@@ -1,22 +1,14 @@
-//! The tokens of a text go in and the grammar that they spell comes out, or the place at which they
-//! go wrong. `specs/Read.antt` says what is answered; which tokens spell which grammar stands in
-//! `ftl_syntax`, in `specs/GrammarSpelling.antt` and `specs/Spelling.antt`, a line of the syntax
-//! each. Expressions are read by `ftl_expression`, and `ftl_printing` prints grammars.
+//! TODO: what this room has. Its folders, from the bottom up:
+//!
+//! - `syntax`: The syntax of grammar texts: the syntax trees, form by form, and which tokens spell
+//!   which tree.
+//! - `expressions`: Expressions of grammar texts, read from their tokens.
+//! - `printing`: A grammar goes in and its canonical text comes out.
+//! - `reading`: The tokens of a text go in and the grammar that they spell comes out, or the place
+//!   at which they go wrong.
 #![tactic(auto)]
 
-mod attrs;
-mod declarations;
-mod fault;
-mod laws;
-mod read;
-mod rules;
-
-pub use fault::SyntaxFault;
-pub use ftl_printing::print_grammar;
-pub use ftl_syntax::{
-    Atom, AttrDecl, AttrDecls, AttrKind, Body, Child, ChildList, Class, ClassList, Cond, Conj,
-    ConjList, Expr, Factor, Factors, Grammar, Interface, InterfaceList, NameList, Read, Rule,
-    RuleList, SignedTerm, SignedTerms, Sum, Target, Term, Test, TestList, Unary,
-};
-pub use laws::{one_answer, printed_grammars_are_read};
-pub use read::read_grammar;
+pub mod expressions;
+pub mod printing;
+pub mod reading;
+pub mod syntax;

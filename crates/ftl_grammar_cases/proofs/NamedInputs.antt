@@ -4,23 +4,23 @@ use Rattle.std.specs.Prelude.{None, Option, Some}
 use Rattle.std.specs.Option.{option_map}
 use Rattle.std.proofs.lemmas.List.{map-append}
 use Rattle.std.specs.Str.{bytes_eq}
-use Rattle.ftl_lists.proofs.Elements.{filter_has}
-use Rattle.ftl_lists.proofs.Rising.{map_has}
-use Rattle.ftl_syntax.specs.Trees.{NameText}
-use Rattle.ftl_syntax.specs.declared.rules.AttrDecl.{AttrDecl}
-use Rattle.ftl_syntax.specs.declared.rules.AttrKind.{AttrKind}
-use Rattle.ftl_syntax.specs.declared.rules.AttrKind.TheVariants as kinds
-use Rattle.ftl_syntax.specs.declared.rules.Child.{Child}
-use Rattle.ftl_syntax.specs.declared.rules.Grammar.{Grammar}
-use Rattle.ftl_grammar_faults.specs.Checked.{field_by, field_named, is_input}
-use Rattle.ftl_grammar_faults.specs.Numbering.{class_attributes, find_attribute, find_child, interface_of}
-use Rattle.ftl_grammar_faults.specs.Numbering.{own_attributes, shared_attributes}
-use Rattle.ftl_grammar_faults.specs.declared.info.Field.TheVariants as field
-use Rattle.ftl_lawful.proofs.Found.{find_is}
-use Rattle.ftl_lawful.proofs.SlotRules.{class_attribute}
-use Rattle.ftl_meaning.specs.GrammarOf.{grammar_of, sort_of}
-use Rattle.ftl_model.specs.AttributeGrammar as model
-use Rattle.ftl_model.specs.AttributeGrammar.{attributes_of, class_inputs}
+use Rattle.ftl_model.proofs.lists.Elements.{filter_has}
+use Rattle.ftl_model.proofs.lists.Rising.{map_has}
+use Rattle.ftl_grammar.specs.syntax.Trees.{NameText}
+use Rattle.ftl_grammar.specs.declared.syntax.rules.AttrDecl.{AttrDecl}
+use Rattle.ftl_grammar.specs.declared.syntax.rules.AttrKind.{AttrKind}
+use Rattle.ftl_grammar.specs.declared.syntax.rules.AttrKind.TheVariants as kinds
+use Rattle.ftl_grammar.specs.declared.syntax.rules.Child.{Child}
+use Rattle.ftl_grammar.specs.declared.syntax.rules.Grammar.{Grammar}
+use Rattle.ftl_meaning.specs.faults.Checked.{field_by, field_named, is_input}
+use Rattle.ftl_meaning.specs.faults.Numbering.{class_attributes, find_attribute, find_child, interface_of}
+use Rattle.ftl_meaning.specs.faults.Numbering.{own_attributes, shared_attributes}
+use Rattle.ftl_meaning.specs.declared.faults.info.Field.TheVariants as field
+use Rattle.ftl_meaning.proofs.lawful.Found.{find_is}
+use Rattle.ftl_meaning.proofs.lawful.SlotRules.{class_attribute}
+use Rattle.ftl_meaning.specs.grammars.GrammarOf.{grammar_of, sort_of}
+use Rattle.ftl_model.specs.layout.AttributeGrammar as model
+use Rattle.ftl_model.specs.layout.AttributeGrammar.{attributes_of, class_inputs}
 
 input_sort : (k : AttrKind) → model.is_input (sort_of k) ≡ is_input k
 input_sort kinds.Inh = refl

@@ -1,10 +1,10 @@
 -- How many rows a table has.
 use Rattle.std.proofs.Common.{◌≡◌, ◌∙◌, ap, length, None}
-use Rattle.ftl_grammar_faults.specs.Checked.{CheckedGrammar, all_rules}
-use Rattle.ftl_grammar_faults.specs.FirstFault.{first_fault}
-use Rattle.ftl_dep_table.specs.DepRows.{DepRows, dep_rows}
-use Rattle.ftl_dep_table.specs.Meant.{meant}
-use Rattle.ftl_dep_table.proofs.WriterRows.{reads_long}
+use Rattle.ftl_meaning.specs.faults.Checked.{CheckedGrammar, all_rules}
+use Rattle.ftl_meaning.specs.faults.FirstFault.{first_fault}
+use Rattle.ftl_deps.specs.reads.DepRows.{DepRows, dep_rows}
+use Rattle.ftl_deps.specs.reads.Meant.{meant}
+use Rattle.ftl_deps.proofs.reads.WriterRows.{reads_long}
 
 -- a row for each rule
 pub rows_are_of_rules : (c : CheckedGrammar) (t : DepRows) → first_fault c.grammar ≡ None → t ≡ dep_rows (meant c)

@@ -1,6 +1,6 @@
 //! What is answered of a grammar's text. The grammar is held here alone: all else is lent it.
 
-ghost use Rattle.ftl_programs.specs.Compilable.{HasCode};
+ghost use Rattle.ftl_visit.specs.compiled.Compilable.{HasCode};
 
 use crate::documents::way::Way;
 use crate::documents::write_document;
@@ -11,7 +11,7 @@ use crate::reads::write_rules;
 use crate::requests::write_indexed;
 use crate::schedules::write_schedules;
 use ftl_base::Width;
-use ftl_checked::Checked;
+use ftl_checked::grammars::Checked;
 use ftl_grammar_texts::grammar_of_text;
 use std::alloc::{AllocError, Global};
 

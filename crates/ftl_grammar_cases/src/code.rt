@@ -1,8 +1,8 @@
 //! Code of parts of rules.
 
 use ftl_base::Cmp;
-use ftl_code::Instruction;
-use ftl_visit::{Part, Programs};
+use ftl_visit::rule_code::Instruction;
+use ftl_visit::rule_values::{Part, Programs};
 use std::alloc::AllocError;
 use std::fmt::Write;
 use std::str::SplitWhitespace;

@@ -9,7 +9,7 @@
 
 ghost use Rattle.std.specs.Prelude.{◌≡◌};
 ghost use Rattle.ftl_base.specs.Widths.{greatest_of_width};
-ghost use Rattle.ftl_tokens.specs.Tokenized.{IsGreatestNumber};
+ghost use Rattle.ftl_tokens.specs.scanner.Tokenized.{IsGreatestNumber};
 
 mod edits;
 mod instances;
@@ -17,14 +17,14 @@ mod nodes;
 pub(crate) mod way;
 
 use edits::set_inputs;
+use ftl_answer::refusals::{write_document_fault, write_token_fault};
 use ftl_base::Width;
-use ftl_checked::Checked;
-use ftl_document::read_document;
-use ftl_document_faults::DocFault;
-use ftl_page::Section;
-use ftl_refusals::{write_document_fault, write_token_fault};
-use ftl_tokens::{TokenFault, WideScanned, document_tokens};
-use ftl_tree::Tree;
+use ftl_checked::grammars::Checked;
+use ftl_document::faults::DocFault;
+use ftl_document::reading::read_document;
+use ftl_page::sections::Section;
+use ftl_tokens::scanner::{TokenFault, WideScanned, document_tokens};
+use ftl_tree::trees::Tree;
 use instances::write_instances;
 use nodes::{write_bare, write_counts, write_nodes, write_text};
 use std::alloc::{AllocError, Global};

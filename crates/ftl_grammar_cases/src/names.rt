@@ -1,9 +1,9 @@
 //! Names by number, in one line.
 
 ghost use Rattle.std.specs.Prelude.{◌<◌, length};
-ghost use Rattle.ftl_grammar_faults.specs.Checked.{all_rules};
+ghost use Rattle.ftl_meaning.specs.faults.Checked.{all_rules};
 
-use ftl_checked::{Checked, RuleName};
+use ftl_checked::grammars::{Checked, RuleName};
 use std::alloc::{AllocError, Global};
 use std::fmt::Write;
 

@@ -1,13 +1,13 @@
 //! What rules read, a line each.
 
 ghost use Rattle.std.specs.Prelude.{◌≡◌, ◌<◌, length};
-ghost use Rattle.ftl_dep_table.specs.DepRows.{dep_rows};
-ghost use Rattle.ftl_dep_table.specs.Meant.{meant};
+ghost use Rattle.ftl_deps.specs.reads.DepRows.{dep_rows};
+ghost use Rattle.ftl_deps.specs.reads.Meant.{meant};
 
 use crate::names::write_rule;
-use ftl_checked::Checked;
-use ftl_dep_table::{DepTable, dep_table};
-use ftl_deps::{DepRead, Form, Site};
+use ftl_checked::grammars::Checked;
+use ftl_deps::reads::{DepTable, dep_table};
+use ftl_order::dependencies::{DepRead, Form, Site};
 use std::alloc::{AllocError, Global};
 use std::fmt::Write;
 

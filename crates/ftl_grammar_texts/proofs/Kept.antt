@@ -1,11 +1,11 @@
 -- What is accepted is the grammar that was checked.
 use Rattle.std.proofs.Common.{◌≡◌, ◌∙◌, Option, Some, None, Result, Ok, Err, refl, sym, ap, subst}
 use Rattle.ftl_base.specs.declared.width.Width.{Width}
-use Rattle.ftl_syntax.specs.declared.rules.Grammar.{Grammar}
-use Rattle.ftl_grammar_faults.specs.Checked.{CheckedGrammar, answer_by, checked_as}
-use Rattle.ftl_grammar_faults.specs.FirstFault.{first_fault}
-use Rattle.ftl_grammar_faults.specs.declared.fault.GrammarFault.{GrammarFault}
-use Rattle.ftl_programs.specs.Compilable.{HasCode}
+use Rattle.ftl_grammar.specs.declared.syntax.rules.Grammar.{Grammar}
+use Rattle.ftl_meaning.specs.faults.Checked.{CheckedGrammar, answer_by, checked_as}
+use Rattle.ftl_meaning.specs.faults.FirstFault.{first_fault}
+use Rattle.ftl_meaning.specs.declared.faults.fault.GrammarFault.{GrammarFault}
+use Rattle.ftl_visit.specs.compiled.Compilable.{HasCode}
 
 -- the grammar that is accepted, or this one
 abbrev grammar_or : Grammar → Result CheckedGrammar GrammarFault → Grammar

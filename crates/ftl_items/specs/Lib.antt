@@ -1,13 +1,3 @@
-pub mod Cut
-pub mod CutLaws
-pub mod Visits
-pub mod VisitLaws
-pub mod Items
-pub mod StageWork
-pub mod StepLaws
-pub mod ReadLaws
-pub mod NextLaws
-pub mod WorkLaws
-pub mod WordLaws
-pub mod WorkedStages
-pub mod Limits
+pub mod stage_items
+pub mod numbers
+pub mod solution

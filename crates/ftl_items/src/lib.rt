@@ -1,28 +1,12 @@
-//! The items of a stage, as definitions and laws without code. Goes in: a grammar with its names
-//! gone and a tree of `ftl_model`, and a schedule of `ftl_order`. Comes out: `specs/Cut.antt`,
-//! where items begin; `specs/Visits.antt`, the steps of a visit; `specs/Items.antt`, the items of a
-//! stage with their steps and what each hands on to; `specs/StageWork.antt`, the work of a stage
-//! in the words of `ftl_cells`; `specs/Limits.antt`, how much a stage reads.
+//! TODO: what this room has. Its folders, from the bottom up:
+//!
+//! - `stage_items`: The items of a stage, as definitions and laws without code.
+//! - `numbers`: The numbers of the items of a stage, as definitions and laws without code.
+//! - `solution`: The values that solve a tree, as a function of grammar and tree: `solution` of
+//!   `specs/solution/Solution.antt`, the values of all instances after as many rounds of all
+//!   equations as there are instances.
 #![tactic(auto)]
 
-mod cut_laws;
-mod handing_laws;
-mod later_laws;
-mod read_laws;
-mod step_laws;
-mod visit_laws;
-mod word_laws;
-mod work_laws;
-mod worked_items;
-mod worked_steps;
-
-pub use cut_laws::cuts;
-pub use handing_laws::handings;
-pub use later_laws::next_items;
-pub use read_laws::reads;
-pub use step_laws::steps;
-pub use visit_laws::visits;
-pub use word_laws::{words_at_the_ends, words_between};
-pub use work_laws::stages;
-pub use worked_items::items_of_two_words;
-pub use worked_steps::steps_of_two_words;
+pub mod numbers;
+pub mod solution;
+pub mod stage_items;

@@ -3,7 +3,7 @@
 
 use crate::told;
 use ftl_edge::{Gate, MemSink, MemSource};
-use ftl_run::layout_top;
+use ftl_run::calls::layout_top;
 use std::alloc::{AllocError, Global};
 use std::io;
 use std::sync::Wait;

@@ -12,7 +12,7 @@ mod gates;
 
 use case::Case;
 use ftl_edge::{MemSink, MemSource, OpenGate, StdSource, read_all};
-use ftl_run::{Status, layout_alone, layout_top};
+use ftl_run::calls::{Status, layout_alone, layout_top};
 use gates::print_gates;
 use std::alloc::{AllocError, Global};
 use std::fmt::Write;

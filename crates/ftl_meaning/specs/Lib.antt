@@ -1,5 +1,7 @@
-pub mod Meaning
-pub mod GrammarOf
-pub mod Alike
-pub mod Worked
-pub use Rattle.ftl_grammar_faults.specs.FirstFault
+pub mod formulas
+pub mod postfix_code
+pub mod faults
+pub mod fault_order
+pub mod grammars
+pub mod lawful
+pub mod names

@@ -1,10 +1,3 @@
-pub mod Blocks
-pub mod Body
-pub mod Found
-pub mod Headings
-pub mod Lines
-pub mod Opening
-pub mod Page
-pub mod Texts
-pub use Rattle.ftl_boxes.specs.Shipped
-pub use Rattle.ftl_model.specs.Outcome
+pub mod sections
+pub mod workers
+pub mod commands

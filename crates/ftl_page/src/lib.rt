@@ -1,22 +1,12 @@
-//! The bytes of a page go in, and its width and sections come out: the texts of the grammar, the
-//! schedule, the document and the edits, or the first fault of the page. Lines are numbered from 1.
-//! `specs/Lines.antt` says what lines and headings are, `specs/Opening.antt` what line 1 names,
-//! `specs/Blocks.antt` what a heading stands for, and `specs/Page.antt` which sections a page has
-//! and which fault is its first. The grammars that a heading may name are those of `ftl_boxes`.
+//! TODO: what this room has. Its folders, from the bottom up:
+//!
+//! - `sections`: The bytes of a page go in, and its width and sections come out: the texts of the
+//!   grammar, the schedule, the document and the edits, or the first fault of the page.
+//! - `workers`: How a page is solved: by how many workers, and how many nodes a subtree has that
+//!   one worker visits at once.
+//! - `commands`: The words after the program's name, as a command.
 #![tactic(auto)]
 
-mod body;
-mod fault;
-mod laws;
-mod line;
-mod page;
-mod section;
-mod split;
-mod text;
-mod words;
-
-pub use fault::{PageFault, Section};
-pub use laws::law_of_lines;
-pub use page::{Need, Page};
-pub use split::split_page;
-pub use text::Text;
+pub mod commands;
+pub mod sections;
+pub mod workers;

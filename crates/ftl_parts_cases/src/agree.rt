@@ -1,12 +1,12 @@
 // Whether what a call answered is what the replayed states before and after tell of it.
 ghost use Rattle.std.specs.Prelude.{IsTrue};
-ghost use Rattle.ftl_cells.specs.Work.{IsStepOfItem};
+ghost use Rattle.ftl_cells.specs.shared.Work.{IsStepOfItem};
 
 use crate::hands::Answer;
 use ftl_base::{Val, val_of};
-use ftl_cells::{Claim, Deliver, Hand, HandPlace, Look, Work};
-use ftl_replay::{Event, ReplayPlace, Replayed};
-use ftl_works::Solved;
+use ftl_cells::shared::{Claim, Deliver, Hand, HandPlace, Look, Work};
+use ftl_replay::example_works::Solved;
+use ftl_replay::interleavings::{Event, ReplayPlace, Replayed};
 use std::alloc::{AllocError, Global};
 
 /// Whether each hand is at the place that was replayed, or was given up.

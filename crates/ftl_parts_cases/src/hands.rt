@@ -1,13 +1,13 @@
 // Hands on cells by number, and the call that an event asks for, where it is a step.
 ghost use Rattle.std.specs.Prelude.{◌≡◌, IsTrue, IfSome};
-ghost use Rattle.ftl_cells.specs.State.{IsFree};
-ghost use Rattle.ftl_cells.specs.Calls.{IsMadeBy};
+ghost use Rattle.ftl_cells.specs.shared.State.{IsFree};
+ghost use Rattle.ftl_cells.specs.shared.Calls.{IsMadeBy};
 ghost use Rattle.ftl_parts_cases.specs.Hands.{AreAll};
 
 use ftl_base::Val;
-use ftl_cells::{Cells, Claim, Deliver, Hand, HandPlace, Look, Work};
-use ftl_replay::Event;
-use ftl_works::Solved;
+use ftl_cells::shared::{Cells, Claim, Deliver, Hand, HandPlace, Look, Work};
+use ftl_replay::example_works::Solved;
+use ftl_replay::interleavings::Event;
 use std::alloc::AllocError;
 
 /// What a call answers.

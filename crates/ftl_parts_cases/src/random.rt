@@ -1,8 +1,8 @@
 // Events that are drawn by a generator with a fixed seed.
 ghost use Rattle.std.specs.Prelude.{ℕ, ◌<◌};
 
-use ftl_cells::HandPlace;
-use ftl_replay::{Event, ReplayPlace};
+use ftl_cells::shared::HandPlace;
+use ftl_replay::interleavings::{Event, ReplayPlace};
 
 /// A linear congruence modulo 2 ^ 64, whose high bits are drawn.
 #[derive(Drop)]

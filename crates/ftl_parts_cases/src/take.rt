@@ -1,12 +1,12 @@
 // A hand takes an item from the look to the last delivery, for any work.
 ghost use Rattle.std.specs.Prelude.{◌≡◌, ◌<◌, ◌≤◌, vec_capacity};
-ghost use Rattle.ftl_cells.specs.Work.{item_total};
-ghost use Rattle.ftl_cells.specs.State.{live};
-ghost use Rattle.ftl_cells.specs.Calls.{IsMadeBy};
-ghost use Rattle.ftl_cells.specs.declared.place.HandPlace.TheVariants.{Idle, Filled};
+ghost use Rattle.ftl_cells.specs.shared.Work.{item_total};
+ghost use Rattle.ftl_cells.specs.shared.State.{live};
+ghost use Rattle.ftl_cells.specs.shared.Calls.{IsMadeBy};
+ghost use Rattle.ftl_cells.specs.declared.shared.place.HandPlace.TheVariants.{Idle, Filled};
 
 use ftl_base::{CodeStack, Val};
-use ftl_cells::{Cells, Claim, Hand, Look, Work};
+use ftl_cells::shared::{Cells, Claim, Hand, Look, Work};
 
 /// Makes all deliveries of a filled item.
 fn deliver_all<W: Work>(cells: &Cells<W>, hand: &mut Hand, item: u32)

@@ -1,15 +1,15 @@
 // Whole works, by one hand, by hands that take turns and by threads.
 ghost use Rattle.std.specs.Prelude.{◌≡◌, IfSome};
-ghost use Rattle.ftl_cells.specs.State.{live};
-ghost use Rattle.ftl_cells.specs.Calls.{IsMadeBy};
-ghost use Rattle.ftl_cells.specs.declared.place.HandPlace.TheVariants.{Idle, Ended};
+ghost use Rattle.ftl_cells.specs.shared.State.{live};
+ghost use Rattle.ftl_cells.specs.shared.Calls.{IsMadeBy};
+ghost use Rattle.ftl_cells.specs.declared.shared.place.HandPlace.TheVariants.{Idle, Ended};
 
 use crate::hands::is_free;
 use crate::take::take;
 use crate::told::write_words;
 use ftl_base::CodeStack;
-use ftl_cells::{Cells, Hand, HandPlace, Work};
-use ftl_works::Example;
+use ftl_cells::shared::{Cells, Hand, HandPlace, Work};
+use ftl_replay::example_works::Example;
 use std::alloc::{AllocError, Global};
 use std::fmt::Write;
 use std::thread::{Threads, join};

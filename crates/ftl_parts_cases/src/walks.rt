@@ -3,7 +3,7 @@
 // its replay made the step, or neither did, and told the same of it, the state of the replay in the
 // end, and how many reads, fills, marks and deliveries were made; once where all are the same.
 ghost use Rattle.std.specs.Prelude.{◌<◌, length};
-ghost use Rattle.ftl_cells.specs.Calls.{IsMadeBy};
+ghost use Rattle.ftl_cells.specs.shared.Calls.{IsMadeBy};
 ghost use Rattle.ftl_parts_cases.specs.Hands.{AreAll};
 
 use crate::agree::{agrees, are_places_of, replay_place};
@@ -13,9 +13,9 @@ use crate::random::Random;
 use crate::requests::{Request, request_in};
 use crate::told::write_new;
 use crate::turns::write_close;
-use ftl_cells::{Cells, Hand, HandPlace, Work};
-use ftl_replay::{Event, ReplayFault, ReplayPlace, Replayed, replay};
-use ftl_works::Solved;
+use ftl_cells::shared::{Cells, Hand, HandPlace, Work};
+use ftl_replay::example_works::Solved;
+use ftl_replay::interleavings::{Event, ReplayFault, ReplayPlace, Replayed, replay};
 use std::alloc::{AllocError, Global};
 use std::fmt::Write;
 

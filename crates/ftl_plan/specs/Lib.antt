@@ -1,9 +1,4 @@
-pub mod StageParts
-pub mod Driving
-pub mod Planned
-pub mod PlannedStages
-pub mod PlanInside
-pub mod InputWords
-pub mod StageTables
-pub mod StageWords
-pub use Rattle.ftl_plan_limits.specs.PlanFaults
+pub mod cells
+pub mod laws
+pub mod phases
+pub mod plans

@@ -1,29 +1,13 @@
-//! Plans of a layout. Goes in: a checked grammar, a schedule that was accepted for it, the code of
-//! its rules and a tree. Comes out: `Plan`, or its first fault, which `specs/Planned.antt` has; the
-//! words of the cells before the first stage; each stage as lawful work, `StageWork`, which means
-//! what `ftl_stage_laws` says that the stage means and drives a filler through an item with each
-//! step made once; and the words of the values that solve the tree, computed by one thread, stage
-//! after stage. `specs/StageParts.antt` says what a stage is made of, `specs/StageWords.antt` which
-//! words fit it, `specs/Driving.antt` where a filler stands around a step. The work of a stage may
-//! be shared by threads, as `proofs/Shared.antt` shows.
+//! TODO: what this room has. Its folders, from the bottom up:
+//!
+//! - `cells`: What kind of cell the cells of a tree are in a stage.
+//! - `laws`: What the stages of a plan mean, as definitions and laws without code.
+//! - `phases`: In which phase each item of a stage is filled, where the cells of its tree are cut
+//!   into ranges of one size.
+//! - `plans`: Plans of a layout.
 #![tactic(auto)]
 
-mod alone;
-mod fitting;
-mod items;
-mod meant;
-mod parts;
-mod phases;
-mod plan;
-mod running;
-mod sound;
-mod stages;
-mod steps;
-mod words;
-mod work;
-
-pub use alone::solve_alone;
-pub use ftl_plan_limits::PlanFault;
-pub use parts::StageParts;
-pub use plan::Plan;
-pub use work::StageWork;
+pub mod cells;
+pub mod laws;
+pub mod phases;
+pub mod plans;

@@ -4,13 +4,13 @@ use Rattle.std.proofs.lemmas.List.{get_or-set_same, get_or-set_other, length-set
 use mathlib.Core.Logic.{dite}
 use native.Mathlib.Decide.{ℕ_discrete}
 use Rattle.std.specs.Prelude.{Option, Some}
-use Rattle.ftl_model.specs.Values.{Value, IsValue, word_of_value}
-use Rattle.ftl_cells.specs.Work.{Meaning, IsStepOfItem, IsOwn, IsHandedOn, cell_total, kind_at, step_total, target_of, read_total, read_of, solution_at, solved_word}
-use Rattle.ftl_cells.specs.declared.kind.CellKind.TheVariants.{Given, Target, Later}
+use Rattle.ftl_model.specs.layout.Values.{Value, IsValue, word_of_value}
+use Rattle.ftl_cells.specs.shared.Work.{Meaning, IsStepOfItem, IsOwn, IsHandedOn, cell_total, kind_at, step_total, target_of, read_total, read_of, solution_at, solved_word}
+use Rattle.ftl_cells.specs.declared.shared.kind.CellKind.TheVariants.{Given, Target, Later}
 use Rattle.ftl_steal.specs.Alone.{IsBefore}
-use Rattle.ftl_phases.specs.Phases.{ComesBefore, phase_at}
-use Rattle.ftl_phases.specs.declared.phase.Phase.{Phase}
-use Rattle.ftl_phases.specs.declared.phase.Phases.{Phases}
+use Rattle.ftl_cells.specs.work_phases.Phases.{ComesBefore, phase_at}
+use Rattle.ftl_cells.specs.declared.work_phases.phase.Phase.{Phase}
+use Rattle.ftl_cells.specs.declared.work_phases.phase.Phases.{Phases}
 use Rattle.ftl_ranges.specs.Filled.{HoldMade, Holds, IsFilledIn, IsMade}
 
 -- the steps of an item that this one reads from are made

@@ -1,15 +1,15 @@
 -- From phase to phase, and from the words of ranges to those of all.
 use Rattle.std.proofs.Common.{◌≡◌, ℕ, zero, suc, ◌+◌, ◌-◌, ◌*◌, ◌^◌, ◌<◌, ◌≤◌, ◌⊎◌, inl, inr, ⊎_elim, List, ◌++◌, length, get_or, min, subst, refl, sym, ap, ◌∙◌, arith, length-append, mul-le-mul_right}
 use Rattle.std.proofs.lemmas.List.{get_or_append_left, get_or-append-add}
-use Rattle.ftl_cells.specs.Work.{Meaning, IsLawfulWork, IsStepOfItem, cell_total, kind_at, item_total, target_of, solved_word}
-use Rattle.ftl_cells.specs.State.{AreFirst, AreLast, first_word_of, last_word_of}
-use Rattle.ftl_cells.specs.declared.kind.CellKind.{CellKind}
-use Rattle.ftl_cells.specs.declared.kind.CellKind.TheVariants.{Given, Target, Later}
+use Rattle.ftl_cells.specs.shared.Work.{Meaning, IsLawfulWork, IsStepOfItem, cell_total, kind_at, item_total, target_of, solved_word}
+use Rattle.ftl_cells.specs.shared.State.{AreFirst, AreLast, first_word_of, last_word_of}
+use Rattle.ftl_cells.specs.declared.shared.kind.CellKind.{CellKind}
+use Rattle.ftl_cells.specs.declared.shared.kind.CellKind.TheVariants.{Given, Target, Later}
 use Rattle.ftl_steal.specs.Alone.{IsBefore}
-use Rattle.ftl_phases.specs.Phases.{CanTake, ComesBefore, phase_at}
-use Rattle.ftl_phases.specs.declared.phase.Phase.{Phase}
-use Rattle.ftl_phases.specs.declared.phase.Phase.TheVariants.{First, Range, Last}
-use Rattle.ftl_phases.specs.declared.phase.Phases.{Phases}
+use Rattle.ftl_cells.specs.work_phases.Phases.{CanTake, ComesBefore, phase_at}
+use Rattle.ftl_cells.specs.declared.work_phases.phase.Phase.{Phase}
+use Rattle.ftl_cells.specs.declared.work_phases.phase.Phase.TheVariants.{First, Range, Last}
+use Rattle.ftl_cells.specs.declared.work_phases.phase.Phases.{Phases}
 use Rattle.ftl_ranges.specs.Filled.{HoldMade, Holds, IsFilledIn, IsMade, IsOfFirst, IsOfFirstOrRanges, IsOfRanges, range_first}
 use Rattle.std.specs.List.{All}
 use Rattle.crossbeam_utils.specs.declared.cache_padded.CachePadded.{CachePadded}

@@ -1,13 +1,13 @@
 -- What the cells of a range hold while the items of a phase are filled in order.
 use Rattle.std.specs.Prelude.{◌≡◌, ℕ, ◌+◌, ◌*◌, ◌<◌, ◌≤◌, ◌⊎◌, List, length, slice_index, min}
-use Rattle.ftl_cells.specs.Work.{Meaning, IsLawfulWork, IsStepOfItem, cell_total, kind_at, target_of, solved_word}
-use Rattle.ftl_cells.specs.Work.{read_of, read_total}
-use Rattle.ftl_cells.specs.declared.kind.CellKind.TheVariants.{Given, Later}
+use Rattle.ftl_cells.specs.shared.Work.{Meaning, IsLawfulWork, IsStepOfItem, cell_total, kind_at, target_of, solved_word}
+use Rattle.ftl_cells.specs.shared.Work.{read_of, read_total}
+use Rattle.ftl_cells.specs.declared.shared.kind.CellKind.TheVariants.{Given, Later}
 use Rattle.ftl_steal.specs.Alone.{IsBefore}
-use Rattle.ftl_phases.specs.Phases.{CanTake, ComesBefore, phase_at}
-use Rattle.ftl_phases.specs.declared.phase.Phase.{Phase}
-use Rattle.ftl_phases.specs.declared.phase.Phase.TheVariants.{First, Range}
-use Rattle.ftl_phases.specs.declared.phase.Phases.{Phases}
+use Rattle.ftl_cells.specs.work_phases.Phases.{CanTake, ComesBefore, phase_at}
+use Rattle.ftl_cells.specs.declared.work_phases.phase.Phase.{Phase}
+use Rattle.ftl_cells.specs.declared.work_phases.phase.Phase.TheVariants.{First, Range}
+use Rattle.ftl_cells.specs.declared.work_phases.phase.Phases.{Phases}
 
 -- the first cell of a range, or how many cells there are where that is less
 abbrev pub range_first : (size cells range : ℕ) → ℕ

@@ -3,9 +3,9 @@ use Rattle.std.specs.Prelude.{◌≡◌, ℕ, ◌+◌, ◌^◌, ◌<◌, ◌≤�
 use Rattle.std.specs.Vec.{vec_capacity}
 use Rattle.crossbeam_utils.specs.Padded.{padded_value}
 use Rattle.crossbeam_utils.specs.declared.cache_padded.CachePadded.{CachePadded}
-use Rattle.ftl_cells.specs.Work.{Meaning, IsLawfulWork, cell_total}
-use Rattle.ftl_phases.specs.Phases.{CanTake}
-use Rattle.ftl_phases.specs.declared.phase.Phases.{Phases}
+use Rattle.ftl_cells.specs.shared.Work.{Meaning, IsLawfulWork, cell_total}
+use Rattle.ftl_cells.specs.work_phases.Phases.{CanTake}
+use Rattle.ftl_cells.specs.declared.work_phases.phase.Phases.{Phases}
 use Rattle.ftl_ranges.specs.Filled.{HoldMade, IsOfFirst, IsOfFirstOrRanges, range_first}
 use Rattle.ftl_ranges.specs.declared.buffers.Buffers.{Buffers}
 

@@ -1,15 +1,15 @@
 //! The items of one phase.
 ghost use Rattle.std.specs.Prelude.{◌≡◌, ◌+◌, ◌<◌, length};
-ghost use Rattle.ftl_cells.specs.Work.{item_total};
+ghost use Rattle.ftl_cells.specs.shared.Work.{item_total};
 ghost use Rattle.ftl_ranges.specs.Filled.{IsFilledIn};
 ghost use Rattle.ftl_ranges.specs.Workers.{HaveRoom};
-ghost use Rattle.ftl_phases.specs.Phases.{phase_at};
+ghost use Rattle.ftl_cells.specs.work_phases.Phases.{phase_at};
 
 use crate::buffers::Buffers;
 use crate::filler::RangeFiller;
-use ftl_cells::Work;
+use ftl_cells::shared::Work;
+use ftl_cells::work_phases::{Phase, Phases};
 use ftl_edge::Gate;
-use ftl_phases::{Phase, Phases};
 
 /// Fills the items of a phase in order, on the words of the cells from the first one on.
 pub(crate) fn fill_phase<W: Work, G: Gate>(

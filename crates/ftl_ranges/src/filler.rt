@@ -1,7 +1,7 @@
 //! A filler on the words of a range.
 use ftl_base::{Val, val_of, word_of};
-use ftl_cells::{Filler, Meant};
-use ftl_phases::{Phase, Phases};
+use ftl_cells::shared::{Filler, Meant};
+use ftl_cells::work_phases::{Phase, Phases};
 
 /// Reads and fills cells of a range, whose words these are. Where it stands is for the contracts
 /// alone.
@@ -18,10 +18,10 @@ pub(crate) struct RangeFiller<'a, W: Meant> {
 }
 
 impl<'a, W: Meant> Filler for RangeFiller<'a, W> {
-    ghost use Rattle.ftl_cells.specs.State.{live};
-    ghost use Rattle.ftl_cells.specs.declared.place.HandPlace.TheVariants.{Working};
+    ghost use Rattle.ftl_cells.specs.shared.State.{live};
+    ghost use Rattle.ftl_cells.specs.declared.shared.place.HandPlace.TheVariants.{Working};
     ghost use Rattle.ftl_ranges.specs.Filled.{IsFilledIn};
-    ghost use Rattle.ftl_phases.specs.Phases.{phase_at};
+    ghost use Rattle.ftl_cells.specs.work_phases.Phases.{phase_at};
     ghost use Rattle.std.specs.Prelude.{◌≡◌, length, refl};
     ghost use Rattle.std.proofs.Common.{◌∙◌};
 

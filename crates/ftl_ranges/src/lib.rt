@@ -1,6 +1,7 @@
 //! A work's items on ranges of its cells, each range by a worker, in place and without shared
 //! cells. Goes in: a work, the words of its cells, and the phases of its items. Comes out:
-//! the words of the solution. `Phases` of `ftl_phases` says which phases a work can take.
+//! the words of the solution. `Phases` of `ftl_cells::work_phases` says which phases a work can
+//! take.
 #![tactic(auto)]
 
 mod buffers;

@@ -1,18 +1,18 @@
 //! All phases of a work.
 ghost use Rattle.std.specs.Prelude.{◌≡◌, ◌+◌, ◌^◌, ◌<◌, length, vec_len, All, IfOk};
 ghost use Rattle.std.specs.Thread.{IsSync};
-ghost use Rattle.ftl_cells.specs.State.{AreFirst, AreLast};
-ghost use Rattle.ftl_cells.specs.Work.{IsLawfulWork, cell_total, item_total};
-ghost use Rattle.ftl_phases.specs.Phases.{CanTake};
+ghost use Rattle.ftl_cells.specs.shared.State.{AreFirst, AreLast};
+ghost use Rattle.ftl_cells.specs.shared.Work.{IsLawfulWork, cell_total, item_total};
+ghost use Rattle.ftl_cells.specs.work_phases.Phases.{CanTake};
 ghost use Rattle.ftl_ranges.specs.Filled.{HoldMade, IsFilledIn, IsOfFirst, range_first};
 ghost use Rattle.ftl_ranges.specs.Workers.{AreFilled, CanFill, HasRoom, HaveRoom};
 
 use crate::buffers::Buffers;
 use crate::fill::fill_phase;
 use crossbeam_utils::CachePadded;
-use ftl_cells::Work;
+use ftl_cells::shared::Work;
+use ftl_cells::work_phases::{Phase, Phases};
 use ftl_edge::{Gate, OpenGate};
-use ftl_phases::{Phase, Phases};
 use std::alloc::{AllocError, Global};
 use std::thread::{Threads, join_mut};
 

@@ -1,6 +1,6 @@
 //! A cursor of either width.
-use ftl_reading::{Input, ReadFault, WideInput};
-use ftl_tokens::Kind;
+use ftl_tokens::reading::{Input, ReadFault, WideInput};
+use ftl_tokens::scanner::Kind;
 
 /// A cursor over the tokens of a text whose numbers fit 31 bits, or of a document.
 #[derive(Drop)]

@@ -16,8 +16,8 @@ mod requests;
 
 use cursor::Cursor;
 use ftl_edge::{StdSource, read_all};
-use ftl_reading::{Input as TextInput, WideInput};
-use ftl_tokens::{document_tokens, tokens};
+use ftl_tokens::reading::{Input as TextInput, WideInput};
+use ftl_tokens::scanner::{document_tokens, tokens};
 use requests::write_answers;
 use std::alloc::{AllocError, Global};
 use std::io;

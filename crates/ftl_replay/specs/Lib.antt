@@ -1,2 +1,2 @@
-pub mod Events
-pub mod Replays
+pub mod example_works
+pub mod interleavings

@@ -1,19 +1,11 @@
-//! Replays one interleaving of the steps on shared cells: a list of events goes in, and out come
-//! the words and the places of the hands of the state that they lead to, on plain vectors, or the
-//! first event that is no step. What each event asks for stands in `specs/Events`, and the states
-//! that events lead to in `specs/Replays`.
+//! TODO: what this room has. Its folders, from the bottom up:
+//!
+//! - `example_works`: Works for the programs that run them, each with its laws: a chain, two chains
+//!   side by side, a star, items alone, and items over a borrowed slice.
+//! - `interleavings`: Replays one interleaving of the steps on shared cells: a list of events goes
+//!   in, and out come the words and the places of the hands of the state that they lead to, on
+//!   plain vectors, or the first event that is no step.
 #![tactic(auto)]
 
-mod event;
-mod fault;
-mod interleaving;
-pub mod laws;
-mod make;
-mod place;
-mod scratch;
-mod steps;
-
-pub use event::Event;
-pub use fault::ReplayFault;
-pub use interleaving::{Replayed, replay};
-pub use place::ReplayPlace;
+pub mod example_works;
+pub mod interleavings;

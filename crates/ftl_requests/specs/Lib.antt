@@ -1,3 +1,2 @@
-pub mod ShownTexts
-pub mod Asked
-pub mod Requests
+pub mod sections
+pub mod requests

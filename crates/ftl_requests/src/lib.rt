@@ -1,18 +1,8 @@
-//! What words and a page ask for, before a page is solved, and what is written after. Goes in:
-//! words and a source. Comes out: the answer, where nothing is left to be solved, or the page that
-//! is to be solved, with what is to be shown of it. The answer goes in again, and is written to a
-//! sink. `specs/Requests.antt` says what is asked for, what answers it, and what is written.
+//! TODO: what this room has. Its folders, from the bottom up:
+//!
+//! - `sections`: The stages from the bytes of a page to its tree.
+//! - `requests`: What words and a page ask for, before a page is solved, and what is written after.
 #![tactic(auto)]
 
-mod ending;
-mod request;
-mod rules;
-mod shown;
-mod words;
-mod write;
-
-pub use ending::ended;
-pub use request::{Problem, Request, Undone};
-pub use shown::Shown;
-pub use words::requested;
-pub use write::written;
+pub mod requests;
+pub mod sections;

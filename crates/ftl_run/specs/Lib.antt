@@ -1,2 +1,1 @@
-pub mod ShownTables
-pub mod SolvedPages
+pub mod calls

@@ -1,14 +1,8 @@
-//! The top calls: words and a page in, boxes or one refusal line out, with a status. What is
-//! written is the answer of `ftl_answer`; `ftl_headline` has what is promised of both calls. What
-//! the words and the page ask for is found first, then a page that is to be solved is solved, by
-//! workers in threads of their own or on the calling thread, and then the answer is written.
+//! TODO: what this room has. Its folders, from the bottom up:
+//!
+//! - `solve`: A plan's words by workers.
+//! - `calls`: The top calls: words and a page in, boxes or one refusal line out, with a status.
 #![tactic(auto)]
 
-mod alone;
-mod layout;
-mod shown;
-mod solving;
-mod workers;
-
-pub use ftl_sections::Status;
-pub use layout::{layout_alone, layout_top};
+pub mod calls;
+pub mod solve;

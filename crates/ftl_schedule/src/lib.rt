@@ -1,12 +1,22 @@
-//! Schedules of a grammar: read from tokens, verified and printed. What the crates below have for
-//! users is here in one place; `ftl_schedule_reading` says what is read, `ftl_verify` what is
-//! accepted, `ftl_schedule_printing` what is printed.
+//! TODO: what this room has. Its folders, from the bottom up:
+//!
+//! - `syntax`: Schedules of traversals as they are written.
+//! - `stages`: Schedules of a grammar's attributes by number.
+//! - `places`: Where the attributes of a schedule stand.
+//! - `text`: The canonical text of a schedule.
+//! - `check`: Schedules that are accepted.
+//! - `names`: The attributes that a schedule names.
+//! - `reading`: Schedules of a grammar, read from tokens.
+//! - `printing`: The canonical text of a schedule whose attributes are numbers of a grammar.
+//! - `computed`: Schedules of a grammar: read from tokens, verified and printed.
 #![tactic(auto)]
 
-mod laws;
-
-pub use ftl_schedule_printing::{known_entries, print_schedule, printed_schedules};
-pub use ftl_schedule_reading::{ScheduleFault, read_schedule};
-pub use ftl_stages::{AttrList, Pass, PassKind, PassList, Schedule, Stage, StageList};
-pub use ftl_verify::{Accepted, Spot, VerifyFault, verify};
-pub use laws::computed_entries;
+pub mod check;
+pub mod computed;
+pub mod names;
+pub mod places;
+pub mod printing;
+pub mod reading;
+pub mod stages;
+pub mod syntax;
+pub mod text;

@@ -1,2 +1,3 @@
-pub mod Entered
-pub mod Finds
+pub mod largest_sets
+pub mod outcomes
+pub mod finding

@@ -1,16 +1,10 @@
-//! The automatic schedule of a checked grammar. Goes in: a grammar that `ftl_checked` accepted, and
-//! what its rules read. Comes out: the automatic schedule, accepted, or the attributes that are
-//! left where there is none. `specs/Entered.antt` says what rows of needs have while the reads of
-//! rules are entered.
+//! TODO: what this room has. Its folders, from the bottom up:
+//!
+//! - `largest_sets`: The least list of the largest set of attributes that can be taken next.
+//! - `outcomes`: The automatic schedule, by rows of what attributes need in each kind of pass.
+//! - `finding`: The automatic schedule of a checked grammar.
 #![tactic(auto)]
 
-mod computed;
-mod enter;
-mod fault;
-mod find;
-mod need;
-mod tables;
-
-pub use fault::FindFault;
-pub use find::find_schedule;
-pub use tables::tables_of;
+pub mod finding;
+pub mod largest_sets;
+pub mod outcomes;

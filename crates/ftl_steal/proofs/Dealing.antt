@@ -7,9 +7,9 @@ use Rattle.std.specs.List.{All}
 use Rattle.atomic_table.specs.Seated.{TableId}
 use Rattle.crossbeam_utils.specs.Padded.{padded_value, padded_with_value}
 use Rattle.crossbeam_utils.specs.declared.cache_padded.CachePadded.{CachePadded}
-use Rattle.ftl_cells.specs.Work.{Meaning, pred_total}
-use Rattle.ftl_cells.specs.State.{live}
-use Rattle.ftl_cells.specs.declared.place.HandPlace.TheVariants.{Idle}
+use Rattle.ftl_cells.specs.shared.Work.{Meaning, pred_total}
+use Rattle.ftl_cells.specs.shared.State.{live}
+use Rattle.ftl_cells.specs.declared.shared.place.HandPlace.TheVariants.{Idle}
 use Rattle.ftl_pool.specs.Count.{PoolModel}
 use Rattle.ftl_pool.specs.Pool.{StealHoldModel, IsHoldOf}
 use Rattle.ftl_steal.specs.declared.member.Member.{Member}

@@ -4,13 +4,13 @@ use Rattle.std.proofs.Math.ListN.{get_or-eq_default}
 use Rattle.std.proofs.lemmas.List.{get_or-set_same, get_or-set_other, length-set}
 use Rattle.std.proofs.lemmas.Grind.{get_or_default_zero}
 use Rattle.std.specs.Prelude.{Option, Some}
-use Rattle.ftl_model.specs.Values.{Value, IsValue, word_of_value}
+use Rattle.ftl_model.specs.layout.Values.{Value, IsValue, word_of_value}
 use mathlib.Core.Logic.{dite}
 use native.Mathlib.Decide.{ℕ_discrete}
-use Rattle.ftl_cells.specs.Work.{Meaning, ItemMeaning, no_item, IsLawfulWork, IsStepOfItem, IsOwn, IsHandedOn, cell_total, kind_at, item_total, step_total, target_of, read_total, read_of, solution_at, solved_word}
-use Rattle.ftl_cells.specs.State.{AreFirst, AreLast, first_word_of, last_word_of}
-use Rattle.ftl_cells.specs.declared.kind.CellKind.{CellKind}
-use Rattle.ftl_cells.specs.declared.kind.CellKind.TheVariants.{Given, Target, Later}
+use Rattle.ftl_cells.specs.shared.Work.{Meaning, ItemMeaning, no_item, IsLawfulWork, IsStepOfItem, IsOwn, IsHandedOn, cell_total, kind_at, item_total, step_total, target_of, read_total, read_of, solution_at, solved_word}
+use Rattle.ftl_cells.specs.shared.State.{AreFirst, AreLast, first_word_of, last_word_of}
+use Rattle.ftl_cells.specs.declared.shared.kind.CellKind.{CellKind}
+use Rattle.ftl_cells.specs.declared.shared.kind.CellKind.TheVariants.{Given, Target, Later}
 use Rattle.ftl_steal.specs.Alone.{IsFilledTo}
 
 -- an item that has a step is one of the work's

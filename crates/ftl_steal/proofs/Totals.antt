@@ -5,7 +5,7 @@ use Rattle.std.specs.List.{All}
 use Rattle.atomic_table.specs.Seated.{TableId}
 use Rattle.crossbeam_utils.specs.Padded.{padded_value}
 use Rattle.crossbeam_utils.specs.declared.cache_padded.CachePadded.{CachePadded}
-use Rattle.ftl_cells.specs.Work.{Meaning}
+use Rattle.ftl_cells.specs.shared.Work.{Meaning}
 use Rattle.ftl_pool.specs.Count.{PoolModel}
 use Rattle.ftl_steal.specs.declared.member.Member.{Member}
 use Rattle.ftl_steal.specs.Workers.{steps_of, put_total, step_total, IsDealtBelow, IsEndedMember}

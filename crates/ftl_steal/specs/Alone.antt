@@ -1,7 +1,7 @@
 -- The words of a work's cells while its items are filled in order.
 use Rattle.std.specs.Prelude.{◌≡◌, ℕ, ◌<◌, ◌⊎◌, List, length, slice_index}
-use Rattle.ftl_cells.specs.Work.{Meaning, IsLawfulWork, IsStepOfItem, cell_total, kind_at, target_of, solved_word}
-use Rattle.ftl_cells.specs.declared.kind.CellKind.TheVariants.{Given, Later}
+use Rattle.ftl_cells.specs.shared.Work.{Meaning, IsLawfulWork, IsStepOfItem, cell_total, kind_at, target_of, solved_word}
+use Rattle.ftl_cells.specs.declared.shared.kind.CellKind.TheVariants.{Given, Later}
 
 -- the first step comes before the second one, item by item
 abbrev pub IsBefore : ℕ → ℕ → ℕ → ℕ → Type 0

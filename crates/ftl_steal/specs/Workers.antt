@@ -3,10 +3,10 @@ use Rattle.std.specs.Prelude.{◌≡◌, ℕ, zero, suc, ◌+◌, ◌<◌, ◌�
 use Rattle.std.specs.List.{All, sum_by}
 use Rattle.std.specs.Vec.{vec_capacity}
 use Rattle.atomic_table.specs.Seated.{TableId}
-use Rattle.ftl_cells.specs.Work.{Meaning, pred_total}
-use Rattle.ftl_cells.specs.State.{live, HandState}
-use Rattle.ftl_cells.specs.Calls.{IsMadeBy}
-use Rattle.ftl_cells.specs.declared.place.HandPlace.TheVariants.{Idle, Ended}
+use Rattle.ftl_cells.specs.shared.Work.{Meaning, pred_total}
+use Rattle.ftl_cells.specs.shared.State.{live, HandState}
+use Rattle.ftl_cells.specs.shared.Calls.{IsMadeBy}
+use Rattle.ftl_cells.specs.declared.shared.place.HandPlace.TheVariants.{Idle, Ended}
 use Rattle.ftl_pool.specs.Count.{PoolModel}
 use Rattle.ftl_pool.specs.Pool.{IsHoldOf}
 use Rattle.ftl_steal.specs.declared.member.Member.{Member}

@@ -1,11 +1,11 @@
 // A whole work on plain words, by the calling thread.
 ghost use Rattle.std.specs.Prelude.{◌≡◌, ◌<◌, IfOk};
-ghost use Rattle.ftl_cells.specs.Work.{IsLawfulWork, item_total, step_total};
-ghost use Rattle.ftl_cells.specs.State.{AreFirst, AreLast};
+ghost use Rattle.ftl_cells.specs.shared.Work.{IsLawfulWork, item_total, step_total};
+ghost use Rattle.ftl_cells.specs.shared.State.{AreFirst, AreLast};
 ghost use Rattle.ftl_steal.specs.Alone.{IsFilledTo};
 
 use ftl_base::{CodeStack, Val, val_of, word_of};
-use ftl_cells::{Filler, Meant, Work};
+use ftl_cells::shared::{Filler, Meant, Work};
 use std::alloc::{AllocError, Global};
 
 /// Computes the items in order, from the words of the Given cells and 0 for all others.
@@ -76,8 +76,8 @@ impl<'a, W: Meant> PlainFiller<'a, W> {
 }
 
 impl<'a, W: Meant> Filler for PlainFiller<'a, W> {
-    ghost use Rattle.ftl_cells.specs.State.{live};
-    ghost use Rattle.ftl_cells.specs.declared.place.HandPlace.TheVariants.{Working};
+    ghost use Rattle.ftl_cells.specs.shared.State.{live};
+    ghost use Rattle.ftl_cells.specs.declared.shared.place.HandPlace.TheVariants.{Working};
     ghost use Rattle.ftl_steal.specs.Alone.{IsFilledTo};
     ghost use Rattle.std.specs.Prelude.{◌≡◌, refl};
     ghost use Rattle.std.proofs.Common.{◌∙◌};

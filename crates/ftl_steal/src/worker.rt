@@ -1,14 +1,14 @@
 // What one worker does.
 ghost use Rattle.std.specs.Prelude.{◌≡◌, ◌+◌, ◌<◌};
-ghost use Rattle.ftl_cells.specs.Work.{item_total, next_total};
-ghost use Rattle.ftl_cells.specs.State.{live, Sends};
-ghost use Rattle.ftl_cells.specs.Calls.{IsMadeBy};
-ghost use Rattle.ftl_cells.specs.declared.place.HandPlace.TheVariants.{Idle, Ended};
+ghost use Rattle.ftl_cells.specs.shared.Work.{item_total, next_total};
+ghost use Rattle.ftl_cells.specs.shared.State.{live, Sends};
+ghost use Rattle.ftl_cells.specs.shared.Calls.{IsMadeBy};
+ghost use Rattle.ftl_cells.specs.declared.shared.place.HandPlace.TheVariants.{Idle, Ended};
 ghost use Rattle.ftl_steal.specs.Workers.{IsMember};
 
 use crate::member::Member;
-use ftl_cells::laws::{items_are_released_once, next_items_have_predecessors};
-use ftl_cells::{Cells, Claim, Deliver, Look, Work};
+use ftl_cells::shared::laws::{items_are_released_once, next_items_have_predecessors};
+use ftl_cells::shared::{Cells, Claim, Deliver, Look, Work};
 use ftl_edge::Gate;
 use ftl_pool::{ReadyPool, StealPool};
 use std::sync::Wait;

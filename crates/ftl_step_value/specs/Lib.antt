@@ -1,6 +1,3 @@
-pub mod StepValue
-pub mod Spread
-pub mod SparseReads
-pub mod Sites
-pub mod RuleCopies
-pub mod Picks
+pub mod cells
+pub mod neighbours
+pub mod value

@@ -1,20 +1,11 @@
-//! The value of a step. Goes in: a tree of a checked grammar with the code of its rules, a step at
-//! one of its nodes, and the values of the cells that it reads. Comes out: the value of the cell
-//! that it fills, or, before any is read, the one cell whose value it copies; which rules' steps
-//! copy is told by a table that is made once. `specs/StepValue.antt` and `specs/RuleCopies.antt`
-//! have the words.
+//! TODO: what this room has. Its folders, from the bottom up:
+//!
+//! - `cells`: The cells of a step.
+//! - `neighbours`: The cells that a step reads, found quickly where all its reads are of near
+//!   nodes: its own node, the kid at hand, and the kid before that one.
+//! - `value`: The value of a step.
 #![tactic(auto)]
 
-mod copied;
-mod copies;
-mod counts;
-mod fold;
-mod operation;
-mod part;
-mod pick;
-mod step;
-mod values;
-
-pub use copied::copied_cell;
-pub use copies::{RuleCopy, rule_copies};
-pub use step::step_value;
+pub mod cells;
+pub mod neighbours;
+pub mod value;

@@ -1,9 +1,9 @@
 //! Tokens, names and numbers.
 
-ghost use Rattle.ftl_tokens.specs.Tokenized.{IsGreatestNumber};
+ghost use Rattle.ftl_tokens.specs.scanner.Tokenized.{IsGreatestNumber};
 
-use ftl_tokens::{Kind, Name, Scanned, Token, WideScanned};
-use ftl_written::{write_fixed, write_name, write_number};
+use ftl_tokens::scanner::{Kind, Name, Scanned, Token, WideScanned};
+use ftl_tokens::writing::{write_fixed, write_name, write_number};
 use std::alloc::{AllocError, Global};
 use std::fmt::Write;
 

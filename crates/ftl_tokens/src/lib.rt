@@ -1,24 +1,12 @@
-//! A text goes in and its tokens come out, each with its kind and its place in bytes, or the first
-//! place at which the text goes wrong. Names, numbers, reserved words and marks are tokens; white
-//! space and comments stand between them. `specs/Kinds.antt` says which texts are tokens,
-//! `specs/Scan.antt` which tokens a text has, and `specs/Tokenized.antt` what readers see of it.
+//! TODO: what this room has. Its folders, from the bottom up:
+//!
+//! - `scanner`: A text goes in and its tokens come out, each with its kind and its place in bytes,
+//!   or the first place at which the text goes wrong.
+//! - `reading`: What readers of token lists share.
+//! - `writing`: Tokens go in, one after another, each with the white space behind it, and the text
+//!   that they are written as comes out.
 #![tactic(auto)]
 
-mod fault;
-mod kind;
-mod laws;
-mod name;
-mod piece;
-mod run;
-mod scan;
-mod scanned;
-mod tokenized;
-mod word;
-
-pub use fault::TokenFault;
-pub use kind::{Kind, Token};
-pub use laws::law_of_scan;
-pub use name::Name;
-pub use scan::{document_tokens, tokens};
-pub use scanned::{Scanned, WideScanned};
-pub use tokenized::TokenizedText;
+pub mod reading;
+pub mod scanner;
+pub mod writing;

@@ -1,8 +1,3 @@
-pub mod CheckedTree
-pub mod FlatTree
-pub mod Bare
-pub mod OwnerRuns
-pub mod OwnerPlaces
-pub use Rattle.ftl_model.specs.WithInput
-pub use Rattle.ftl_tree_rows.specs.Rows
-pub use Rattle.ftl_tree_rows.specs.KidRuns
+pub mod rows
+pub mod trees
+pub mod boxes

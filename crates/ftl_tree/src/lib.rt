@@ -1,21 +1,10 @@
-//! Trees of a checked grammar. Goes in: the rows of a tree in preorder, with the inputs of each
-//! node. Comes out: `Tree`, which contracts see as the checked grammar and the tree, and whose
-//! calls tell what stands at each node. `ftl_tree_rows` says which rows are those of which tree.
-//! `specs/WithInput.antt` of `ftl_model` says what a tree is whose input has another number.
+//! TODO: what this room has. Its folders, from the bottom up:
+//!
+//! - `rows`: Trees in flat rows.
+//! - `trees`: Trees of a checked grammar.
+//! - `boxes`: The printed boxes of a tree.
 #![tactic(auto)]
 
-mod attribute_places;
-mod build;
-mod class_attrs;
-mod class_table;
-mod input_counts;
-mod laws;
-mod runs;
-mod tree;
-mod widths;
-mod zeroed;
-
-pub use ftl_tree_rows::{NodeRow, Place};
-pub use laws::{one_input_changes, second_word_is_wider, two_bare_words};
-pub use tree::Tree;
-pub use zeroed::bare_tree;
+pub mod boxes;
+pub mod rows;
+pub mod trees;

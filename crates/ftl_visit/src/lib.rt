@@ -1,14 +1,18 @@
-//! Rule code and visits. Goes in: a grammar that `ftl_checked` accepted. Comes out: the code of its
-//! rules, with a law that running it part by part gives the rules' values, and the visits of its
-//! classes. `specs/PartValues.antt` says what the parts of a rule give.
+//! TODO: what this room has. Its folders, from the bottom up:
+//!
+//! - `rule_code`: Code without names, and the engine that runs it.
+//! - `compiled`: The code of rules.
+//! - `visits`: The visits of the classes of a grammar.
+//! - `rule_values`: Rule code and visits.
+//! - `step_reads`: How much rules read.
+//! - `rule_tables`: The rules of a checked grammar by what they define.
+//! - `passes`: The visits of the classes of a grammar in one pass, made once for all nodes.
 #![tactic(auto)]
 
-mod counted;
-mod laws;
-mod places;
-
-pub use counted::Runner;
-pub use ftl_programs::{Code, Part, Programs, compile, has_code, run_code};
-pub use ftl_visit_list::{RuleIndex, VisitOp, VisitOps, visit_list};
-pub use laws::parts_give_the_rule;
-pub use places::{StepPlace, step_place};
+pub mod compiled;
+pub mod passes;
+pub mod rule_code;
+pub mod rule_tables;
+pub mod rule_values;
+pub mod step_reads;
+pub mod visits;

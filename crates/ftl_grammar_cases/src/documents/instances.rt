@@ -1,11 +1,11 @@
 //! The first instances of nodes and of their kids.
 
 ghost use Rattle.std.specs.Prelude.{◌<◌};
-ghost use Rattle.ftl_dep_table.specs.Meant.{meant};
-ghost use Rattle.ftl_model.specs.Tree.{size};
-ghost use Rattle.ftl_tree_rows.specs.KidRuns.{IsChildOf};
+ghost use Rattle.ftl_deps.specs.reads.Meant.{meant};
+ghost use Rattle.ftl_model.specs.layout.Tree.{size};
+ghost use Rattle.ftl_tree.specs.rows.KidRuns.{IsChildOf};
 
-use ftl_tree::Tree;
+use ftl_tree::trees::Tree;
 use std::alloc::AllocError;
 use std::fmt::Write;
 

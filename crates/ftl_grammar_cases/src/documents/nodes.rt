@@ -1,14 +1,14 @@
 //! The nodes of a tree, a line each.
 
 ghost use Rattle.std.specs.Prelude.{◌≡◌, ◌<◌, IfOk};
-ghost use Rattle.ftl_model.specs.Tree.{size};
-ghost use Rattle.ftl_tree_rows.specs.Rows.{rows_of};
+ghost use Rattle.ftl_model.specs.layout.Tree.{size};
+ghost use Rattle.ftl_tree.specs.rows.Rows.{rows_of};
 
-use ftl_document_syntax::read_written_document;
-use ftl_document_walk::document_nodes;
-use ftl_tokens::WideScanned;
-use ftl_tree::{NodeRow, Tree, bare_tree};
-use ftl_tree_printing::print_document;
+use ftl_document::nodes::document_nodes;
+use ftl_document::syntax::read_written_document;
+use ftl_document_printing::trees::print_document;
+use ftl_tokens::scanner::WideScanned;
+use ftl_tree::trees::{NodeRow, Tree, bare_tree};
 use std::alloc::{AllocError, Global};
 use std::fmt::Write;
 

@@ -1,5 +1,5 @@
-use Rattle.ftl_cells.specs.State.{Sends}
-use Rattle.ftl_cells.specs.Calls.{IsMadeBy}
+use Rattle.ftl_cells.specs.shared.State.{Sends}
+use Rattle.ftl_cells.specs.shared.Calls.{IsMadeBy}
 use Rattle.ftl_parts_cases.proofs.take.deliver_all.Given as goal
 
 abbrev pub invariant-loop : goal.invariant-loop

@@ -1,7 +1,7 @@
 use Rattle.std.proofs.Common.{◌≡◌, ◌≤◌, vec_capacity}
-use Rattle.ftl_cells.specs.State.{live}
-use Rattle.ftl_cells.specs.Calls.{IsMadeBy}
-use Rattle.ftl_cells.specs.declared.place.HandPlace.TheVariants.{Idle}
+use Rattle.ftl_cells.specs.shared.State.{live}
+use Rattle.ftl_cells.specs.shared.Calls.{IsMadeBy}
+use Rattle.ftl_cells.specs.declared.shared.place.HandPlace.TheVariants.{Idle}
 use Rattle.ftl_parts_cases.proofs.turns.round.Given as goal
 
 abbrev pub invariant-loop-item : goal.invariant-loop-item

@@ -1,4 +1,4 @@
-use Rattle.ftl_cells.specs.Calls.{IsMadeBy}
+use Rattle.ftl_cells.specs.shared.Calls.{IsMadeBy}
 use Rattle.ftl_parts_cases.specs.Hands.{AreAll}
 use Rattle.ftl_parts_cases.proofs.walks.go_round.Given as goal
 

@@ -1,7 +1,7 @@
 use Rattle.std.proofs.Common.{rules, ◌≡◌, ◌≢◌, ◌<◌, ◌∙◌, length, arith}
 use Rattle.std.proofs.lemmas.List.{get_or_default}
-use Rattle.ftl_phases.specs.Phases.{phase_at}
-use Rattle.ftl_phases.specs.declared.phase.Phase.TheVariants.{Last}
+use Rattle.ftl_cells.specs.work_phases.Phases.{phase_at}
+use Rattle.ftl_cells.specs.declared.work_phases.phase.Phase.TheVariants.{Last}
 use Rattle.ftl_ranges.proofs.Fills.{passes_by}
 use Rattle.ftl_ranges.proofs.fill.fill_phase.Goals.{then-is, else-is}
 use Rattle.ftl_ranges.proofs.fill.fill_phase.Goals as goal

@@ -1,5 +1,5 @@
 use Rattle.std.proofs.Common.{rules, ◌≡◌, ℕ, ◌+◌, ◌*◌, ◌/◌, min, subst, sym, length, List, ◌++◌, arith}
-use Rattle.ftl_cells.specs.Work.{cell_total}
+use Rattle.ftl_cells.specs.shared.Work.{cell_total}
 use Rattle.ftl_ranges.specs.Filled.{range_first}
 use Rattle.ftl_ranges.specs.Workers.{AreFilled}
 use Rattle.ftl_ranges.proofs.Joins.{filled_both, middle_is}

@@ -1,5 +1,5 @@
 use Rattle.std.proofs.Common.{rules, ◌<◌, ◌^◌, subst, arith}
-use Rattle.ftl_cells.specs.Work.{cell_total}
+use Rattle.ftl_cells.specs.shared.Work.{cell_total}
 use Rattle.ftl_ranges.specs.Filled.{HoldMade, IsOfFirstOrRanges}
 use Rattle.ftl_ranges.proofs.Joins.{all_can, ends, last_begins}
 use Rattle.ftl_ranges.proofs.ranges.fill_phases.Goals as goal

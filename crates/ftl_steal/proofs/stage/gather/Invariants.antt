@@ -1,8 +1,8 @@
 use Rattle.std.proofs.Common.{◌≡◌, ◌+◌, vec_len}
 use Rattle.std.specs.List.{All}
-use Rattle.ftl_cells.specs.State.{live}
-use Rattle.ftl_cells.specs.Calls.{IsMadeBy}
-use Rattle.ftl_cells.specs.declared.place.HandPlace.TheVariants.{Idle}
+use Rattle.ftl_cells.specs.shared.State.{live}
+use Rattle.ftl_cells.specs.shared.Calls.{IsMadeBy}
+use Rattle.ftl_cells.specs.declared.shared.place.HandPlace.TheVariants.{Idle}
 use Rattle.ftl_pool.specs.Pool.{IsFreshStealHoldOf}
 use Rattle.ftl_steal.specs.Workers.{IsDealtBelow, steps_of}
 use Rattle.ftl_steal.proofs.stage.gather.Given as goal

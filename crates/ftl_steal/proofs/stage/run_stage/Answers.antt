@@ -1,5 +1,5 @@
 use Rattle.std.proofs.Common.{rules, ℕ, ◌≡◌, ◌+◌, ◌*◌, ◌≤◌, ◌∙◌, min, max, ap, arith}
-use Rattle.ftl_cells.specs.Work.{item_total}
+use Rattle.ftl_cells.specs.shared.Work.{item_total}
 use Rattle.ftl_steal.specs.Workers.{steps_of}
 use Rattle.ftl_steal.proofs.stage.run_stage.Goals as goal
 

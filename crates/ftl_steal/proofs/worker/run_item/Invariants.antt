@@ -1,4 +1,4 @@
-use Rattle.ftl_cells.specs.State.{Sends}
+use Rattle.ftl_cells.specs.shared.State.{Sends}
 use Rattle.ftl_steal.specs.Workers.{IsMember}
 use Rattle.ftl_steal.proofs.worker.run_item.Given as goal
 

@@ -1,6 +1,6 @@
 use Rattle.std.proofs.Common.{◌≡◌}
-use Rattle.ftl_cells.specs.State.{live}
-use Rattle.ftl_cells.specs.declared.place.HandPlace.TheVariants.{Idle}
+use Rattle.ftl_cells.specs.shared.State.{live}
+use Rattle.ftl_cells.specs.declared.shared.place.HandPlace.TheVariants.{Idle}
 use Rattle.ftl_steal.specs.Workers.{IsMember}
 use Rattle.ftl_steal.proofs.worker.work.Given as goal
 

@@ -1,17 +1,17 @@
 use Rattle.std.proofs.Common.{◌≡◌, ◌<◌, ℕ, arith, length, ap, subst, Contains}
 use Rattle.std.specs.Prelude.{Some}
 use Rattle.ftl_base.specs.Widths.{greatest_of_width}
-use Rattle.ftl_dep_table.specs.Meant.{meant}
-use Rattle.ftl_grammar_faults.specs.Checked.{CheckedGrammar, field_named}
-use Rattle.ftl_grammar_faults.specs.declared.info.Field.TheVariants as field
-use Rattle.ftl_meaning.specs.GrammarOf.{grammar_of}
-use Rattle.ftl_model.specs.AttributeGrammar.{class_inputs}
-use Rattle.ftl_model.specs.Path.{node_at}
-use Rattle.ftl_model.specs.Tree.{size}
-use Rattle.ftl_order.proofs.Kids.{class_known}
-use Rattle.ftl_syntax.specs.declared.rules.Grammar.{Grammar}
-use Rattle.ftl_tree_rows.proofs.Access.{has_at}
-use Rattle.ftl_tree_rows.specs.declared.row.NodeRow.{NodeRow}
+use Rattle.ftl_deps.specs.reads.Meant.{meant}
+use Rattle.ftl_meaning.specs.faults.Checked.{CheckedGrammar, field_named}
+use Rattle.ftl_meaning.specs.declared.faults.info.Field.TheVariants as field
+use Rattle.ftl_meaning.specs.grammars.GrammarOf.{grammar_of}
+use Rattle.ftl_model.specs.layout.AttributeGrammar.{class_inputs}
+use Rattle.ftl_model.specs.layout.Path.{node_at}
+use Rattle.ftl_model.specs.layout.Tree.{size}
+use Rattle.ftl_order.proofs.orders.Kids.{class_known}
+use Rattle.ftl_grammar.specs.declared.syntax.rules.Grammar.{Grammar}
+use Rattle.ftl_tree.proofs.rows.Access.{has_at}
+use Rattle.ftl_tree.specs.declared.rows.row.NodeRow.{NodeRow}
 use Rattle.ftl_grammar_cases.proofs.NamedInputs.{input_named}
 use Rattle.ftl_grammar_cases.proofs.documents.edits.set.Goals as goal
 

@@ -1,11 +1,11 @@
 use Rattle.std.proofs.Common.{◌≡◌, ◌<◌, ℕ, ap, arith, length, ◌∙◌}
-use Rattle.ftl_dep_table.specs.Meant.{meant}
-use Rattle.ftl_grammar_faults.specs.Checked.{CheckedGrammar}
-use Rattle.ftl_grammar_faults.specs.Numbering as numbering
-use Rattle.ftl_model.specs.Path.{class_at, node_at}
-use Rattle.ftl_order.proofs.Kids.{class_known}
-use Rattle.ftl_tree_rows.proofs.Access.{has_at}
-use Rattle.ftl_tree_rows.specs.declared.row.NodeRow.{NodeRow}
+use Rattle.ftl_deps.specs.reads.Meant.{meant}
+use Rattle.ftl_meaning.specs.faults.Checked.{CheckedGrammar}
+use Rattle.ftl_meaning.specs.faults.Numbering as numbering
+use Rattle.ftl_model.specs.layout.Path.{class_at, node_at}
+use Rattle.ftl_order.proofs.orders.Kids.{class_known}
+use Rattle.ftl_tree.proofs.rows.Access.{has_at}
+use Rattle.ftl_tree.specs.declared.rows.row.NodeRow.{NodeRow}
 use Rattle.ftl_grammar_cases.proofs.documents.instances.write_node.Goals as goal
 
 pub child_count-child-end-requires : goal.child_count-child-end-requires

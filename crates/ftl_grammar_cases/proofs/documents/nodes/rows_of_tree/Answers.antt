@@ -1,14 +1,14 @@
 use Rattle.std.proofs.Common.{◌≡◌, ◌<◌, ◌++◌, [], ◌∷◌, ℕ, ap, ap₂, arith, length, map, refl, sym, ◌∙◌}
 use Rattle.std.specs.List.{range_with_len}
 use Rattle.std.proofs.lemmas.List.FromFn.{fill_by_all, map-range_with_len_more}
-use Rattle.ftl_dep_table.specs.Meant.{meant}
-use Rattle.ftl_model.specs.AttributeGrammar.{AttributeGrammar}
-use Rattle.ftl_model.specs.Path.{node_at}
-use Rattle.ftl_model.specs.Tree.{Forest, size}
-use Rattle.ftl_model.specs.TreeOf.{IsTreeOf}
-use Rattle.ftl_tree_rows.specs.Rows.{row_of, rows_of}
-use Rattle.ftl_tree_rows.specs.declared.row.NodeRow.{NodeRow}
-use Rattle.ftl_tree_rows.proofs.Access.{at_node, length-by_node}
+use Rattle.ftl_deps.specs.reads.Meant.{meant}
+use Rattle.ftl_model.specs.layout.AttributeGrammar.{AttributeGrammar}
+use Rattle.ftl_model.specs.layout.Path.{node_at}
+use Rattle.ftl_model.specs.layout.Tree.{Forest, size}
+use Rattle.ftl_model.specs.layout.TreeOf.{IsTreeOf}
+use Rattle.ftl_tree.specs.rows.Rows.{row_of, rows_of}
+use Rattle.ftl_tree.specs.declared.rows.row.NodeRow.{NodeRow}
+use Rattle.ftl_tree.proofs.rows.Access.{at_node, length-by_node}
 use Rattle.ftl_grammar_cases.proofs.documents.nodes.rows_of_tree.Goals as goal
 
 abbrev no_row : NodeRow

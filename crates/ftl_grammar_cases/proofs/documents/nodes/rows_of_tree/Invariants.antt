@@ -1,7 +1,7 @@
 use Rattle.std.proofs.Common.{◌≡◌, ℕ, map}
 use Rattle.std.specs.List.{range_with_len}
-use Rattle.ftl_model.specs.Path.{node_at}
-use Rattle.ftl_tree_rows.specs.Rows.{row_of}
+use Rattle.ftl_model.specs.layout.Path.{node_at}
+use Rattle.ftl_tree.specs.rows.Rows.{row_of}
 use Rattle.ftl_grammar_cases.proofs.documents.nodes.rows_of_tree.Given as goal
 
 -- the rows of the nodes so far

@@ -1,11 +1,11 @@
 use Rattle.std.proofs.Common.{◌≤◌, ℕ, sym, ◌∙◌, subst, refl, List}
 use Rattle.ftl_base.specs.Widths.{greatest_of_width}
-use Rattle.ftl_dep_table.specs.Meant.{meant}
-use Rattle.ftl_model.specs.Tree.{Forest}
-use Rattle.ftl_grammar_faults.specs.Checked.{CheckedGrammar}
-use Rattle.ftl_tree.specs.Bare.{AreBareRows}
-use Rattle.ftl_tree_rows.specs.Rows.{rows_of}
-use Rattle.ftl_tree_rows.specs.declared.row.NodeRow.{NodeRow}
+use Rattle.ftl_deps.specs.reads.Meant.{meant}
+use Rattle.ftl_model.specs.layout.Tree.{Forest}
+use Rattle.ftl_meaning.specs.faults.Checked.{CheckedGrammar}
+use Rattle.ftl_tree.specs.trees.Bare.{AreBareRows}
+use Rattle.ftl_tree.specs.rows.Rows.{rows_of}
+use Rattle.ftl_tree.specs.declared.rows.row.NodeRow.{NodeRow}
 use Rattle.ftl_grammar_cases.proofs.documents.nodes.write_bare.Goals as goal
 
 pub bare_tree-requires : goal.bare_tree-requires

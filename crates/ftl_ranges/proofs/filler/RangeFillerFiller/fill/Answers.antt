@@ -1,6 +1,6 @@
 use Rattle.std.proofs.Common.{◌≡◌, ◌+◌, ◌-◌, ap, ◌∙◌, arith}
-use Rattle.ftl_model.specs.Values.{word_of_value}
-use Rattle.ftl_cells.specs.Work.{target_of}
+use Rattle.ftl_model.specs.layout.Values.{word_of_value}
+use Rattle.ftl_cells.specs.shared.Work.{target_of}
 use Rattle.ftl_steal.proofs.Filling.{has_step}
 use Rattle.ftl_ranges.proofs.Fills.{fills_on}
 use Rattle.ftl_ranges.proofs.filler.RangeFillerFiller.fill.Goals as goal

@@ -1,5 +1,5 @@
 use Rattle.std.proofs.Common.{ap, sym, subst, ◌∙◌, ◌+◌, set, arith}
-use Rattle.ftl_model.specs.Values.{word_of_value}
+use Rattle.ftl_model.specs.layout.Values.{word_of_value}
 use Rattle.ftl_steal.specs.Alone.{IsFilledTo}
 use Rattle.ftl_steal.proofs.Filling.{has_step, fills_on}
 use Rattle.ftl_steal.proofs.alone.PlainFillerFiller.fill.Goals as goal

@@ -1,0 +1,137 @@
+-- Words and bytes have one answer.
+use Rattle.std.proofs.Common.{◌≡◌, ◌≤◌, refl, sym, ap, ◌∙◌, ℕ, Bool, true, false, List, length}
+use Rattle.std.proofs.Common.{Option, Some, None, Result, Ok, Err, arith}
+use Rattle.std.specs.Prelude.{IfSome, nat_lt, if◌then◌else◌}
+use Rattle.std.specs.Str.{IsUtf8}
+use Rattle.std.proofs.lemmas.Bool.{ltb-false}
+use Rattle.std.proofs.lemmas.Str.{IsUtf8-nil}
+use Rattle.ftl_model.specs.layout.Tree.{Forest}
+use Rattle.ftl_model.specs.layout.Values.{Value}
+use Rattle.ftl_order.specs.orders.OneTable.{ExactlyOneList}
+use Rattle.ftl_order.proofs.orders.Scheduled.{one_list_under}
+use Rattle.ftl_page.specs.sections.Page.{page_of}
+use Rattle.ftl_page.specs.sections.Texts.{HasTextsUpTo}
+use Rattle.ftl_page.specs.declared.sections.fault.PageFault.{PageFault}
+use Rattle.ftl_page.specs.declared.sections.page.Need.{Need}
+use Rattle.ftl_page.specs.declared.sections.page.Page.{Page}
+use Rattle.ftl_page.proofs.sections.TextLemmas.{answer_is_short}
+use Rattle.ftl_boxes.specs.SamplePage.{sample_page_of}
+use Rattle.ftl_page.specs.commands.Commands.{command_of}
+use Rattle.ftl_page.specs.declared.commands.command.Command.{Command}
+use Rattle.ftl_page.specs.declared.commands.command.Command.TheVariants as command
+use Rattle.ftl_meaning.specs.faults.Checked.{CheckedGrammar}
+use Rattle.ftl_deps.specs.reads.Meant.{meant}
+use Rattle.ftl_schedule.specs.stages.Stages.{stages_of}
+use Rattle.ftl_schedule.specs.declared.stages.types.Schedule.{Schedule}
+use Rattle.ftl_answer.specs.refusals.PageLines.{page_line, too_long_line, words_line}
+use Rattle.ftl_answer.specs.answers.Answer.{Answer, refused}
+use Rattle.ftl_answer.specs.answers.Answers.{HasOneAnswer, answered, boxes_of, command_in, document_text, obeyed, rules_alone}
+use Rattle.ftl_answer.specs.answers.Answers.{shown_answer, shown_by, solved, summary_of, text_or_none, whole_page, with_rules}
+use Rattle.ftl_answer.specs.answers.Stages.{HasOne, Is, Outcome, Stage, Then, ends, hands_on, or_told}
+use Rattle.ftl_answer.specs.answers.Texts.{grammar, page, schedule, tree}
+use Rattle.ftl_answer.proofs.answers.DocumentBytes.{document_utf8}
+use Rattle.ftl_answer.proofs.answers.Ones.{end_is_no_value, is_one, same_end, same_value, then_one}
+use Rattle.ftl_answer.proofs.answers.Rules.{IsHanded, grammar_handed, grammar_one, handed_law, schedule_one, schedule_ordered}
+use Rattle.ftl_answer.proofs.answers.TreesRead.{tree_fits, tree_one}
+
+-- ---- pages
+
+-- the document of a page that is handed on is short, and in UTF-8
+pub record IsRead (p : Page) : Type 0 where
+  pub short : length (document_text p) ≤ 67108864
+  pub utf8 : IsUtf8 (document_text p)
+
+text_short : (p : Page) → IfSome p.document (λ text. length text ≤ 67108864) → length (document_text p) ≤ 67108864
+text_short p few = by p.document few
+  where
+    by : (o : Option (List ℕ)) → IfSome o (λ text. length text ≤ 67108864) → length (text_or_none o) ≤ 67108864
+    by None h = omega arith
+    by (Some text) h = h
+
+text_utf8 : (p : Page) → IfSome p.document IsUtf8 → IsUtf8 (document_text p)
+text_utf8 p all = by p.document all
+  where
+    by : (o : Option (List ℕ)) → IfSome o IsUtf8 → IsUtf8 (text_or_none o)
+    by None h = IsUtf8-nil
+    by (Some text) h = h
+
+of_result : (need : Need) (bytes : List ℕ) (p : Page) → length bytes ≤ 67108864 → (r : Result Page PageFault)
+    → page_of bytes need ≡ r → hands_on p ≡ or_told (λ fault. refused 4 (page_line fault)) r → IsRead p
+of_result need bytes p few (Ok q) e is =
+    let same : p ≡ q = same_value p q is in
+    let read : page_of bytes need ≡ Ok p = e ∙ ap Ok (sym same) in
+    let texts : HasTextsUpTo 67108864 p = answer_is_short (Ok p) bytes need few read in
+    record { short = text_short p texts.document; utf8 = text_utf8 p (document_utf8 bytes need p read) }
+of_result need bytes p few (Err fault) e is = absurd (end_is_no_value (refused 4 (page_line fault)) p (sym is))
+
+by_length : (need : Need) (bytes : List ℕ) (p : Page) (b : Bool) → nat_lt 67108864 (length bytes) ≡ b
+    → hands_on p ≡ (if b then ends (refused 4 too_long_line)
+    else or_told (λ fault. refused 4 (page_line fault)) (page_of bytes need)) → IsRead p
+by_length need bytes p true e is = absurd (end_is_no_value (refused 4 too_long_line) p (sym is))
+by_length need bytes p false e is = of_result need bytes p (ltb-false 67108864 (length bytes) e) (page_of bytes need) refl is
+
+pub page_read : (need : Need) (bytes : List ℕ) (p : Page) → page need bytes (hands_on p) → IsRead p
+page_read need bytes p is = by_length need bytes p (nat_lt 67108864 (length bytes)) refl is
+
+-- ---- tables
+
+shown_one : (text : CheckedGrammar → Forest → List Value → List ℕ) (c : CheckedGrammar) (t : Forest)
+    → ExactlyOneList (meant c) t → HasOne (shown_by text c t)
+shown_one text c t one = record {
+  some = (ends (shown_answer text c t one.some_solves.0), (one.some_solves.0, one.some_solves.1, refl));
+  any_two = λ o u p q.
+      p.2
+      ∙ (ap (λ (values : List Value). ends (shown_answer text c t values)) (one.any_two_equal p.0 q.0 p.1 q.1)
+      ∙ sym q.2);
+}
+
+-- ---- commands
+
+rules_one : (need : Need) (bytes : List ℕ) (next : CheckedGrammar → Schedule → Page → Stage ⊥)
+    → ((c : CheckedGrammar) (s : Schedule) (p : Page) → IsRead p → IsHanded p.width c
+    → schedule c p.schedule (hands_on s) → HasOne (next c s p))
+    → HasOne (with_rules need bytes next)
+rules_one need bytes next one =
+    then_one (page need bytes)
+    (λ p. Then (grammar p.width p.grammar) (λ c. Then (schedule c p.schedule) (λ s. next c s p))) (is_one _)
+    (λ p read.
+    then_one (grammar p.width p.grammar) (λ c. Then (schedule c p.schedule) (λ s. next c s p))
+    (grammar_one p.width p.grammar)
+    (λ c is.
+    let law = grammar_handed p.width p.grammar c is in
+    then_one (schedule c p.schedule) (λ s. next c s p) (schedule_one c (handed_law p.width c law) p.schedule)
+    (λ s ordered. one c s p (page_read need bytes p read) law ordered)))
+
+solved_one : (bytes : List ℕ) (text : CheckedGrammar → Forest → List Value → List ℕ) → HasOne (solved bytes text)
+solved_one bytes text =
+    rules_one whole_page bytes (λ c s p. Then (tree c s (document_text p)) (shown_by text c))
+    (λ c s p read law ordered.
+    let lawful = handed_law p.width c law in
+    then_one (tree c s (document_text p)) (shown_by text c) (tree_one c s (document_text p) read.short read.utf8)
+    (λ t is.
+    shown_one text c t
+    (one_list_under (meant c) (stages_of s) t lawful (schedule_ordered c lawful p.schedule s ordered).pairs
+    (tree_fits c s (document_text p) read.short read.utf8 law.faultless t is))))
+
+obeyed_one : (c : Command) (bytes : List ℕ) → HasOne (obeyed c bytes)
+obeyed_one (command.Run how) bytes = solved_one bytes boxes_of
+obeyed_one command.Check bytes = rules_one rules_alone bytes _ (λ c s p read law ordered. is_one _)
+obeyed_one command.Schedule bytes = rules_one rules_alone bytes _ (λ c s p read law ordered. is_one _)
+obeyed_one (command.Sample pieces name how) bytes =
+    then_one (Is (or_told (λ fault. refused 2 words_line) (sample_page_of name pieces)))
+    (λ text. solved text (summary_of name)) (is_one _) (λ text is. solved_one text (summary_of name))
+
+answered_one : (words : List (List ℕ)) (bytes : List ℕ) → HasOne (answered words bytes)
+answered_one words bytes =
+    then_one (Is (command_in (command_of words))) (λ c. obeyed c bytes) (is_one _) (λ c is. obeyed_one c bytes)
+
+-- words and bytes have one answer
+pub has_one_answer : (words : List (List ℕ)) (bytes : List ℕ) → HasOneAnswer words bytes
+has_one_answer words bytes = record {
+  some = some (answered_one words bytes).some.0 (answered_one words bytes).some.1;
+  any_two = λ a b p q. same_end a b ((answered_one words bytes).any_two (ends a) (ends b) p q);
+}
+  where
+    some : (o : Outcome ⊥) → answered words bytes o → (a : Answer) × answered words bytes (ends a)
+    some (ends a) p = (a, p)
+    some (hands_on x) p = absurd x

@@ -1,0 +1,5 @@
+use Rattle.ftl_answer.proofs.answers.Commands.{has_one_answer}
+use Rattle.ftl_answer.proofs.answers.laws.one_answer.Goals as goal
+
+pub returns : goal.returns
+returns c = record { one = has_one_answer }

@@ -1,0 +1,5 @@
+use Rattle.ftl_answer.proofs.headline.Tables.{one_table_of}
+use Rattle.ftl_answer.proofs.headline.laws.one_table.Goals as goal
+
+pub returns : goal.returns
+returns c = record { one = one_table_of }

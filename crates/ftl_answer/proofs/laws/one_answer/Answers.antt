@@ -1,5 +1,0 @@
-use Rattle.ftl_answer.proofs.Commands.{has_one_answer}
-use Rattle.ftl_answer.proofs.laws.one_answer.Goals as goal
-
-pub returns : goal.returns
-returns c = record { one = has_one_answer }

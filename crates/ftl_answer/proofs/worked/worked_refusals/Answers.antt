@@ -1,5 +1,0 @@
-use Rattle.ftl_answer.proofs.WorkedRefusals.{empty_page, nothing, unknown}
-use Rattle.ftl_answer.proofs.worked.worked_refusals.Goals as goal
-
-pub returns : goal.returns
-returns c = record { nothing = nothing; unknown = unknown; empty_page = empty_page }

@@ -1,0 +1,102 @@
+-- The answer to words and bytes: the first refusal that applies, or what the command asks for.
+use Rattle.std.specs.Prelude.{◌≡◌, ℕ, true, false, if◌then◌else◌, List, [], Option, Some, None, codes}
+use Rattle.ftl_model.specs.layout.Boxes.{boxes, shows_overflow}
+use Rattle.ftl_model.specs.layout.Table.{SolvesList, value_in}
+use Rattle.ftl_model.specs.layout.Tree.{Forest}
+use Rattle.ftl_model.specs.layout.Values.{Value}
+use Rattle.ftl_meaning.specs.grammars.GrammarOf.{names_of}
+use Rattle.ftl_page.specs.declared.sections.page.Need.{Need}
+use Rattle.ftl_page.specs.declared.sections.page.Page.{Page}
+use Rattle.ftl_boxes.specs.SamplePage.{sample_page_of}
+use Rattle.ftl_page.specs.commands.Commands.{command_of}
+use Rattle.ftl_page.specs.declared.commands.command.Command.{Command}
+use Rattle.ftl_page.specs.declared.commands.command.Command.TheVariants as command
+use Rattle.ftl_meaning.specs.faults.Checked.{CheckedGrammar}
+use Rattle.ftl_deps.specs.reads.Meant.{meant}
+use Rattle.ftl_schedule.specs.declared.stages.types.Schedule.{Schedule}
+use Rattle.ftl_schedule.specs.printing.WrittenOf.{written_of}
+use Rattle.ftl_schedule.specs.text.ScheduleText.{schedule_text}
+use Rattle.ftl_answer.specs.refusals.PageLines.{words_line}
+use Rattle.ftl_answer.specs.answers.Answer.{Answer, answer, refused}
+use Rattle.ftl_answer.specs.answers.Stages.{Is, Outcome, Stage, Then, ends, hands_on, or_told}
+use Rattle.ftl_answer.specs.answers.Summary.{summary}
+use Rattle.ftl_answer.specs.answers.Texts.{grammar, page, schedule, tree}
+
+-- ---- what commands need
+
+-- a page whose document is not looked at
+abbrev pub rules_alone : Need
+rules_alone = record { schedule = true; document = false; edits = false }
+
+-- a page that is solved
+abbrev pub whole_page : Need
+whole_page = record { schedule = true; document = true; edits = false }
+
+-- ---- what commands print
+
+-- the table of a list, shown by a text; status 8 where a shown value is Overflow
+abbrev pub shown_answer : (CheckedGrammar → Forest → List Value → List ℕ) → CheckedGrammar → Forest → List Value → Answer
+shown_answer text c t values =
+    answer (if shows_overflow (names_of c.grammar) t (value_in (meant c) t values) then 8 else 0) (text c t values)
+
+-- the table of a list that solves is shown
+abbrev pub shown_by : (CheckedGrammar → Forest → List Value → List ℕ) → CheckedGrammar → Forest → Stage ⊥
+shown_by text c t outcome =
+    (values : List Value) × SolvesList (meant c) t values × (outcome ≡ ends (shown_answer text c t values))
+
+-- the boxes of a table
+abbrev pub boxes_of : CheckedGrammar → Forest → List Value → List ℕ
+boxes_of c t values = boxes (names_of c.grammar) t (value_in (meant c) t values)
+
+-- the summary of a table, by the name of its grammar
+abbrev pub summary_of : (name : List ℕ) → CheckedGrammar → Forest → List Value → List ℕ
+summary_of name c t values = summary name (meant c) (names_of c.grammar) t (value_in (meant c) t values)
+
+-- ---- commands
+
+-- a grammar and a schedule, and what goes on with them
+abbrev pub with_rules : Need → (bytes : List ℕ) → (CheckedGrammar → Schedule → Page → Stage ⊥) → Stage ⊥
+with_rules need bytes next =
+    Then (page need bytes) (λ p. Then (grammar p.width p.grammar) (λ c. Then (schedule c p.schedule) (λ s. next c s p)))
+
+-- the text, or an empty one where there is none
+abbrev pub text_or_none : Option (List ℕ) → List ℕ
+text_or_none None = []
+text_or_none (Some text) = text
+
+-- the text of the document; a page that is solved has one
+abbrev pub document_text : Page → List ℕ
+document_text p = text_or_none p.document
+
+-- the page is solved, and its table shown
+abbrev pub solved : (bytes : List ℕ) → (CheckedGrammar → Forest → List Value → List ℕ) → Stage ⊥
+solved bytes text =
+    with_rules whole_page bytes (λ c s p. Then (tree c s (document_text p)) (shown_by text c))
+
+-- what a command comes to
+abbrev pub obeyed : Command → (bytes : List ℕ) → Stage ⊥
+obeyed (command.Run how) bytes = solved bytes boxes_of
+obeyed command.Check bytes = with_rules rules_alone bytes (λ c s p. Is (ends (answer 0 (codes "accepted\n"))))
+obeyed command.Schedule bytes =
+    with_rules rules_alone bytes (λ c s p. Is (ends (answer 0 (schedule_text (written_of c.grammar s)))))
+obeyed (command.Sample pieces name how) bytes =
+    Then (Is (or_told (λ fault. refused 2 words_line) (sample_page_of name pieces)))
+    (λ text. solved text (summary_of name))
+
+-- the command that the words are
+abbrev pub command_in : Option Command → Outcome Command
+command_in None = ends (refused 2 words_line)
+command_in (Some c) = hands_on c
+
+-- what words and bytes come to
+abbrev pub answered : (words : List (List ℕ)) → (bytes : List ℕ) → Stage ⊥
+answered words bytes = Then (Is (command_in (command_of words))) (λ c. obeyed c bytes)
+
+-- the answer to words and bytes
+abbrev pub IsAnswer : (words : List (List ℕ)) → (bytes : List ℕ) → Answer → Type 0
+IsAnswer words bytes a = answered words bytes (ends a)
+
+-- words and bytes have one answer
+pub record HasOneAnswer (words : List (List ℕ)) (bytes : List ℕ) : Type 0 where
+  pub some : (a : Answer) × IsAnswer words bytes a
+  pub any_two : (one other : Answer) → IsAnswer words bytes one → IsAnswer words bytes other → one ≡ other

@@ -1,0 +1,136 @@
+-- The stages on the way from a page to its document: each refuses, or hands on what it found.
+use Rattle.std.specs.Prelude.{◌≡◌, ℕ, nat_lt, if◌then◌else◌, List, length, Option, Some, None, Result, Ok, Err}
+use Rattle.ftl_base.specs.Widths.{greatest_of_width}
+use Rattle.ftl_base.specs.declared.width.Width.{Width}
+use Rattle.ftl_model.specs.layout.Tree.{Forest}
+use Rattle.ftl_tokens.specs.scanner.Scan.{scan}
+use Rattle.ftl_tokens.specs.scanner.Tokenized.{Tokenized, WideTokenized}
+use Rattle.ftl_tokens.specs.declared.scanner.fault.TokenFault.{TokenFault}
+use Rattle.ftl_tokens.specs.declared.scanner.kind.Token.{Token}
+use Rattle.ftl_page.specs.sections.Page.{page_of}
+use Rattle.ftl_page.specs.declared.sections.fault.Section.{Section}
+use Rattle.ftl_page.specs.declared.sections.fault.Section.TheVariants as section
+use Rattle.ftl_page.specs.declared.sections.page.Need.{Need}
+use Rattle.ftl_page.specs.declared.sections.page.Page.{Page}
+use Rattle.ftl_grammar.specs.declared.syntax.rules.Grammar.{Grammar}
+use Rattle.ftl_grammar.specs.reading.Read.{ReadsGrammar}
+use Rattle.ftl_grammar.specs.declared.reading.fault.SyntaxFault.TheVariants as syntax
+use Rattle.ftl_meaning.specs.faults.Checked.{CheckedGrammar}
+use Rattle.ftl_meaning.specs.faults.FirstFault as grammars
+use Rattle.ftl_deps.specs.reads.Meant.{meant}
+use Rattle.ftl_schedule.specs.stages.Stages.{stages_of}
+use Rattle.ftl_schedule.specs.declared.stages.types.Schedule.{Schedule}
+use Rattle.ftl_schedule.specs.declared.names.fault.ScheduleFault.TheVariants as schedules
+use Rattle.ftl_schedule.specs.reading.Read.{Answers}
+use Rattle.ftl_order.specs.faults.FirstFault as orders
+use Rattle.ftl_order.specs.automatic.Automatic.{IsAutomatic, IsStuck}
+use Rattle.ftl_document.specs.declared.faults.fault.DocFault.TheVariants as document
+use Rattle.ftl_tree.specs.trees.CheckedTree.{CheckedTree}
+use Rattle.ftl_document.specs.reading.ReadTree.{ReadsTree}
+use Rattle.ftl_limits.specs.faults.PlanFaults as plans
+use Rattle.ftl_answer.specs.refusals.DocumentLines.{document_line}
+use Rattle.ftl_answer.specs.refusals.GrammarLines.{grammar_line}
+use Rattle.ftl_answer.specs.refusals.PageLines.{page_line, too_long_line}
+use Rattle.ftl_answer.specs.refusals.PlanLines.{plan_line}
+use Rattle.ftl_answer.specs.refusals.ScheduleLines.{schedule_line, stuck_line, verify_line}
+use Rattle.ftl_answer.specs.refusals.TextLines.{syntax_line, token_line}
+use Rattle.ftl_answer.specs.answers.Answer.{refused}
+use Rattle.ftl_answer.specs.answers.Stages.{Is, Outcome, Stage, Then, Told, ends, hands_on, or_told, unless}
+
+-- the status of a refusal in a section
+abbrev pub status_of : Section → ℕ
+status_of section.Grammar = 5
+status_of section.Schedule = 6
+status_of section.Document = 7
+status_of section.Edits = 10
+
+-- ---- the page
+
+-- the sections that are needed
+abbrev pub page : Need → (bytes : List ℕ) → Stage Page
+page need bytes =
+    Is (if nat_lt 67108864 (length bytes) then ends (refused 4 too_long_line)
+    else or_told (λ fault. refused 4 (page_line fault)) (page_of bytes need))
+
+-- ---- tokens
+
+-- a text with its tokens
+abbrev pub tokenized : (text : List ℕ) → List Token → Tokenized
+tokenized text tokens = record { text = text; tokens = tokens }
+
+-- what the tokens of a text come to
+abbrev pub scanned_as : Section → (text : List ℕ) → Result (List Token) TokenFault → Outcome Tokenized
+scanned_as which text (Ok tokens) = hands_on (tokenized text tokens)
+scanned_as which text (Err fault) = ends (refused (status_of which) (token_line which fault))
+
+-- the text of a section with its tokens, whose numbers are at most the greatest
+abbrev pub tokens : Section → (greatest : ℕ) → (text : List ℕ) → Stage Tokenized
+tokens which greatest text = Is (scanned_as which text (scan greatest text))
+
+-- ---- the grammar
+
+-- the grammar that the tokens spell
+abbrev pub spelled_grammar : Tokenized → Stage Grammar
+spelled_grammar scanned =
+    Told syntax.OutOfMemory (λ fault. refused 5 (syntax_line fault)) (ReadsGrammar scanned)
+
+-- the grammar in this width
+abbrev pub checked_grammar : Width → Grammar → CheckedGrammar
+checked_grammar width g = record { grammar = g; width = width }
+
+-- it has no fault
+abbrev pub lawful_grammar : Width → Grammar → Stage CheckedGrammar
+lawful_grammar width g =
+    Is (unless (λ fault. refused 5 (grammar_line fault)) (grammars.first_fault g) (checked_grammar width g))
+
+-- the grammar of a text
+abbrev pub grammar : Width → (text : List ℕ) → Stage CheckedGrammar
+grammar width text =
+    Then (tokens section.Grammar 2147483647 text)
+    (λ scanned. Then (spelled_grammar scanned) (lawful_grammar width))
+
+-- ---- the schedule
+
+-- the schedule that the tokens spell, by what its names stand for
+abbrev pub spelled_schedule : CheckedGrammar → Tokenized → Stage Schedule
+spelled_schedule c scanned =
+    Told schedules.OutOfMemory (λ fault. refused 6 (schedule_line fault)) (Answers c.grammar scanned)
+
+-- it is ordered
+abbrev pub ordered_schedule : CheckedGrammar → Schedule → Stage Schedule
+ordered_schedule c s =
+    Is (unless (λ fault. refused 6 (verify_line c.grammar fault)) (orders.first_fault (meant c) (stages_of s)) s)
+
+-- the automatic schedule, or the attributes that it leaves
+abbrev pub automatic_schedule : CheckedGrammar → Stage Schedule
+automatic_schedule c (hands_on s) = IsAutomatic (meant c) (stages_of s)
+automatic_schedule c (ends a) =
+    (left : List ℕ) × IsStuck (meant c) left × (a ≡ refused 6 (stuck_line c.grammar left))
+
+-- the schedule of a text, or the automatic one where there is none
+abbrev pub schedule : CheckedGrammar → (text : Option (List ℕ)) → Stage Schedule
+schedule c None = automatic_schedule c
+schedule c (Some text) =
+    Then (tokens section.Schedule 2147483647 text) (λ scanned. Then (spelled_schedule c scanned) (ordered_schedule c))
+
+-- ---- the document
+
+-- the tree that the tokens mean
+abbrev pub spelled_tree : CheckedGrammar → WideTokenized → Stage CheckedTree
+spelled_tree c scanned =
+    Told document.OutOfMemory (λ fault. refused 7 (document_line c.grammar fault)) (ReadsTree c scanned)
+
+-- no stage reads too much
+abbrev pub planned_tree : CheckedGrammar → Schedule → Forest → Stage Forest
+planned_tree c s t =
+    Is (unless (λ fault. refused 7 (plan_line fault)) (plans.first_fault (meant c) (stages_of s) t) t)
+
+-- a text with its tokens, whose numbers are at most the greatest
+abbrev pub wide : (greatest : ℕ) → Tokenized → WideTokenized
+wide greatest scanned = record { tokenized = scanned; greatest = greatest }
+
+-- the tree of the document of a text
+abbrev pub tree : CheckedGrammar → Schedule → (text : List ℕ) → Stage Forest
+tree c s text =
+    Then (tokens section.Document (greatest_of_width c.width) text)
+    (λ scanned. Then (spelled_tree c (wide (greatest_of_width c.width) scanned)) (λ t. planned_tree c s t.tree))

@@ -1,0 +1,131 @@
+-- What is promised of a call that writes the answer to its words and to the bytes that its source had left.
+use Rattle.std.specs.Prelude.{◌≡◌, ◌≢◌, ℕ, ◌+◌, ◌<◌, ◌≤◌, ◌⊎◌, Bool, true, false, List, [], length, Option, None, Some, map, String, Ok, IfSome}
+use Rattle.std.specs.Io.KnownBytes.{Appends}
+use Rattle.std.specs.String.{string_bytes}
+use Rattle.ftl_boxes.specs.SamplePage.{sample_page_of}
+use Rattle.ftl_page.specs.commands.Commands.{command_of}
+use Rattle.ftl_page.specs.declared.commands.command.Command.{Command}
+use Rattle.ftl_page.specs.declared.commands.command.Command.TheVariants as command
+use Rattle.ftl_deps.specs.reads.Meant.{meant}
+use Rattle.ftl_edge.specs.Counts.{Rose, RoseBy, SourceCounts, raised}
+use Rattle.ftl_edge.specs.Sink.{AppendsFront}
+use Rattle.ftl_meaning.specs.faults.Checked.{CheckedGrammar}
+use Rattle.ftl_model.specs.layout.Tree.{Forest}
+use Rattle.ftl_order.specs.orders.OneTable.{ExactlyOneList}
+use Rattle.ftl_page.specs.declared.sections.page.Page.{Page}
+use Rattle.ftl_answer.specs.refusals.PageLines.{too_long_line}
+use Rattle.ftl_schedule.specs.declared.stages.types.Schedule.{Schedule}
+use Rattle.ftl_answer.specs.answers.Answer.{Answer, refused}
+use Rattle.ftl_answer.specs.answers.Answers.{IsAnswer, document_text, whole_page}
+use Rattle.ftl_answer.specs.answers.Stages.{hands_on}
+use Rattle.ftl_answer.specs.answers.Texts.{grammar, page, schedule, tree}
+
+-- the bytes of words
+abbrev pub texts : {A : Type 0} → List (String A) → List (List ℕ)
+texts words = map string_bytes words
+
+-- ---- which words read a page
+
+-- whether a command reads a page
+abbrev pub reads_page : Command → Bool
+reads_page (command.Run how) = true
+reads_page command.Check = true
+reads_page command.Schedule = true
+reads_page (command.Sample pieces name how) = false
+
+-- words that are no command read none
+abbrev pub may_read : Option Command → Bool
+may_read None = false
+may_read (Some c) = reads_page c
+
+-- whether the words read a page
+abbrev pub words_read : (words : List (List ℕ)) → Bool
+words_read words = may_read (command_of words)
+
+-- the bytes that are answered, where they are known: words that read no page have one answer, whatever the bytes are
+abbrev pub bytes_answered : (reads : Bool) → (told : Option (List ℕ)) → Option (List ℕ)
+bytes_answered true told = told
+bytes_answered false told = Some []
+
+-- ---- the answer
+
+-- the bytes are those that are told, where any are
+abbrev pub AreTold : (told : Option (List ℕ)) → (bytes : List ℕ) → Type 0
+AreTold None bytes = Unit {0}
+AreTold (Some known) bytes = bytes ≡ known
+
+-- this holds of the bytes that are told; where none are, there are bytes of which it holds
+abbrev pub OfTheBytes : (told : Option (List ℕ)) → (List ℕ → Type 0) → Type 0
+OfTheBytes told P = (bytes : List ℕ) × AreTold told bytes × P bytes
+
+-- there is an answer to the words and to the bytes, and this holds of the bytes and of it
+abbrev pub OfTheAnswer : (words : List (List ℕ)) → (told : Option (List ℕ)) → (List ℕ → Answer → Type 0) → Type 0
+OfTheAnswer words told P = OfTheBytes told (λ bytes. (a : Answer) × IsAnswer words bytes a × P bytes a)
+
+-- a write fault, a read fault or want of memory
+abbrev pub IsTrouble : (status : ℕ) → Type 0
+IsTrouble s = (s ≡ 1) ⊎ ((s ≡ 3) ⊎ (s ≡ 9))
+
+-- the status of an answer is none of these
+pub record IsAnswered (status : ℕ) : Type 0 where
+  pub no_write_fault : status ≢ 1
+  pub no_read_fault : status ≢ 3
+  pub no_want : status ≢ 9
+
+-- What is told of an answer, by the status that the call ends with, what was written before and after, what is left of
+-- the source, and its counts before and after: the status is the answer's, or tells of trouble, and where no count of
+-- faults rose, of no other trouble than want of memory. With the answer's status its whole text was appended, and with a
+-- write fault a front of it. Unless the page is too long, a read failed or memory ran out, a source that is read, and
+-- tells what it has left, is read to its end, and as many bytes were taken as are answered. Of a page that is longer than
+-- one may be, all that one may have and one byte more were taken.
+pub record IsTold (s : ℕ) (written after : Option (List ℕ)) (reads : Bool) (told left : Option (List ℕ))
+    (old new : SourceCounts) (write_rose : Type 0) (bytes : List ℕ) (a : Answer) : Type 0 where
+  pub status : (s ≡ a.status) ⊎ IsTrouble s
+  pub no_excuse : (write_rose → ⊥) → (Rose old.fault_count new.fault_count → ⊥) → (s ≡ a.status) ⊎ (s ≡ 9)
+  pub text : s ≡ a.status → Appends written after a.text
+  pub front : s ≡ 1 → AppendsFront written after a.text
+  pub to_its_end : reads ≡ true → s ≢ 3 → s ≢ 9 → a ≢ refused 4 too_long_line → IfSome told (λ _. left ≡ Some [])
+  pub counted : reads ≡ true → s ≢ 3 → s ≢ 9 → a ≢ refused 4 too_long_line → RoseBy (length bytes) old.taken new.taken
+  pub over : reads ≡ true → s ≢ 3 → s ≢ 9 → 67108864 < length bytes → raised old.taken 67108865 ≤ new.taken
+
+-- ---- faults
+
+-- A write fault comes only where the sink's count rose, and a read fault only where the source's did; with a read fault
+-- or want of memory nothing was written.
+pub record FaultsHaveCauses (s : ℕ) (written after : Option (List ℕ)) (write_rose read_rose : Type 0) : Type 0 where
+  pub write : s ≡ 1 → write_rose
+  pub read : s ≡ 3 → read_rose
+  pub nothing : (s ≡ 3) ⊎ (s ≡ 9) → after ≡ written
+
+-- ---- the source
+
+-- Where the words read no page, the source was not called, and there is no read fault. At most one byte past the limit
+-- was taken, in at most one call for each byte and one for the end.
+pub record ReadsInput (s : ℕ) (reads : Bool) (told left : Option (List ℕ)) (old new : SourceCounts) : Type 0 where
+  pub untouched : reads ≡ false → (left ≡ told) × (new ≡ old) × (s ≢ 3)
+  pub at_most : new.taken ≤ old.taken + 67108865
+  pub turns : new.calls ≤ old.calls + 67108866
+
+-- ---- tables
+
+-- the page is accepted, with this grammar and the tree of its document
+pub record IsAccepted (bytes : List ℕ) (c : CheckedGrammar) (t : Forest) : Type 0 where
+  pub sections : Page
+  pub read : page whole_page bytes (hands_on sections)
+  pub lawful : grammar sections.width sections.grammar (hands_on c)
+  pub order : Schedule
+  pub ordered : schedule c sections.schedule (hands_on order)
+  pub spelled : tree c order (document_text sections) (hands_on t)
+
+-- exactly one list of values solves the tree of a page that is accepted
+abbrev pub HasOneTable : (bytes : List ℕ) → Type 0
+HasOneTable bytes = (c : CheckedGrammar) (t : Forest) → IsAccepted bytes c t → ExactlyOneList (meant c) t
+
+-- the same of the page of a command: the one that is read, whatever it is where the source doesn't tell, or the sample
+abbrev pub OneTableOf : Option Command → (told : Option (List ℕ)) → Type 0
+OneTableOf (Some (command.Run how)) told = (bytes : List ℕ) → AreTold told bytes → HasOneTable bytes
+OneTableOf (Some command.Check) told = (bytes : List ℕ) → AreTold told bytes → HasOneTable bytes
+OneTableOf (Some command.Schedule) told = (bytes : List ℕ) → AreTold told bytes → HasOneTable bytes
+OneTableOf (Some (command.Sample pieces name how)) told =
+    (text : List ℕ) → sample_page_of name pieces ≡ Ok text → HasOneTable text
+OneTableOf None told = Unit {0}

@@ -1,7 +1,0 @@
-use Rattle.ftl_automatic.proofs.Joined.{joined_fit}
-use Rattle.ftl_automatic.proofs.Largest.{list_exists}
-use Rattle.ftl_automatic.proofs.Ones.{one_list}
-use Rattle.ftl_automatic.proofs.laws.lists_that_fit.Goals as goal
-
-pub returns : goal.returns
-returns c = record { joined = joined_fit; one = one_list; exists = λ g kind done law. list_exists g law kind done }

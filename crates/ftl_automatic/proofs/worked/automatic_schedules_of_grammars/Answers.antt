@@ -1,6 +1,0 @@
-use Rattle.ftl_automatic.proofs.WorkedSmall.{chain_automatic, free_automatic}
-use Rattle.ftl_automatic.proofs.WorkedStack.{stack_automatic}
-use Rattle.ftl_automatic.proofs.worked.automatic_schedules_of_grammars.Goals as goal
-
-pub returns : goal.returns
-returns c = record { stack = stack_automatic; inorder = chain_automatic; tie = free_automatic }

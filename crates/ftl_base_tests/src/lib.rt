@@ -1,5 +1,0 @@
-//! The tests of values and the stack, apart from them, so that these are proved once.
-#![tactic(auto)]
-
-#[cfg(test)]
-mod tests;

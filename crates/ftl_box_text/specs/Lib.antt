@@ -1,3 +1,0 @@
-pub mod WordValues
-pub mod Shows
-pub use Rattle.ftl_model.specs.Boxes

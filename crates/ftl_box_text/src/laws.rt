@@ -1,8 +1,0 @@
-//! Laws of words.
-
-ghost use Rattle.ftl_box_text.specs.WordValues.{WordsAreUndone};
-
-/// A law: the value that a value's word stands for is that value.
-pub fn words_are_undone()
-    ensures undone { WordsAreUndone }
-{}

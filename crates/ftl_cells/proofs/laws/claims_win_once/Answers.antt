@@ -1,9 +1,0 @@
-use Rattle.ftl_cells.proofs.Runs.{won_once}
-use Rattle.ftl_cells.proofs.laws.claims_win_once.Goals as goal
-
-pub returns : goal.returns
-returns c = record {
-  once =
-      λ m first next later last all more many most h g i law k one run other. won_once m law first next later last
-      all more many most h g i k one run other;
-}

@@ -1,8 +1,0 @@
-use Rattle.ftl_cells.proofs.Consequences.{end_tells, end_holds}
-use Rattle.ftl_cells.proofs.laws.end_means_all.Goals as goal
-
-pub returns : goal.returns
-returns c = record {
-  items = end_tells;
-  cells = end_holds;
-}

@@ -1,8 +1,0 @@
-use Rattle.ftl_cells.proofs.Runs.{saw_all, saw_solution}
-use Rattle.ftl_cells.proofs.laws.ended_hands_saw_all.Goals as goal
-
-pub returns : goal.returns
-returns c = record {
-  items = saw_all;
-  cells = saw_solution;
-}

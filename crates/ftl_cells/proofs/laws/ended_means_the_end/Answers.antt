@@ -1,8 +1,0 @@
-use Rattle.ftl_cells.proofs.Consequences.{ended_tells}
-use Rattle.ftl_cells.proofs.laws.ended_means_the_end.Goals as goal
-
-pub returns : goal.returns
-returns c = record {
-  end =
-      ended_tells;
-}

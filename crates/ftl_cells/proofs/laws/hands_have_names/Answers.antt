@@ -1,5 +1,0 @@
-use Rattle.ftl_cells.proofs.Names.{named_once, made_by_steps}
-use Rattle.ftl_cells.proofs.laws.hands_have_names.Goals as goal
-
-pub returns : goal.returns
-returns c = record { once = named_once; makers = made_by_steps }

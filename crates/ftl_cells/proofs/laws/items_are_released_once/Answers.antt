@@ -1,8 +1,0 @@
-use Rattle.ftl_cells.proofs.Runs.{released_once, released_last}
-use Rattle.ftl_cells.proofs.laws.items_are_released_once.Goals as goal
-
-pub returns : goal.returns
-returns c = record {
-  once = released_once;
-  last = released_last;
-}

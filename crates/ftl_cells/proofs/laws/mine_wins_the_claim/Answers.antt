@@ -1,8 +1,0 @@
-use Rattle.ftl_cells.proofs.Runs.{mine_wins}
-use Rattle.ftl_cells.proofs.laws.mine_wins_the_claim.Goals as goal
-
-pub returns : goal.returns
-returns c = record {
-  wins =
-      mine_wins;
-}

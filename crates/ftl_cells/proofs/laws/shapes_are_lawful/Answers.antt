@@ -1,8 +1,0 @@
-use Rattle.ftl_cells.proofs.Shapes.{is_lawful}
-use Rattle.ftl_cells.proofs.laws.shapes_are_lawful.Goals as goal
-
-pub returns : goal.returns
-returns c = record {
-  lawful =
-      is_lawful;
-}

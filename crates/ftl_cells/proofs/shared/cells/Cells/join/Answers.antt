@@ -1,0 +1,20 @@
+use Rattle.std.proofs.Common.{ap, sym, ◌∙◌}
+use Rattle.ftl_cells.proofs.shared.Seats.{join_asks}
+use Rattle.ftl_cells.proofs.shared.cells.Cells.join.Goals as goal
+
+pub join_seat-requires : goal.join_seat-requires
+join_seat-requires g c =
+    let inside = c.self.inside in
+    let asks = join_asks (g.W.Meant.meaning c.args.self.now.1) (g.W.Meant.meaning inside.table.shared.key)
+    (g.W.Meant.meaning inside.work) inside.table.shared.table_id inside.states inside.counters c.args.seat.now.id
+    c.args.seat.now.me
+    c.requires.seat.1 (ap g.W.Meant.meaning c.self.invariant.0)
+    (ap (λ z. g.W.Meant.meaning z.1) c.self.view_is) c.self.invariant.1 c.args.other.id c.args.other.me.0
+    c.requires.free c.requires.other_free in (
+      c.requires.seat.0 ∙ sym (ap (λ z. z.0) c.self.view_is),
+      c.requires.other ∙ sym
+          (ap (λ z. z.0) c.self.view_is),
+      c.requires.empty,
+      asks.0,
+      asks.1,
+    )

@@ -1,0 +1,13 @@
+use Rattle.std.proofs.Common.{ap, sym, ◌∙◌}
+use Rattle.ftl_cells.proofs.shared.Seats.{left_asks}
+use Rattle.ftl_cells.proofs.shared.cells.Cells.load_end.Goals as goal
+
+pub load-requires : goal.load-requires
+load-requires g c =
+    let inside = c.self.inside in
+    let asks = left_asks (g.W.Meant.meaning c.args.self.now.1) (g.W.Meant.meaning inside.table.shared.key)
+    (g.W.Meant.meaning inside.work) inside.table.shared.table_id inside.states inside.counters c.args.seat.now.id
+    c.args.seat.now.me
+    c.requires.seat.1 (ap g.W.Meant.meaning c.self.invariant.0)
+    (ap (λ z. g.W.Meant.meaning z.1) c.self.view_is) c.self.invariant.1 c.requires.idle in
+    (c.requires.seat.0 ∙ sym (ap (λ z. z.0) c.self.view_is), asks.0, asks.1)

@@ -1,0 +1,11 @@
+pub mod Count
+pub mod Work
+pub mod State
+pub mod Kept
+pub mod Calls
+pub mod Told
+pub mod Table
+pub mod Diamond
+pub mod Shape
+pub mod Interleavings
+pub mod Filling

@@ -1,1 +1,0 @@
-pub use Rattle.ftl_grammar_faults.specs.Counts

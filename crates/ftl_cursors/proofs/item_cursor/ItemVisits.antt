@@ -1,0 +1,219 @@
+-- The pass of an item with its visits, its nodes, and what its steps compute.
+use Rattle.std.proofs.Common.{◌≡◌, ◌≢◌, ℕ, suc, ◌+◌, ◌<◌, ◌≤◌, true, false, if◌then◌else◌, refl, sym, ◌∙◌, ap, subst, arith, List, [], ◌∷◌, get_or, length, map, Contains}
+use Rattle.std.specs.List.{range_with_len}
+use Rattle.std.proofs.lemmas.List.{get_or-map, get_or_default, length-map}
+use Rattle.std.proofs.lemmas.List.Elements.{Contains-get_or}
+use Rattle.ftl_model.proofs.lists.Elements.{in_flat_map, in_range_from}
+use Rattle.ftl_model.proofs.lists.Rising.{in_map}
+use Rattle.ftl_cursors.specs.items.StageItems.{IsFound, item_in, items_in, pass_numbered, passes_in}
+use Rattle.ftl_cursors.specs.declared.items.view.FoundItem.{FoundItem}
+use Rattle.ftl_items.specs.stage_items.Cut.{is_small, nodes_of, subtree, tops}
+use Rattle.ftl_items.specs.stage_items.Items.{Item, item, items_of_pass, no_item, pass_in, passes_of, steps_by, steps_of_item}
+use Rattle.ftl_items.proofs.stage_items.Reverses.{in_reverse}
+use Rattle.ftl_cursors.specs.inorder.InorderSteps.{StepsComputeTheSequence, inorder_steps}
+use Rattle.ftl_model.specs.layout.AttributeGrammar.{AttributeGrammar}
+use Rattle.ftl_model.specs.layout.Path.{Has, Path, at, node_at, number_of, size_at, top}
+use Rattle.ftl_model.specs.layout.Tree.{Forest, below_of, size}
+use Rattle.ftl_model.proofs.layout.Numbering.{has-node_at, length-nodes_below, number_of-node_at}
+use Rattle.ftl_order.specs.orders.Lawful.{IsLawful}
+use Rattle.ftl_order.specs.orders.Ordered.{IsOrdered}
+use Rattle.ftl_order.specs.orders.Schedule as order
+use Rattle.ftl_order.specs.orders.Schedule.{Schedule, empty_pass, pass_at}
+use Rattle.ftl_order.proofs.orders.Kids.{root_there}
+use Rattle.ftl_schedule.specs.declared.syntax.kind.PassKind.{PassKind}
+use Rattle.ftl_schedule.specs.declared.syntax.kind.PassKind.TheVariants.{BottomUp, InOrder, TopDown}
+use Rattle.ftl_cursors.specs.sequence.BlockPlaces.{places_of}
+use Rattle.ftl_cursors.specs.declared.sequence.block_places.BlockPlaces.{BlockPlaces}
+use Rattle.ftl_cursors.specs.stages.StageRows.{pass_places, pass_visits}
+use Rattle.ftl_schedule.specs.stages.Stages.{kind_of, pass_of}
+use Rattle.ftl_schedule.specs.declared.stages.types.Pass.{Pass}
+use Rattle.ftl_order.specs.steps.Steps.{target_of}
+use Rattle.ftl_tree.proofs.rows.Access.{size-one}
+use Rattle.ftl_cursors.specs.visits.ItemSteps.{node_count, targets_in}
+use Rattle.ftl_cursors.specs.visits.NodeRanges.{nodes_in}
+use Rattle.ftl_cursors.specs.visits.VisitSteps.{steps_of_nodes}
+use Rattle.ftl_cursors.specs.declared.visits.nodes.NodeOrder.{NodeOrder}
+use Rattle.ftl_cursors.specs.declared.visits.nodes.NodeOrder.TheVariants.{Preorder, Reverse}
+use Rattle.ftl_cursors.proofs.visits.ItemLemmas.{bottomup_targets, nodes_within, topdown_targets}
+use Rattle.ftl_visit.specs.declared.visits.visit_op.VisitOp.{VisitOp}
+use Rattle.ftl_visit.specs.passes.VisitRows.{visits_of}
+use Rattle.ftl_cursors.specs.item_cursor.ItemSteps.{AreItemTables, forest_in, grammar_in, order_of}
+use Rattle.ftl_cursors.specs.declared.item_cursor.item.ItemTables.{ItemTables}
+
+abbrev pub no_pass : Pass
+no_pass = record { kind = TopDown; attrs = [] }
+
+same_kind : (k l : PassKind) → kind_of k ≡ kind_of l → k ≡ l
+same_kind TopDown TopDown e = refl
+same_kind TopDown BottomUp e = absurd (let z : ⊥ = cc in z)
+same_kind TopDown InOrder e = absurd (let z : ⊥ = cc in z)
+same_kind BottomUp TopDown e = absurd (let z : ⊥ = cc in z)
+same_kind BottomUp BottomUp e = refl
+same_kind BottomUp InOrder e = absurd (let z : ⊥ = cc in z)
+same_kind InOrder TopDown e = absurd (let z : ⊥ = cc in z)
+same_kind InOrder BottomUp e = absurd (let z : ⊥ = cc in z)
+same_kind InOrder InOrder e = refl
+
+-- the nodes of a range are below its end
+pub in_nodes : (o : NodeOrder) (first count n : ℕ) → Contains (nodes_in o first count) n → n < first + count
+in_nodes Preorder first count n h = (in_range_from first count n h).1
+in_nodes Reverse first count n h = (in_range_from first count n (in_reverse (range_with_len first count) n h)).1
+
+-- how many nodes an item has
+count_of : (t : Forest) (grain : ℕ) (p : Path) → length (nodes_of t grain p) ≡ node_count t grain p
+count_of t grain p =
+    elim (is_small t grain p) as
+    (λ b. length (if b then subtree t p else p ∷ []) ≡ (if b then size_at t p else 1)) [
+      | true ↦ ap suc (length-nodes_below p (λ c. 0) (below_of (at t p)))
+      | false ↦ refl
+    ]
+
+module _ (x : ItemTables) (i : ℕ) (found : FoundItem) (known : i < length (items_in x.items))
+    (is : IsFound x.items i found) where
+  abbrev this : Item
+  this = item_in x.items i
+
+  -- the pass of the item
+  abbrev pub pass : Pass
+  pass = get_or x.items.passes.now found.pass no_pass
+
+  pass_below : this.pass < length (passes_in x.items)
+  pass_below =
+      let ps = passes_in x.items in
+      let from = in_flat_map (items_of_pass ps (forest_in x) x.items.rows.now.grain) (range_with_len 0 (length ps)) this
+      (Contains-get_or (items_in x.items) i no_item known) in
+      let m = from.0 in
+      let here = in_map (item m) (tops (pass_in ps m).kind (forest_in x) x.items.rows.now.grain) this from.2 in
+      let same : m ≡ this.pass = ap (λ (y : Item). y.pass) here.is in
+      let low = (in_range_from 0 (length ps) m from.1).1 in
+      omega (arith, same, low)
+
+  pub pass_known : found.pass < length x.items.passes.now
+  pass_known =
+      let long = length-map x.items.passes.now pass_of in
+      let below = pass_below in
+      let same = is.pass_is in
+      omega (arith, long, below, same)
+
+  pass_is : pass_numbered x.items this.pass ≡ pass_of pass
+  pass_is =
+      ap (λ m. get_or (passes_in x.items) m empty_pass) (sym is.pass_is)
+      ∙ get_or-map pass_of x.items.passes.now found.pass no_pass empty_pass pass_known
+
+  pub kind_is : found.kind ≡ pass.kind
+  kind_is = same_kind found.kind pass.kind (is.kind_is ∙ ap (λ (p : order.Pass). p.kind) pass_is)
+
+  -- the entry of a table of the passes
+  by_pass : {X : Type 0} (f : Pass → X) (xs : List X) (d : X) → xs ≡ map f x.items.passes.now
+      → get_or xs found.pass d ≡ f pass
+  by_pass f xs d are =
+      ap (λ ys. get_or ys found.pass d) are ∙ get_or-map f x.items.passes.now found.pass no_pass d pass_known
+
+  table_known : {X : Type 0} (f : Pass → X) (xs : List X) → xs ≡ map f x.items.passes.now → found.pass < length xs
+  table_known f xs are =
+      let long = ap length are ∙ length-map x.items.passes.now f in
+      let below = pass_known in
+      omega (arith, long, below)
+
+  pub pass_listed : (d : Pass) → get_or x.items.passes.now found.pass d ≡ pass
+  pass_listed d = get_or_default x.items.passes.now found.pass d no_pass pass_known
+
+  pub visits_are : AreItemTables x → (d : List (List VisitOp))
+      → get_or x.visits.now found.pass d ≡ visits_of (grammar_in x) found.kind pass.attrs
+  visits_are tables d =
+      by_pass (pass_visits (grammar_in x)) x.visits.now d tables.visits
+      ∙ ap (λ k. visits_of (grammar_in x) k pass.attrs) (sym kind_is)
+
+  pub visit_known : AreItemTables x → found.pass < length x.visits.now
+  visit_known tables = table_known (pass_visits (grammar_in x)) x.visits.now tables.visits
+
+  pub places_are : AreItemTables x → (d : List (List BlockPlaces))
+      → get_or x.places.now found.pass d ≡ places_of (visits_of (grammar_in x) found.kind pass.attrs)
+  places_are tables d =
+      by_pass (pass_places (grammar_in x)) x.places.now d tables.places
+      ∙ ap (λ k. places_of (visits_of (grammar_in x) k pass.attrs)) (sym kind_is)
+
+  pub places_known : AreItemTables x → found.pass < length x.places.now
+  places_known tables = table_known (pass_places (grammar_in x)) x.places.now tables.places
+
+  number_is : number_of (forest_in x) this.first ≡ found.node
+  number_is =
+      let one = size-one (grammar_in x) (forest_in x) is.is_tree in
+      let low = is.known in
+      ap (number_of (forest_in x)) (sym is.node_is)
+      ∙ number_of-node_at (forest_in x) found.node (omega (arith, one, low))
+
+  node_there : Has (forest_in x) this.first
+  node_there =
+      let one = size-one (grammar_in x) (forest_in x) is.is_tree in
+      let low = is.known in
+      subst (Has (forest_in x)) is.node_is
+      (has-node_at (forest_in x) found.node (root_there (grammar_in x) (forest_in x) is.is_tree)
+      (omega (arith, one, low)))
+
+  -- the nodes of the item
+  pub count_is : length (nodes_of (forest_in x) x.items.rows.now.grain (node_at (forest_in x) found.node))
+      ≡ node_count (forest_in x) x.items.rows.now.grain this.first
+  count_is =
+      ap (λ p. length (nodes_of (forest_in x) x.items.rows.now.grain p)) is.node_is
+      ∙ count_of (forest_in x) x.items.rows.now.grain this.first
+
+  pub within : found.node + node_count (forest_in x) x.items.rows.now.grain this.first ≤ size (forest_in x)
+  within =
+      let all = nodes_within (grammar_in x) (forest_in x) is.is_tree x.items.rows.now.grain this.first node_there in
+      let number = number_is in
+      omega (arith, all, number)
+
+  module _ (law : IsLawful (grammar_in x)) (s : Schedule) (stage : ℕ) where
+    abbrev g : AttributeGrammar
+    g = grammar_in x
+
+    abbrev t : Forest
+    t = forest_in x
+
+    by_kind : (k : PassKind) → k ≢ InOrder
+        → targets_in g t x.items.rows.now.grain k pass.attrs (order_of k) this.first
+        ≡ steps_by g s stage t x.items.rows.now.grain (kind_of k) pass.attrs this
+    by_kind TopDown ne =
+        topdown_targets g t is.is_tree x.items.rows.now.grain this.first node_there law pass.attrs
+    by_kind BottomUp ne =
+        bottomup_targets g t is.is_tree x.items.rows.now.grain this.first node_there law pass.attrs
+    by_kind InOrder ne = absurd (ne refl)
+
+    -- the pass in the schedule
+    pass_there : passes_of s stage ≡ passes_in x.items → pass_of pass ≡ pass_at s stage this.pass
+    pass_there passes = sym pass_is ∙ ap (λ (ps : List order.Pass). pass_in ps this.pass) (sym passes)
+
+    -- what the item has, by its pass
+    has : passes_of s stage ≡ passes_in x.items
+        → steps_by g s stage t x.items.rows.now.grain (kind_of found.kind) pass.attrs this
+        ≡ steps_of_item g s stage t x.items.rows.now.grain this
+    has passes =
+        ap (λ k. steps_by g s stage t x.items.rows.now.grain (kind_of k) pass.attrs this) kind_is
+        ∙ ap (λ (p : order.Pass). steps_by g s stage t x.items.rows.now.grain p.kind p.attributes this)
+        (pass_there passes)
+
+    -- what the steps of its visits compute is what the item has
+    pub targets_are : found.kind ≢ InOrder → passes_of s stage ≡ passes_in x.items
+        → map (target_of g t)
+        (steps_of_nodes g t (visits_of g found.kind pass.attrs)
+        (nodes_in (order_of found.kind) found.node (node_count t x.items.rows.now.grain this.first)))
+        ≡ steps_of_item g s stage t x.items.rows.now.grain this
+    targets_are other passes =
+        ap
+        (λ n. map (target_of g t)
+        (steps_of_nodes g t (visits_of g found.kind pass.attrs)
+        (nodes_in (order_of found.kind) n (node_count t x.items.rows.now.grain this.first))))
+        (sym number_is)
+        ∙ by_kind found.kind other
+        ∙ has passes
+
+    -- and so is what the steps of an inorder pass compute
+    pub sequence_is : StepsComputeTheSequence → found.kind ≡ InOrder → IsOrdered g s
+        → passes_of s stage ≡ passes_in x.items
+        → map (target_of g t) (inorder_steps g t pass.attrs top) ≡ steps_of_item g s stage t x.items.rows.now.grain this
+    sequence_is computes kind ordered passes =
+        ap (λ (p : order.Pass). map (target_of g t) (inorder_steps g t p.attributes top)) (pass_there passes)
+        ∙ computes g s t law ordered is.is_tree stage this.pass
+        ∙ ap (λ k. steps_by g s stage t x.items.rows.now.grain (kind_of k) pass.attrs this) (sym kind)
+        ∙ has passes

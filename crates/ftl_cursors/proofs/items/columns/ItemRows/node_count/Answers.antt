@@ -1,0 +1,22 @@
+use Rattle.std.proofs.Common.{◌≤◌, ◌<◌, ◌∙◌, arith}
+use Rattle.ftl_model.specs.layout.Path.{node_at, size_at}
+use Rattle.ftl_cursors.proofs.items.RowFacts.{nodes_large, nodes_small}
+use Rattle.ftl_cursors.proofs.items.columns.ItemRows.node_count.Goals as goal
+
+pub returns-then-size-self : goal.returns-then-size-self
+returns-then-size-self c =
+    let t = c.args.self.now.tree.now.tree in
+    let p = node_at t c.args.first in
+    let size = c.subtree_size-size.ensures.size in
+    let test = c.if-size-self.true in
+    let small : size_at t p ≤ c.args.self.now.grain = omega (arith, size, test) in
+    record { count = size ∙ nodes_small t c.args.self.now.grain p small }
+
+pub returns-else-size-self : goal.returns-else-size-self
+returns-else-size-self c =
+    let t = c.args.self.now.tree.now.tree in
+    let p = node_at t c.args.first in
+    let size = c.subtree_size-size.ensures.size in
+    let test = c.if-size-self.false in
+    let large : c.args.self.now.grain < size_at t p = omega (arith, size, test) in
+    record { count = nodes_large t c.args.self.now.grain p large }

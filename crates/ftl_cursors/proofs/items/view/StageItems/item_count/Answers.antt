@@ -1,0 +1,31 @@
+use Rattle.std.proofs.Common.{length, map, ap, sym, ◌∙◌, arith}
+use Rattle.std.proofs.lemmas.List.{length-map}
+use Rattle.ftl_deps.specs.reads.Meant.{meant}
+use Rattle.ftl_schedule.specs.stages.Stages.{pass_of}
+use Rattle.ftl_cursors.specs.items.StageItems.{start_in}
+use Rattle.ftl_cursors.proofs.items.Starts.{few_items, length-pass_starts, start_is}
+use Rattle.ftl_cursors.proofs.items.view.StageItems.item_count.Goals as goal
+
+pub bounds-self-self : goal.bounds-self-self
+bounds-self-self c =
+    let s = c.args.self.now in
+    let rows = s.rows.now in
+    let len = length-pass_starts (map pass_of s.passes.now) rows.tree.now.tree rows.grain s.starts.now s.fit in
+    let count = length-map s.passes.now pass_of in
+    omega (arith, len, count)
+
+pub returns : goal.returns
+returns c =
+    let s = c.args.self.now in
+    let rows = s.rows.now in
+    let t = rows.tree.now in
+    let count = length-map s.passes.now pass_of in
+    let few = s.fit.few in
+    let most =
+    few_items (meant t.checked) t.tree c.node_count-nodes.ensures.is_tree
+    (let n = c.node_count-nodes.ensures.count in let b = c.node_count-nodes.ensures.bound in omega (arith, n, b))
+    rows.grain (map pass_of s.passes.now) few in
+    let is =
+    start_is (map pass_of s.passes.now) t.tree rows.grain s.starts.now s.fit (length s.passes.now)
+    (omega (arith, count)) ∙ ap (start_in s) (sym count) in
+    record { count = is; bound = omega (arith, is, most) }

@@ -1,0 +1,82 @@
+-- What rows of items and the items of a stage speak of.
+use Rattle.std.specs.Prelude.{◌≡◌, ℕ, ◌+◌, ◌<◌, ◌≤◌, List, length, map, slice_index_or}
+use Rattle.ftl_model.specs.layout.Path.{Path, node_at, top}
+use Rattle.ftl_model.specs.layout.Tree.{Forest, size}
+use Rattle.ftl_model.specs.layout.TreeOf.{IsTreeOf}
+use Rattle.ftl_order.specs.orders.Schedule as order
+use Rattle.ftl_deps.specs.reads.Meant.{meant}
+use Rattle.ftl_items.specs.stage_items.Cut.{tops}
+use Rattle.ftl_items.specs.stage_items.Items.{Item, item, items, pass_in}
+use Rattle.ftl_items.specs.numbers.ItemNumbers.{all_kids, start_of_pass}
+use Rattle.ftl_items.specs.numbers.NumberLaws.{item_numbered}
+use Rattle.ftl_schedule.specs.declared.syntax.kind.PassKind.{PassKind}
+use Rattle.ftl_schedule.specs.stages.Stages.{kind_of, pass_of}
+use Rattle.ftl_schedule.specs.declared.stages.types.Pass.{Pass}
+use Rattle.ftl_tree.specs.trees.CheckedTree.{CheckedTree}
+use Rattle.ftl_cursors.specs.declared.items.columns.ItemRows.{ItemRows}
+use Rattle.ftl_cursors.specs.declared.items.view.FoundItem.{FoundItem}
+use Rattle.ftl_cursors.specs.declared.items.view.ItemPlace.{ItemPlace}
+use Rattle.ftl_cursors.specs.declared.items.view.StageItems.{StageItems}
+
+-- the numbers of all kids of the node of a number
+abbrev pub kids_of : CheckedTree → (node : ℕ) → List ℕ
+kids_of t n = all_kids (meant t.checked) t.tree (node_at t.tree n)
+
+-- the tree
+abbrev pub tree_in : ItemRows → Forest
+tree_in rows = rows.tree.now.tree
+
+-- the nodes at which the items of a pass begin
+abbrev pub tops_by : ItemRows → PassKind → List Path
+tops_by rows kind = tops (kind_of kind) (tree_in rows) rows.grain
+
+-- the passes of the stage
+abbrev pub passes_in : StageItems → List order.Pass
+passes_in s = map pass_of s.passes.now
+
+-- its items, in order of number
+abbrev pub items_in : StageItems → List Item
+items_in s = items (passes_in s) (tree_in s.rows.now) s.rows.now.grain
+
+-- the item of a number
+abbrev pub item_in : StageItems → (number : ℕ) → Item
+item_in s i = item_numbered (passes_in s) (tree_in s.rows.now) s.rows.now.grain i
+
+-- the pass of a number
+abbrev pub pass_numbered : StageItems → (pass : ℕ) → order.Pass
+pass_numbered s m = pass_in (passes_in s) m
+
+-- how many items come before a pass
+abbrev pub start_in : StageItems → (pass : ℕ) → ℕ
+start_in s m = start_of_pass (passes_in s) (tree_in s.rows.now) s.rows.now.grain m
+
+-- the rows are of this tree
+pub record IsMadeOf (t : CheckedTree) (grain : ℕ) (rows : ItemRows) : Type 0 where
+  pub tree : rows.tree.now ≡ t
+  pub grain_is : rows.grain ≡ grain
+
+-- the stage has these passes
+pub record IsStageOf (rows : ItemRows) (passes : List Pass) (s : StageItems) : Type 0 where
+  pub rows_are : s.rows.now ≡ rows
+  pub passes_are : s.passes.now ≡ passes
+
+-- the nodes at which the items of a pass begin
+abbrev pub tops_in : StageItems → (pass : ℕ) → List Path
+tops_in s m = tops (pass_numbered s m).kind (tree_in s.rows.now) s.rows.now.grain
+
+-- an item is that of this number in this pass
+pub record IsPlaceOf (s : StageItems) (number : ℕ) (place : ItemPlace) : Type 0 where
+  pub known : place.pass < length s.passes.now
+  pub start : start_in s place.pass + place.item ≡ number
+  pub within : place.item < length (tops_in s place.pass)
+  pub entry : item_in s number ≡ item place.pass (slice_index_or (tops_in s place.pass) place.item top)
+
+-- an item of the stage: it is of a pass of this kind, which begins at this number, and begins at this node
+pub record IsFound (s : StageItems) (number : ℕ) (found : FoundItem) : Type 0 where
+  pub is_tree : IsTreeOf (meant s.rows.now.tree.now.checked) (tree_in s.rows.now)
+  pub few : length (items_in s) ≤ 2147483648
+  pub pass_is : found.pass ≡ (item_in s number).pass
+  pub kind_is : kind_of found.kind ≡ (pass_numbered s (item_in s number).pass).kind
+  pub start_is : found.start ≡ start_in s (item_in s number).pass
+  pub known : found.node < size (tree_in s.rows.now)
+  pub node_is : node_at (tree_in s.rows.now) found.node ≡ (item_in s number).first

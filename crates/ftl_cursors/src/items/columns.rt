@@ -1,0 +1,15 @@
+//! The nodes at which items begin.
+ghost use Rattle.ftl_cursors.specs.items.RowsFit.{AreItemRows};
+
+use ftl_tree::trees::Tree;
+
+/// The nodes of a tree at which items begin, and how many begin before each node: once for all
+/// topdown and bottomup passes.
+#[derive(Drop)]
+pub struct ItemRows<'a> {
+    pub tree: &'a Tree<'a>,
+    pub grain: u32,
+    pub firsts: Vec<u32>,
+    pub before: Vec<u32>,
+    pub ghost fit: { AreItemRows tree.now.tree grain firsts.items before.items },
+}

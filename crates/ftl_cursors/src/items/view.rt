@@ -1,0 +1,35 @@
+//! The items of a stage, as a view.
+ghost use Rattle.std.specs.Prelude.{map};
+ghost use Rattle.ftl_schedule.specs.stages.Stages.{pass_of};
+ghost use Rattle.ftl_cursors.specs.items.RowsFit.{AreStarts};
+
+use crate::items::columns::ItemRows;
+use ftl_schedule::stages::Pass;
+use ftl_schedule::syntax::PassKind;
+
+/// The items of a stage: a view of what others keep.
+#[derive(Clone, Copy)]
+pub struct StageItems<'a> {
+    pub rows: &'a ItemRows<'a>,
+    pub passes: &'a [Pass],
+    pub starts: &'a [u32],
+    pub ghost fit: { AreStarts (map pass_of passes.now) rows.now.tree.now.tree
+        rows.now.grain starts.now },
+}
+
+/// An item by its pass, and by its number among the items of that.
+#[derive(Clone, Copy, Debug, PartialEq, Eq)]
+pub struct ItemPlace {
+    pub pass: u32,
+    pub item: u32,
+}
+
+/// An item by its pass, the kind of that, how many items come before the pass, and the node at
+/// which the item begins.
+#[derive(Clone, Copy, Debug, PartialEq, Eq)]
+pub struct FoundItem {
+    pub pass: u32,
+    pub kind: PassKind,
+    pub start: u32,
+    pub node: u32,
+}

@@ -1,0 +1,79 @@
+//! Cursors over the steps of an inorder pass.
+ghost use Rattle.std.specs.Prelude.{◌≡◌, [], ◌∷◌, MatchOption};
+ghost use Rattle.ftl_deps.specs.reads.Meant.{meant};
+ghost use Rattle.ftl_cursors.specs.inorder.InorderSteps.{inorder_steps};
+ghost use Rattle.ftl_model.specs.layout.Path.{top};
+ghost use Rattle.ftl_schedule.specs.declared.syntax.kind.PassKind.TheVariants.{InOrder};
+ghost use Rattle.ftl_cursors.specs.sequence.BlockPlaces.{places_of};
+ghost use Rattle.ftl_visit.specs.passes.VisitRows.{visits_of};
+
+use crate::sequence::block_places::SequencePlaces;
+use crate::sequence::place::{Place, Tables, first_rule, next_step, take_step};
+use ftl_order::steps::Step;
+use ftl_tree::trees::Tree;
+use ftl_visit::passes::PassVisits;
+use std::marker::Model;
+
+/// Goes through the steps of an inorder pass over a tree. Contracts see the steps that are left.
+#[derive(Drop)]
+pub struct SequenceCursor<'a> {
+    tables: Tables<'a>,
+    at: Place<'a>,
+}
+
+impl<'a> Model for SequenceCursor<'a> {
+    ghost use Rattle.std.specs.Prelude.{List};
+    ghost use Rattle.ftl_order.specs.declared.steps.step.Step.{Step};
+
+    ghost Value = { List Step };
+
+    ghost use Rattle.ftl_cursors.specs.sequence.Places.{AreTables, IsPlace, left};
+
+    ghost view = { λ c. left c.tables c.at };
+
+    ghost invariant = { λ c. AreTables c.tables × IsPlace c.tables c.at };
+}
+
+impl<'a> SequenceCursor<'a> {
+    /// All steps of a pass with these visits, where these are the places of its blocks, and its
+    /// list of attributes is this one.
+    pub fn new(
+        tree: &'a Tree<'a>,
+        visits: &'a PassVisits,
+        places: &'a SequencePlaces,
+        attrs: &'a [u32],
+    ) -> SequenceCursor<'a>
+        requires visits { visits.now ≡ visits_of (meant tree.now.checked) InOrder attrs.now }
+        requires places { places.now ≡ places_of visits.now }
+        ensures steps { result
+            ≡ inorder_steps (meant tree.now.checked) tree.now.tree attrs.now top }
+    {
+        let _nodes = tree.node_count();
+        let ops = visits.visit(tree.class(0));
+        let tables = Tables {
+            tree,
+            visits,
+            places,
+            attrs,
+        };
+        let at = Place {
+            node: 0,
+            kid: 0,
+            ops,
+        };
+        SequenceCursor { tables, at }
+    }
+
+    /// The next step; none at the end.
+    #[inline(always)]
+    pub fn next(&mut self) -> Option<Step>
+        ensures step { MatchOption result ((self.old ≡ []) × (self.new ≡ []))
+            (λ step. self.old ≡ step ∷ self.new) }
+    {
+        // Rules stand side by side at a node, so that most steps are the first operation.
+        if let Some(rule) = first_rule(self.at.ops) {
+            return Some(take_step(self.tables, &mut self.at, rule));
+        }
+        next_step(self.tables, &mut self.at)
+    }
+}

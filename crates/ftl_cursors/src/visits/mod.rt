@@ -1,0 +1,16 @@
+//! The steps of the visits of some nodes, one after another. Goes in: a tree, the visits of a
+//! topdown or bottomup pass, and a range of nodes in preorder or the other way round. Comes out:
+//! `VisitCursor`, which contracts see as the list of steps that are left;
+//! `specs/visits/VisitSteps.antt` has that list, and `specs/visits/ItemSteps.antt` says that it is
+//! what the items of a stage have.
+
+mod cursor;
+mod laws;
+mod nodes;
+mod place;
+mod worked_steps;
+
+pub use cursor::VisitCursor;
+pub use laws::{items_by_ranges, nodes_of_subtrees, visits_make_steps};
+pub use nodes::NodeOrder;
+pub use worked_steps::steps_of_two_words;

@@ -1,8 +1,0 @@
-use Rattle.std.proofs.Common.{◌≡◌, ◌+◌, ◌≤◌, drop, length, filter}
-use Rattle.ftl_grammar_faults.specs.FirstFault.{is_counted}
-use Rattle.ftl_declarations.proofs.limits.counted.Given as goal
-
-abbrev pub invariant-loop-read : goal.invariant-loop-read
-invariant-loop-read l =
-    (l.count + length (filter is_counted (drop l.read-index l.reads)) ≡ length (filter is_counted l.reads))
-    × (l.count ≤ l.read-index)

@@ -1,7 +1,0 @@
-use Rattle.std.proofs.Common.{◌≡◌, drop}
-use Rattle.ftl_grammar_faults.specs.FirstFault.{first_of}
-use Rattle.ftl_declarations.specs.NameFaults.{once_fault}
-use Rattle.ftl_declarations.proofs.names.interfaces_once.Given as goal
-
-abbrev pub invariant-loop-number : goal.invariant-loop-number
-invariant-loop-number l = first_of once_fault l.grammar.interfaces ≡ first_of once_fault (drop l.number l.grammar.interfaces)

@@ -1,7 +1,0 @@
-use Rattle.std.proofs.Common.{◌≡◌, take}
-use Rattle.ftl_deps.specs.DepReads.{dep_table}
-use Rattle.ftl_dep_table.specs.Meant.{meant}
-use Rattle.ftl_dep_table.proofs.dep_rows.all_rows.Given as goal
-
-abbrev pub invariant-loop-rule : goal.invariant-loop-rule
-invariant-loop-rule l = l.rows ≡ take l.rule (dep_table (meant l.checked))

@@ -1,0 +1,3 @@
+pub mod OwnFields
+pub mod Placed
+pub mod SlotLaws

@@ -1,0 +1,2 @@
+pub mod ReadTree
+pub mod ReadNodes

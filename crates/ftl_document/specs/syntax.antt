@@ -1,0 +1,11 @@
+pub mod Written
+pub mod Spelling
+pub mod Rows
+pub mod Braces
+pub mod Sizes
+pub mod Read
+pub mod RowReading
+pub mod Nests
+pub mod Worked
+pub use Rattle.ftl_tokens.specs.reading.Depth
+pub use Rattle.ftl_tokens.specs.reading.Place

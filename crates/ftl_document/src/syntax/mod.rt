@@ -1,0 +1,24 @@
+//! Documents as they are written. Goes in: the tokens of a text. Comes out: the document that they
+//! spell, whose names mean nothing yet, as one flat list of rows, or the first fault with its place
+//! or count. `specs/syntax/Written.antt` has what is written, `specs/syntax/Spelling.antt` which
+//! tokens spell it, `specs/syntax/Rows.antt` how it stands in the list, and
+//! `specs/syntax/Read.antt` what the reader answers.
+
+mod counts;
+mod depth;
+mod document;
+mod fault;
+mod laws;
+mod name_ref;
+mod nested;
+mod read;
+mod row;
+mod worked;
+
+pub use document::WrittenDocument;
+pub use fault::WrittenDocumentFault;
+pub use laws::{one_answer, one_place, one_written_document};
+pub use name_ref::NameRef;
+pub use read::read_written_document;
+pub use row::WrittenRow;
+pub use worked::worked_document;

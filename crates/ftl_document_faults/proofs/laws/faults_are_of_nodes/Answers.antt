@@ -1,5 +1,0 @@
-use Rattle.ftl_document_faults.proofs.FaultKinds.{first_is_of_nodes}
-use Rattle.ftl_document_faults.proofs.laws.faults_are_of_nodes.Goals as goal
-
-pub returns : goal.returns
-returns c = record { kind = first_is_of_nodes }

@@ -1,6 +1,0 @@
-use Rattle.std.proofs.Common.{refl}
-use Rattle.ftl_grammar_faults.proofs.WorkedFormulas.{of-num}
-use Rattle.ftl_document_faults.proofs.worked.documents_without_a_fault.Goals as goal
-
-pub returns-clause-lawful : goal.returns-clause-lawful
-returns-clause-lawful c = simp (of-num) refl

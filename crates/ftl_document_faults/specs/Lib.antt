@@ -1,8 +1,0 @@
-pub mod Nodes
-pub mod FirstFault
-pub mod DocumentTree
-pub mod WrittenOf
-pub mod Within
-pub mod DocumentLaws
-pub mod Worked
-pub use Rattle.ftl_document_syntax.specs.Written

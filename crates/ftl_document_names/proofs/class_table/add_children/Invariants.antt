@@ -1,5 +1,0 @@
-use Rattle.std.proofs.Common.{◌≡◌, ◌++◌, map, take}
-use Rattle.ftl_document_names.proofs.class_table.add_children.Given as goal
-
-abbrev pub invariant-loop-child : goal.invariant-loop-child
-invariant-loop-child l = l.names ≡ l.initial.names ++ map (λ c. c.name) (take l.child-index l.children)

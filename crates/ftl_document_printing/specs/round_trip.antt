@@ -1,0 +1,2 @@
+pub mod ReadBack
+pub use Rattle.ftl_document.specs.faults.WrittenOf

@@ -1,0 +1,2 @@
+pub mod DocumentText
+pub use Rattle.ftl_tokens.specs.writing.Written

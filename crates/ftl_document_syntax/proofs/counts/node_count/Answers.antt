@@ -1,9 +1,0 @@
-use Rattle.std.proofs.Common.{sym, ◌∙◌, ap, List, count_by}
-use Rattle.ftl_tokens.specs.declared.kind.Token.{Token}
-use Rattle.ftl_document_syntax.proofs.CountLemmas.{opens, opened-count}
-use Rattle.ftl_document_syntax.proofs.counts.node_count.Goals as goal
-
-pub returns : goal.returns
-returns c =
-    let s = c.args.scanned.now.tokenized in
-    c.opening_count.ensures.count ∙ ap (λ (l : List Token). count_by opens l) c.list.ensures.list ∙ sym (opened-count s)

@@ -1,7 +1,0 @@
-use Rattle.std.proofs.Common.{sym}
-use Rattle.ftl_document_syntax.proofs.SizeLemmas.{document-opened}
-use Rattle.ftl_document_text.proofs.Shallow.{low_document}
-use Rattle.ftl_document_text.proofs.laws.shallow_documents.Goals as goal
-
-pub returns : goal.returns
-returns c = record { shallow = low_document; opened = λ ts node spells. sym (document-opened spells) }

@@ -1,2 +1,0 @@
-pub mod DocumentText
-pub use Rattle.ftl_written.specs.Written

@@ -1,5 +1,0 @@
-//! The tests of sources and sinks, apart from them, so that these are proved once.
-#![tactic(auto)]
-
-#[cfg(test)]
-mod tests;

@@ -1,9 +1,0 @@
-use Rattle.std.proofs.Common.{refl}
-use Rattle.ftl_grammar_faults.proofs.WorkedFormulas.{of-num, of-reading}
-use Rattle.ftl_fault_order.proofs.laws.first_of_two_in_a_rule.Goals as goal
-
-pub returns-clause-form : goal.returns-clause-form
-returns-clause-form c = simp (of-num, of-reading) refl
-
-pub returns-clause-second : goal.returns-clause-second
-returns-clause-second c = simp (of-num, of-reading) refl

@@ -1,4 +1,0 @@
-pub mod Formula
-pub mod Expressions
-pub mod Worked
-pub use Rattle.ftl_syntax.specs.Trees

@@ -1,9 +1,0 @@
-use Rattle.std.proofs.Common.{◌≡◌, ◌-◌, []}
-use Rattle.ftl_reading.specs.Reader.{chain, chain_of}
-use Rattle.ftl_syntax.specs.InterfaceReading as spec
-use Rattle.ftl_grammar.proofs.attrs.attrs.Given as goal
-
-abbrev pub invariant-loop-turn : goal.invariant-loop-turn
-invariant-loop-turn l =
-    let item = spec.attrs in
-    chain_of spec.append item [] l.fn.input ≡ chain spec.append item (l._turn-end - l._turn) l.found l.input

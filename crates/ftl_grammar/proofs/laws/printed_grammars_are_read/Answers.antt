@@ -1,5 +1,0 @@
-use Rattle.ftl_grammar.proofs.PrintedLemmas.{printed_is_scanned, printed_is_read}
-use Rattle.ftl_grammar.proofs.laws.printed_grammars_are_read.Goals as goal
-
-pub returns : goal.returns
-returns c = record { scanned = printed_is_scanned; read = printed_is_read }

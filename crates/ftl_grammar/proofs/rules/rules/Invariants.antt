@@ -1,9 +1,0 @@
-use Rattle.std.proofs.Common.{◌≡◌, ◌-◌}
-use Rattle.ftl_reading.specs.Reader.{push, chain, chain_of}
-use Rattle.ftl_syntax.specs.GrammarReading as spec
-use Rattle.ftl_grammar.proofs.rules.rules.Given as goal
-
-abbrev pub invariant-loop-turn : goal.invariant-loop-turn
-invariant-loop-turn l =
-    let item = spec.rule spec.any_expr in
-    chain_of push item (spec.list_of l.fn.first) l.fn.input ≡ chain push item (l._turn-end - l._turn) l.found l.input

@@ -1,0 +1,5 @@
+pub mod View
+pub mod Read
+pub mod Printed
+pub use Rattle.ftl_tokens.specs.reading.Depth
+pub use Rattle.ftl_tokens.specs.reading.Place

@@ -1,0 +1,11 @@
+pub mod Brackets
+pub mod SumReading
+pub mod ExpressionReading
+pub mod InterfaceReading
+pub mod GrammarReading
+pub mod Spelling
+pub mod GrammarSpelling
+pub mod Trees
+pub mod Worked
+pub use Rattle.ftl_tokens.specs.reading.Depth
+pub use Rattle.ftl_tokens.specs.reading.Place

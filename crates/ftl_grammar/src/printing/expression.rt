@@ -1,0 +1,250 @@
+//! Expressions, token by token.
+
+ghost use Rattle.std.specs.Prelude.{◌≡◌, ◌++◌, ◌∷◌, [], string_bytes, OnOk};
+ghost use Rattle.ftl_tokens.specs.scanner.Tokenized as said;
+ghost use Rattle.ftl_grammar.specs.printing.ExpressionTokens.{read_tokens, comparison_mark};
+ghost use Rattle.ftl_grammar.specs.printing.ExpressionTokens.{expr_tokens, sum_tokens};
+ghost use Rattle.ftl_grammar.specs.printing.ExpressionTokens.{signed_tokens};
+ghost use Rattle.ftl_grammar.specs.printing.ExpressionTokens.{term_tokens, factor_tokens};
+ghost use Rattle.ftl_grammar.specs.printing.ExpressionTokens.{unary_tokens};
+ghost use Rattle.ftl_grammar.specs.printing.ExpressionTokens.{atom_tokens, cond_tokens};
+ghost use Rattle.ftl_grammar.specs.printing.ExpressionTokens.{conj_tokens};
+ghost use Rattle.ftl_grammar.specs.printing.ExpressionTokens.{test_tokens};
+ghost use Rattle.ftl_grammar.specs.printing.GrammarTokens.{spaced_text};
+
+use crate::printing::token::{fixed, name, number};
+use crate::syntax::{Atom, Cond, Conj, Expr, Factor, Read, SignedTerm, Sum, Term, Test, Unary};
+use ftl_base::Cmp;
+use ftl_tokens::scanner::{Kind, Name};
+use std::alloc::AllocError;
+
+#[cycle(printing)]
+#[tactic(auto, unfolding(crate::specs::printing::ExpressionTokens::expr_tokens, crate::specs::printing::ExpressionTokens::sum_tokens, crate::specs::printing::ExpressionTokens::cond_tokens))]
+pub fn print_expr(out: &mut String, expr: &Expr) -> Result<(), AllocError>
+    ensures { OnOk result (string_bytes out.new
+        ≡ string_bytes out.old ++ spaced_text (expr_tokens expr.now)) }
+{
+    match expr {
+        Expr::If(holds, yes, no) => {
+            fixed(out, Kind::If)?;
+            print_cond(out, holds.get())?;
+            fixed(out, Kind::Then)?;
+            print_sum(out, yes.get())?;
+            fixed(out, Kind::Else)?;
+            print_sum(out, no.get())
+        }
+        Expr::Sum(all) => print_sum(out, all.get()),
+    }
+}
+
+#[cycle(printing)]
+#[tactic(auto, unfolding(crate::specs::printing::ExpressionTokens::sum_tokens, crate::specs::printing::ExpressionTokens::term_tokens, crate::specs::printing::ExpressionTokens::signed_tokens))]
+fn print_sum(out: &mut String, sum: &Sum) -> Result<(), AllocError>
+    ensures { OnOk result (string_bytes out.new
+        ≡ string_bytes out.old ++ spaced_text (sum_tokens sum.now)) }
+{
+    print_term(out, &sum.head)?;
+    for signed in sum.tail.as_slice() {
+        print_signed_term(out, signed)?;
+    }
+    Ok(())
+}
+
+#[cycle(printing)]
+#[tactic(auto, unfolding(crate::specs::printing::ExpressionTokens::signed_tokens, crate::specs::printing::ExpressionTokens::term_tokens))]
+fn print_signed_term(out: &mut String, signed: &SignedTerm) -> Result<(), AllocError>
+    ensures { OnOk result (string_bytes out.new
+        ≡ string_bytes out.old ++ spaced_text (signed_tokens signed.now)) }
+{
+    if signed.minus {
+        fixed(out, Kind::Minus)?;
+    } else {
+        fixed(out, Kind::Plus)?;
+    }
+    print_term(out, &signed.term)
+}
+
+#[cycle(printing)]
+#[tactic(auto, unfolding(crate::specs::printing::ExpressionTokens::term_tokens, crate::specs::printing::ExpressionTokens::unary_tokens, crate::specs::printing::ExpressionTokens::factor_tokens))]
+fn print_term(out: &mut String, term: &Term) -> Result<(), AllocError>
+    ensures { OnOk result (string_bytes out.new
+        ≡ string_bytes out.old ++ spaced_text (term_tokens term.now)) }
+{
+    print_unary(out, &term.head)?;
+    for each in term.tail.as_slice() {
+        print_factor(out, each)?;
+    }
+    Ok(())
+}
+
+#[cycle(printing)]
+#[tactic(auto, unfolding(crate::specs::printing::ExpressionTokens::factor_tokens, crate::specs::printing::ExpressionTokens::unary_tokens))]
+fn print_factor(out: &mut String, factor: &Factor) -> Result<(), AllocError>
+    ensures { OnOk result (string_bytes out.new
+        ≡ string_bytes out.old ++ spaced_text (factor_tokens factor.now)) }
+{
+    match factor {
+        Factor::Times(by) => {
+            fixed(out, Kind::Star)?;
+            print_unary(out, by)
+        }
+        Factor::Over(by) => {
+            fixed(out, Kind::Slash)?;
+            number(out, *by)
+        }
+    }
+}
+
+#[cycle(printing)]
+#[tactic(auto, unfolding(crate::specs::printing::ExpressionTokens::unary_tokens, crate::specs::printing::ExpressionTokens::atom_tokens))]
+fn print_unary(out: &mut String, unary: &Unary) -> Result<(), AllocError>
+    ensures { OnOk result (string_bytes out.new
+        ≡ string_bytes out.old ++ spaced_text (unary_tokens unary.now)) }
+{
+    if unary.minus {
+        fixed(out, Kind::Minus)?;
+    }
+    print_atom(out, &unary.atom)
+}
+
+#[cycle(printing)]
+#[tactic(auto, unfolding(crate::specs::printing::ExpressionTokens::atom_tokens, crate::specs::printing::ExpressionTokens::expr_tokens))]
+fn print_atom(out: &mut String, atom: &Atom) -> Result<(), AllocError>
+    ensures { OnOk result (string_bytes out.new
+        ≡ string_bytes out.old ++ spaced_text (atom_tokens atom.now)) }
+{
+    match atom {
+        Atom::Number(value) => number(out, *value),
+        Atom::Acc => fixed(out, Kind::Acc),
+        Atom::Read(of) => print_read(out, of),
+        Atom::Group(inner) => {
+            fixed(out, Kind::LeftParen)?;
+            print_expr(out, inner.get())?;
+            fixed(out, Kind::RightParen)
+        }
+        Atom::Least(a, b) => {
+            fixed(out, Kind::Min)?;
+            fixed(out, Kind::LeftParen)?;
+            print_expr(out, a.get())?;
+            fixed(out, Kind::Comma)?;
+            print_expr(out, b.get())?;
+            fixed(out, Kind::RightParen)
+        }
+        Atom::Greatest(a, b) => {
+            fixed(out, Kind::Max)?;
+            fixed(out, Kind::LeftParen)?;
+            print_expr(out, a.get())?;
+            fixed(out, Kind::Comma)?;
+            print_expr(out, b.get())?;
+            fixed(out, Kind::RightParen)
+        }
+        Atom::LastOr(child, attr, default) => {
+            fixed(out, Kind::Last)?;
+            print_of_child(out, child, attr)?;
+            fixed(out, Kind::Or)?;
+            print_atom(out, default.get())
+        }
+    }
+}
+
+/// The attribute of a child, or of a kid.
+fn print_of_child(out: &mut String, child: &Name, attr: &Name) -> Result<(), AllocError>
+    ensures { OnOk result (string_bytes out.new ≡ string_bytes out.old
+        ++ spaced_text (said.name child.now ∷ said.fixed Kind.Dot ∷ said.name attr.now ∷ [])) }
+{
+    name(out, child)?;
+    fixed(out, Kind::Dot)?;
+    name(out, attr)
+}
+
+/// The attribute that a word reads.
+fn print_of_word(out: &mut String, word: Kind, attr: &Name) -> Result<(), AllocError>
+    ensures { OnOk result (string_bytes out.new ≡ string_bytes out.old
+        ++ spaced_text (said.fixed word ∷ said.fixed Kind.Dot ∷ said.name attr.now ∷ [])) }
+{
+    fixed(out, word)?;
+    fixed(out, Kind::Dot)?;
+    name(out, attr)
+}
+
+fn print_read(out: &mut String, read: &Read) -> Result<(), AllocError>
+    ensures { OnOk result (string_bytes out.new
+        ≡ string_bytes out.old ++ spaced_text (read_tokens read.now)) }
+{
+    match read {
+        Read::Own(attr) => print_of_word(out, Kind::SelfWord, attr),
+        Read::This(attr) => print_of_word(out, Kind::This, attr),
+        Read::Prev(attr) => print_of_word(out, Kind::Prev, attr),
+        Read::Of(child, attr) => print_of_child(out, child, attr),
+    }
+}
+
+#[cycle(printing)]
+#[tactic(auto, unfolding(crate::specs::printing::ExpressionTokens::cond_tokens, crate::specs::printing::ExpressionTokens::conj_tokens))]
+fn print_cond(out: &mut String, cond: &Cond) -> Result<(), AllocError>
+    ensures { OnOk result (string_bytes out.new
+        ≡ string_bytes out.old ++ spaced_text (cond_tokens cond.now)) }
+{
+    let Some((head, tail)) = cond.any.as_slice().split_first() else {
+        return Ok(());
+    };
+    print_conj(out, head)?;
+    for each in tail {
+        fixed(out, Kind::OrOr)?;
+        print_conj(out, each)?;
+    }
+    Ok(())
+}
+
+#[cycle(printing)]
+#[tactic(auto, unfolding(crate::specs::printing::ExpressionTokens::conj_tokens, crate::specs::printing::ExpressionTokens::test_tokens))]
+fn print_conj(out: &mut String, conj: &Conj) -> Result<(), AllocError>
+    ensures { OnOk result (string_bytes out.new
+        ≡ string_bytes out.old ++ spaced_text (conj_tokens conj.now)) }
+{
+    let Some((head, tail)) = conj.every.as_slice().split_first() else {
+        return Ok(());
+    };
+    print_test(out, head)?;
+    for each in tail {
+        fixed(out, Kind::AndAnd)?;
+        print_test(out, each)?;
+    }
+    Ok(())
+}
+
+#[cycle(printing)]
+#[tactic(auto, unfolding(crate::specs::printing::ExpressionTokens::test_tokens, crate::specs::printing::ExpressionTokens::cond_tokens, crate::specs::printing::ExpressionTokens::sum_tokens))]
+fn print_test(out: &mut String, test: &Test) -> Result<(), AllocError>
+    ensures { OnOk result (string_bytes out.new
+        ≡ string_bytes out.old ++ spaced_text (test_tokens test.now)) }
+{
+    match test {
+        Test::Group(negated, inner) => {
+            if *negated {
+                fixed(out, Kind::Bang)?;
+            }
+            fixed(out, Kind::LeftBracket)?;
+            print_cond(out, inner.get())?;
+            fixed(out, Kind::RightBracket)
+        }
+        Test::Compare(cmp, a, b) => {
+            print_sum(out, a.get())?;
+            fixed(out, comparison_mark(*cmp))?;
+            print_sum(out, b.get())
+        }
+    }
+}
+
+fn comparison_mark(cmp: Cmp) -> Kind
+    ensures { result ≡ comparison_mark cmp }
+{
+    match cmp {
+        Cmp::Less => Kind::Less,
+        Cmp::LessEq => Kind::LessEq,
+        Cmp::More => Kind::More,
+        Cmp::MoreEq => Kind::MoreEq,
+        Cmp::Equal => Kind::EqualEqual,
+        Cmp::Unequal => Kind::Unequal,
+    }
+}

@@ -1,0 +1,34 @@
+//! Grammar texts, from their tokens.
+
+ghost use Rattle.ftl_grammar.specs.reading.Read.{ReadsGrammar};
+
+use crate::reading::declarations::grammar;
+use crate::reading::fault::SyntaxFault;
+use crate::syntax::Grammar;
+use ftl_tokens::reading::{Input, ReadFault, first_too_deep, place};
+use ftl_tokens::scanner::{Kind, Scanned};
+use std::alloc::Global;
+
+const OPENING: [Kind; 2] = [Kind::LeftParen, Kind::LeftBracket];
+
+const CLOSING: [Kind; 2] = [Kind::RightParen, Kind::RightBracket];
+/// How many brackets may be open at once.
+const LIMIT: usize = 64;
+
+/// The grammar that the tokens of a text spell, or the place at which they go wrong. Whether the
+/// brackets are too deep is looked at before the syntax.
+pub fn read_grammar(alloc: Global, scanned: &Scanned) -> Result<Grammar, SyntaxFault>
+    ensures answer { ReadsGrammar scanned.now result }
+{
+    if let Some(at) = first_too_deep(scanned, &OPENING, &CLOSING, LIMIT) {
+        return Err(SyntaxFault::TooDeep { at });
+    }
+    let mut input = Input::new(scanned);
+    match grammar(alloc, &mut input) {
+        Ok(grammar) => Ok(grammar),
+        Err(ReadFault::Refused) => Err(SyntaxFault::Syntax {
+            at: place(scanned, input.left()),
+        }),
+        Err(ReadFault::OutOfMemory) => Err(SyntaxFault::OutOfMemory),
+    }
+}

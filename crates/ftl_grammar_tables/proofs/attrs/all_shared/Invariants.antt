@@ -1,9 +1,0 @@
-use Rattle.std.proofs.Common.{◌≡◌, ◌++◌, drop, flat_map}
-use Rattle.ftl_grammar_faults.specs.Numbering.{numbered}
-use Rattle.ftl_grammar_tables.specs.Told.{shared_told}
-use Rattle.ftl_grammar_tables.proofs.attrs.all_shared.Given as goal
-
-abbrev pub invariant-loop-number : goal.invariant-loop-number
-invariant-loop-number l =
-    l.infos ++ flat_map (shared_told l.grammar) (numbered l.number (drop l.number l.grammar.interfaces))
-    ≡ l.initial.infos ++ flat_map (shared_told l.grammar) (numbered 0 l.grammar.interfaces)

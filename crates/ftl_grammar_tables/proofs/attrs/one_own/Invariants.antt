@@ -1,8 +1,0 @@
-use Rattle.std.proofs.Common.{◌≡◌, ◌++◌, take, map, true}
-use Rattle.ftl_syntax.specs.declared.rules.AttrDecl.{AttrDecl}
-use Rattle.ftl_grammar_faults.specs.Checked.{attribute_info, declared}
-use Rattle.ftl_grammar_tables.proofs.attrs.one_own.Given as goal
-
-abbrev pub invariant-loop-attr : goal.invariant-loop-attr
-invariant-loop-attr l =
-    l.infos ≡ l.initial.infos ++ map (λ (a : AttrDecl). attribute_info l.grammar (declared true l.number a)) (take l.attr-index l.attr-items)

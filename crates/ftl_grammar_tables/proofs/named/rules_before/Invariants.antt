@@ -1,5 +1,0 @@
-use Rattle.std.proofs.Common.{◌≡◌, length, flat_map, take}
-use Rattle.ftl_grammar_tables.proofs.named.rules_before.Given as goal
-
-abbrev pub invariant-loop-number : goal.invariant-loop-number
-invariant-loop-number l = l.rules ≡ length (flat_map (λ k. k.rules) (take l.number l.classes))

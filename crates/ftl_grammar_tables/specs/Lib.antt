@@ -1,4 +1,0 @@
-pub mod Tables
-pub mod Found
-pub mod Told
-pub use Rattle.ftl_syntax.specs.Trees

@@ -1,5 +1,0 @@
-use Rattle.ftl_headline.proofs.Bytes.{answer_same}
-use Rattle.ftl_headline.proofs.laws.bytes_do_not_matter.Goals as goal
-
-pub returns : goal.returns
-returns c = record { same = answer_same }

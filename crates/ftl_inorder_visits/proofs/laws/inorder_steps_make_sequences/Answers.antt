@@ -1,9 +1,0 @@
-use Rattle.ftl_inorder_visits.proofs.InorderStepLemmas.{steps_of_tree}
-use Rattle.ftl_inorder_visits.proofs.InorderTargets.{steps_of_pass}
-use Rattle.ftl_inorder_visits.proofs.laws.inorder_steps_make_sequences.Goals as goal
-
-pub returns : goal.returns
-returns c = record {
-  tree = λ g t law fits attributes. steps_of_tree g law t fits attributes;
-  steps = λ g s t law ordered fits stage pass. steps_of_pass g law s ordered t fits stage pass;
-}

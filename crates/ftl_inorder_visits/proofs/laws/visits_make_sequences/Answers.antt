@@ -1,7 +1,0 @@
-use Rattle.ftl_inorder_visits.proofs.SequenceVisits.{sequence_is_done}
-use Rattle.ftl_inorder_visits.proofs.laws.visits_make_sequences.Goals as goal
-
-pub returns : goal.returns
-returns c = record {
-  sequence = λ g s t law ordered fits stage pass p there. sequence_is_done g law s ordered t fits stage pass p there;
-}

@@ -1,9 +1,0 @@
-use Rattle.std.proofs.Common.{◌≡◌}
-use Rattle.ftl_item_rows.proofs.RowSteps.{before_to, firsts_to}
-use Rattle.ftl_item_rows.proofs.columns.ItemRows.new.Given as goal
-
-abbrev pub invariant-loop-node : goal.invariant-loop-node
-invariant-loop-node l = record {
-  firsts : l.firsts.items ≡ firsts_to l.tree.tree l.grain l.node;
-  before : l.before.items ≡ before_to l.tree.tree l.grain l.node;
-}

@@ -1,7 +1,0 @@
-use Rattle.ftl_items.proofs.WordLaws.{words_fit}
-use Rattle.ftl_items.proofs.word_laws.words_between.Goals as goal
-
-pub returns : goal.returns
-returns c = record {
-  next = λ g s t law ordered fits grain stage. words_fit g s t grain stage;
-}

@@ -1,0 +1,13 @@
+pub mod Cut
+pub mod CutLaws
+pub mod Visits
+pub mod VisitLaws
+pub mod Items
+pub mod StageWork
+pub mod StepLaws
+pub mod ReadLaws
+pub mod NextLaws
+pub mod WorkLaws
+pub mod WordLaws
+pub mod WorkedStages
+pub mod Limits

@@ -1,0 +1,73 @@
+-- The work of a stage: its cells are the instances of the tree, its items those of the stage.
+use Rattle.std.specs.Prelude.{ℕ, nat_lt, ◌==◌, if◌then◌else◌, List, length, slice_index, slice_index_or}
+use Rattle.ftl_model.specs.layout.AttributeGrammar.{AttributeGrammar, Sort, inherited, input, local, synthesized}
+use Rattle.ftl_model.specs.layout.Path.{top}
+use Rattle.ftl_model.specs.layout.Solves.{Instance, instance_of}
+use Rattle.ftl_model.specs.layout.Table.{instance_count, instance_number, instances}
+use Rattle.ftl_model.specs.layout.Tree.{Forest}
+use Rattle.ftl_model.specs.layout.Values.{Value, overflow}
+use Rattle.ftl_order.specs.orders.Reads.{reads_of}
+use Rattle.ftl_order.specs.orders.Schedule.{Schedule, spot_of}
+use Rattle.ftl_cells.specs.shared.Shape.{WorkShape}
+use Rattle.ftl_cells.specs.declared.shared.kind.CellKind.{CellKind}
+use Rattle.ftl_cells.specs.declared.shared.kind.CellKind.TheVariants.{Given, Target, Later}
+use Rattle.ftl_items.specs.stage_items.Items.{Item, items, nexts, no_item, passes_of, predecessors, steps_of_item}
+
+-- no instance of a tree
+abbrev pub no_instance : Instance
+no_instance = instance_of top 0
+
+-- a computed attribute of this stage is given before its stage, a target in it, and empty after it
+abbrev pub kind_by_stage : (its stage : ℕ) → CellKind
+kind_by_stage its stage = if nat_lt its stage then Given else (if its == stage then Target else Later)
+
+-- the kind of a cell by the sort of its attribute; inputs are always given
+abbrev pub kind_by : Sort → (its stage : ℕ) → CellKind
+kind_by input its stage = Given
+kind_by inherited its stage = kind_by_stage its stage
+kind_by synthesized its stage = kind_by_stage its stage
+kind_by local its stage = kind_by_stage its stage
+
+-- the kind of an instance's cell
+abbrev pub kind_of : AttributeGrammar → Schedule → (stage : ℕ) → Instance → CellKind
+kind_of g s stage i = kind_by (g.sort i.attribute) (spot_of s i.attribute).stage stage
+
+module _ (g : AttributeGrammar) (s : Schedule) (t : Forest) (grain stage : ℕ) where
+  -- the items of the stage
+  abbrev pub stage_items : List Item
+  stage_items = items (passes_of s stage) t grain
+
+  -- the item of this number
+  abbrev pub item_at : ℕ → Item
+  item_at i = slice_index_or stage_items i no_item
+
+  -- the steps of the item of this number
+  abbrev pub steps_in : ℕ → List Instance
+  steps_in i = steps_of_item g s stage t grain (item_at i)
+
+  -- a step of an item
+  abbrev pub step_at : (i j : ℕ) → Instance
+  step_at i j = slice_index_or (steps_in i) j no_instance
+
+  -- what a step reads
+  abbrev pub reads_at : (i j : ℕ) → List Instance
+  reads_at i j = reads_of g t (step_at i j)
+
+  -- the work of the stage, with this solution and these limits
+  abbrev pub stage_work : (solution : List Value) → (max_reads max_stack : ℕ) → WorkShape
+  stage_work solution max_reads max_stack =
+      record {
+        cells = instance_count g t;
+        kind = λ c. kind_of g s stage (slice_index_or (instances g t) c no_instance);
+        value = λ c. slice_index_or solution c overflow;
+        items = length stage_items;
+        preds = λ i. length (predecessors (passes_of s stage) stage_items i);
+        next_count = λ i. length (nexts (passes_of s stage) stage_items i);
+        next = λ i k. slice_index (nexts (passes_of s stage) stage_items i) k;
+        steps = λ i. length (steps_in i);
+        target = λ i j. instance_number g t (step_at i j);
+        read_count = λ i j. length (reads_at i j);
+        read = λ i j r. instance_number g t (slice_index_or (reads_at i j) r no_instance);
+        max_reads = max_reads;
+        max_stack = max_stack;
+      }

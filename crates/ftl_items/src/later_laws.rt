@@ -1,9 +1,0 @@
-ghost use Rattle.ftl_items.specs.StepLaws.{OfStages};
-ghost use Rattle.ftl_items.specs.NextLaws.{NextIsLater, PredecessorsAreCounted};
-
-/// A law: an item hands on to later ones alone, and has as many predecessors as there are earlier
-/// items that hand on to it.
-pub fn next_items()
-    ensures later { OfStages NextIsLater }
-    ensures counted { OfStages PredecessorsAreCounted }
-{}

@@ -1,6 +1,0 @@
-pub mod Places
-pub mod Attributes
-pub mod Classes
-pub mod Shown
-pub mod Lossy
-pub use Rattle.ftl_meaning.specs.GrammarOf

@@ -1,5 +1,0 @@
-use Rattle.ftl_lawful.proofs.Causes.{never_memory}
-use Rattle.ftl_lawful.proofs.lawful.faults_are_of_grammars.Goals as goal
-
-pub returns : goal.returns
-returns c = record { memory = never_memory }

@@ -1,0 +1,2 @@
+pub mod reads
+pub mod faults

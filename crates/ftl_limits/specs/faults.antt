@@ -1,0 +1,3 @@
+pub mod PlanFaults
+pub mod ReadBound
+pub mod StageReads

@@ -1,0 +1,12 @@
+//! The limits of a plan. Goes in: a schedule that was accepted, and a tree. Comes out: the first
+//! stage whose steps read too much, or the first step that does, as `specs/faults/PlanFaults.antt`
+//! has them.
+
+mod bound;
+mod fault;
+mod limits;
+mod reads;
+
+pub use crate::reads::ReadTables;
+pub use fault::PlanFault;
+pub use limits::first_fault;

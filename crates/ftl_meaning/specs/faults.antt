@@ -1,0 +1,12 @@
+pub mod Numbering
+pub mod Allowed
+pub mod RuleForms
+pub mod FirstFault
+pub mod Finds
+pub mod Worked
+pub mod Checked
+pub mod Counts
+pub mod Kinds
+pub mod WorkedKinds
+pub mod RuleNames
+pub use Rattle.ftl_grammar.specs.syntax.Trees

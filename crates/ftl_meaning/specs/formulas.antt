@@ -1,0 +1,4 @@
+pub mod Formula
+pub mod Expressions
+pub mod Worked
+pub use Rattle.ftl_grammar.specs.syntax.Trees

@@ -1,0 +1,4 @@
+pub mod Meaning
+pub mod GrammarOf
+pub mod Alike
+pub mod Worked

@@ -1,8 +1,0 @@
--- The text computes, digits included.
-use Rattle.std.proofs.Common.{refl}
-use Rattle.std.specs.Fmt.{digits}
-use Rattle.ftl_model.proofs.worked.columns_in_a_column.Goals as goal
-
-pub returns-clause-text : goal.returns-clause-text
-unfolding digits
-returns-clause-text c = refl

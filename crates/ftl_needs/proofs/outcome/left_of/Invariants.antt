@@ -1,7 +1,0 @@
-use Rattle.std.proofs.Common.{◌&&◌, not}
-use Rattle.std.specs.FinSet as set
-use Rattle.ftl_needs.specs.Outcomes.{Passes}
-use Rattle.ftl_needs.proofs.outcome.left_of.Given as goal
-
-abbrev pub invariant-loop-attr : goal.invariant-loop-attr
-invariant-loop-attr l = Passes (λ a. set.contains l.all a && not (set.contains l.taken a)) l.attr l.left.items

@@ -1,6 +1,0 @@
-use Rattle.std.proofs.Common.{take}
-use Rattle.ftl_needs.proofs.PassChains.{IsAdded}
-use Rattle.ftl_needs.proofs.passes.add_all.Given as goal
-
-abbrev pub invariant-loop-attr : goal.invariant-loop-attr
-invariant-loop-attr l = IsAdded l.fn.row (take l.attr-index l.attrs) l.row

@@ -1,6 +1,0 @@
-use Rattle.ftl_model.specs.Notes.{notes}
-use Rattle.ftl_order.proofs.NotesOrders.{shift_writer}
-use Rattle.ftl_order.proofs.notes.writers_of_a_shift.Goals as goal
-
-pub returns : goal.returns
-returns c = record { shift = shift_writer }

@@ -1,5 +1,0 @@
-use Rattle.ftl_order.proofs.TreeEquations.{one_table_by}
-use Rattle.ftl_order.proofs.one_table.one_table_where_reads_end.Goals as goal
-
-pub returns : goal.returns
-returns c = record { one_table = λ g t law fits number ends. one_table_by g law t fits number ends }

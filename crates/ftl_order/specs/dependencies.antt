@@ -1,0 +1,4 @@
+pub mod DepReads
+pub mod Writers
+pub mod DepLaws
+pub mod Worked

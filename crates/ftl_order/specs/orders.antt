@@ -1,0 +1,13 @@
+pub mod GrammarLaws
+pub mod Lawful
+pub mod LegalOrder
+pub mod NotesOrders
+pub mod Numbers
+pub mod OneTable
+pub mod OrderLaws
+pub mod Ordered
+pub mod Pairs
+pub mod ReadPairs
+pub mod Reads
+pub mod Schedule
+pub mod Sequence

@@ -1,5 +1,0 @@
-use Rattle.ftl_order_worked.proofs.StackSchedules.{one_stack_table}
-use Rattle.ftl_order_worked.proofs.stack.exactly_one_stack_table.Goals as goal
-
-pub returns : goal.returns
-returns c = record { one_table = one_stack_table }

@@ -1,5 +1,0 @@
-use Rattle.ftl_order_worked.proofs.WorkedOrders.{sheet_first_illegal, without_y_illegal, x_first_legal, y_first_legal}
-use Rattle.ftl_order_worked.proofs.worked.legal_orders_of_an_empty_column.Goals as goal
-
-pub returns : goal.returns
-returns c = record { x_first = x_first_legal; y_first = y_first_legal; sheet_first = sheet_first_illegal; without_y = without_y_illegal }

@@ -1,0 +1,16 @@
+use Rattle.ftl_page.proofs.commands.WorkedWords as worked
+use Rattle.ftl_page.proofs.commands.worked.words_that_are_commands.Goals as goal
+
+pub returns : goal.returns
+returns c = record {
+  run_alone = worked.is_run_alone;
+  workers = worked.is_workers;
+  equals = worked.is_equals;
+  zeros = worked.is_zeros;
+  largest = worked.is_largest;
+  dashes = worked.is_dashes;
+  check = worked.is_check;
+  schedule = worked.is_schedule;
+  sample = worked.is_sample;
+  sample_of = worked.is_sample_of;
+}

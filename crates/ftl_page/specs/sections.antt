@@ -1,0 +1,10 @@
+pub mod Blocks
+pub mod Body
+pub mod Found
+pub mod Headings
+pub mod Lines
+pub mod Opening
+pub mod Page
+pub mod Texts
+pub use Rattle.ftl_boxes.specs.Shipped
+pub use Rattle.ftl_model.specs.layout.Outcome

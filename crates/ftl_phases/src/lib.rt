@@ -1,8 +1,0 @@
-//! In which phase each item of a work is filled, where the cells are cut into ranges that workers
-//! fill beside each other: some items before the ranges, some in one range each, the others after.
-//! `specs/Phases.antt` says which phases a work can take.
-#![tactic(auto)]
-
-mod phase;
-
-pub use phase::{Phase, Phases};

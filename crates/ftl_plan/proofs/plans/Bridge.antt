@@ -1,0 +1,228 @@
+-- What a work answers is what it means.
+use Rattle.std.proofs.Common.{◌≡◌, ℕ, ◌<◌, ◌≤◌, true, false, ltb, ltb-true, ltb-false, refl, sym, ◌∙◌, ap, subst, arith, List, [], ◌∷◌, get_or, length, map}
+use Rattle.std.proofs.lemmas.List.{ext_get_or, get_or-map, get_or_past, length-map}
+use Rattle.std.proofs.lemmas.List.Elements.{Contains-get_or}
+use Rattle.std.proofs.lemmas.List.FromFn.{get_or-map-range_with_len, length-map-range_with_len}
+use Rattle.std.proofs.lemmas.Simd.{map-map}
+use mathlib.Core.Path.{fun_ext}
+use Rattle.ftl_cells.specs.shared.Shape.{HasStep, listed, listing}
+use Rattle.ftl_cells.specs.shared.Work.{Meaning, IsStepOfItem, cell_total, item_total, kind_at, next_at, next_total, pred_total, read_total, reads_of_step, solution_at, step_total, target_of as cell_of}
+use Rattle.ftl_cells.proofs.shared.Shapes.{cell_total-listed, has_step, item_below, item_total-listed, kind_at-listed, next_at-listed, next_total-listed, pred_total-listed, read_total-listed, reads_of_step-listed, solution_at-listed, step_total-listed, target_of-listed}
+use Rattle.ftl_deps.specs.reads.Meant.{meant}
+use Rattle.ftl_limits.specs.reads.ReadTables.{AreTables, IsSound}
+use Rattle.ftl_cursors.specs.item_cursor.ItemSteps.{AreStepsOf, IsCursorOf, no_step, steps_left}
+use Rattle.ftl_cursors.specs.declared.item_cursor.cursor.ItemCursor.{ItemCursor}
+use Rattle.ftl_cursors.specs.items.StageItems.{items_in, passes_in}
+use Rattle.ftl_items.specs.stage_items.Items.{items, nexts, no_item, passes_of, predecessors, steps_of_item}
+use Rattle.ftl_items.specs.stage_items.StageWork.{kind_of, no_instance, reads_at}
+use Rattle.ftl_model.specs.layout.AttributeGrammar.{AttributeGrammar}
+use Rattle.ftl_model.specs.layout.Table.{SolvesList, instance_count, instance_number, instances, value_in}
+use Rattle.ftl_model.specs.layout.Tree.{Forest}
+use Rattle.ftl_model.specs.layout.Values.{overflow}
+use Rattle.ftl_order.specs.orders.Reads.{reads_of}
+use Rattle.ftl_order.specs.orders.Schedule.{Pass, Schedule}
+use Rattle.ftl_items.specs.solution.Solution.{solution}
+use Rattle.ftl_step_value.specs.cells.ReadCells.{filled_cell, read_cells}
+use Rattle.ftl_step_value.proofs.cells.StepRules.{target_there}
+use Rattle.ftl_step_value.specs.neighbours.NearParts.{AreNearParts}
+use Rattle.ftl_step_value.specs.value.RuleCopies.{AreCopies}
+use Rattle.ftl_step_value.specs.value.StepValue.{GivesItsRead, value_of_step}
+use Rattle.ftl_order.specs.steps.Steps.{IsStepOf, target_of}
+use Rattle.ftl_order.specs.declared.steps.step.Step.{Step}
+use Rattle.ftl_tree.specs.trees.CheckedTree.{CheckedTree}
+use Rattle.ftl_plan.specs.plans.StageParts.{IsStage, IsStepAt, StageView, grain_of, grammar_of, meaning_at, meaning_of, schedule_of, shape_of, steps_of, tree_of}
+use Rattle.ftl_plan.specs.declared.plans.parts.StageParts.{StageParts}
+
+-- a function of the entries of a list
+listed_map : {X Y : Type 0} (f : X → Y) (xs : List X) (d : X) (e : Y)
+    → listing (λ i. f (get_or xs i d)) (length xs) ≡ map f xs
+listed_map f xs d e =
+    let long = length-map-range_with_len (λ i. f (get_or xs i d)) 0 (length xs) in
+    ext_get_or e (listing (λ i. f (get_or xs i d)) (length xs)) (map f xs)
+    (long ∙ sym (length-map xs f))
+    (λ i below.
+    let within : i < length xs = omega (arith, below, long) in
+    get_or-map-range_with_len (λ k. f (get_or xs k d)) 0 (length xs) i i e within (omega arith)
+    ∙ sym (get_or-map f xs i d e within))
+
+-- the limits are those that the stage is known by
+pub most_reads : (v : StageView) → (meaning_at v).max_reads ≡ 1048576
+unfolding listed
+most_reads v = refl
+
+pub most_stack : (v : StageView) → (meaning_at v).max_stack ≡ v.max_stack
+unfolding listed
+most_stack v = refl
+
+module _ (w : StageParts) (fit : IsStage w) where
+  abbrev g : AttributeGrammar
+  g = grammar_of w
+
+  abbrev s : Schedule
+  s = schedule_of w
+
+  abbrev t : Forest
+  t = tree_of w
+
+  abbrev m : Meaning
+  m = meaning_of w
+
+  pub few_passes : length (passes_of s w.stage) ≤ 2048
+  few_passes =
+      let same = ap length fit.passes in
+      let few = w.item_tables.items.fit.few in
+      omega (arith, same, few)
+
+  -- ---- the tree, where it is asked for
+
+  module _ (u : CheckedTree) (same : u ≡ w.item_tables.items.rows.now.tree.now) where
+    pub sound_there : IsSound (meant u.checked)
+    sound_there = subst (λ (v : CheckedTree). IsSound (meant v.checked)) (sym same) fit.sound
+
+    pub tables_there : AreTables (meant u.checked) w.read_tables.now
+    tables_there =
+        subst (λ (v : CheckedTree). AreTables (meant v.checked) w.read_tables.now) (sym same) fit.tables_are
+
+    pub copies_there : AreCopies u.checked w.copies.now
+    copies_there = subst (λ (v : CheckedTree). AreCopies v.checked w.copies.now) (sym same) fit.copies
+
+    pub near_there : AreNearParts u.checked w.near.now
+    near_there = subst (λ (v : CheckedTree). AreNearParts v.checked w.near.now) (sym same) fit.near
+
+    pub step_there : (x : Step) → IsStepOf g t x → IsStepOf (meant u.checked) u.tree x
+    step_there x is = subst (λ (v : CheckedTree). IsStepOf (meant v.checked) v.tree x) (sym same) is
+
+  -- ---- items and cells
+
+  pub items_are : length (items_in w.item_tables.items) ≡ item_total m
+  items_are = ap (λ ps. length (items ps t (grain_of w))) (sym fit.passes) ∙ sym (item_total-listed (shape_of w))
+
+  pub item_known : (i : ℕ) → i < item_total m → i < length (items_in w.item_tables.items)
+  item_known i below = subst (λ n. i < n) (sym items_are) below
+
+  pub cells_are : instance_count g t ≡ cell_total m
+  cells_are = sym (cell_total-listed (shape_of w))
+
+  pub cell_known : (c : ℕ) → c < cell_total m → c < instance_count g t
+  cell_known c below = subst (λ n. c < n) (sym cells_are) below
+
+  pub kind_is : (c : ℕ) → c < cell_total m
+      → kind_of g s w.stage (get_or (instances g t) c no_instance) ≡ kind_at m c
+  kind_is c below = sym (kind_at-listed (shape_of w) c (cell_known c below))
+
+  pub preds_are : (i : ℕ) → i < item_total m
+      → length (predecessors (passes_in w.item_tables.items) (items_in w.item_tables.items) i) ≡ pred_total m i
+  preds_are i below =
+      ap (λ ps. length (predecessors ps (items ps t (grain_of w)) i)) (sym fit.passes)
+      ∙ sym (pred_total-listed (shape_of w) i (item_below (shape_of w) i below))
+
+  pub nexts_are : (i : ℕ) → i < item_total m
+      → length (nexts (passes_in w.item_tables.items) (items_in w.item_tables.items) i) ≡ next_total m i
+  nexts_are i below =
+      ap (λ ps. length (nexts ps (items ps t (grain_of w)) i)) (sym fit.passes)
+      ∙ sym (next_total-listed (shape_of w) i (item_below (shape_of w) i below))
+
+  pub place_known : (i k : ℕ) → i < item_total m → k < next_total m i
+      → k < length (nexts (passes_in w.item_tables.items) (items_in w.item_tables.items) i)
+  place_known i k below place = subst (λ n. k < n) (sym (nexts_are i below)) place
+
+  pub next_is : (i k : ℕ) → i < item_total m → k < next_total m i
+      → get_or (nexts (passes_in w.item_tables.items) (items_in w.item_tables.items) i) k 0 ≡ next_at m i k
+  next_is i k below place =
+      let known = item_below (shape_of w) i below in
+      ap (λ ps. get_or (nexts ps (items ps t (grain_of w)) i) k 0) (sym fit.passes)
+      ∙ sym
+      (next_at-listed (shape_of w) i k known (subst (λ n. k < n) (next_total-listed (shape_of w) i known) place))
+
+  -- ---- steps
+
+  pub steps_are : (i : ℕ) (cursor : ItemCursor) → IsCursorOf w.item_tables i cursor
+      → AreStepsOf g t (steps_of w i) (steps_left cursor)
+  steps_are i cursor is =
+      subst
+      (λ (ps : List Pass). AreStepsOf g t (steps_of_item g s w.stage t (grain_of w) (get_or (items ps t (grain_of w)) i
+      no_item)) (steps_left cursor))
+      (sym fit.passes) (is s w.stage fit.can.ordered fit.passes)
+
+  pub count_is : (i : ℕ) (xs : List Step) → i < item_total m → AreStepsOf g t (steps_of w i) xs
+      → length xs ≡ step_total m i
+  count_is i xs below are =
+      sym (length-map xs (target_of g t))
+      ∙ ap length are.targets
+      ∙ sym (step_total-listed (shape_of w) i (item_below (shape_of w) i below))
+
+  pub step_known : (i j : ℕ) (xs : List Step) → IsStepOfItem m i j → AreStepsOf g t (steps_of w i) xs → j < length xs
+  step_known i j xs is are = subst (λ n. j < n) (sym (count_is i xs is.item are)) is.step
+
+  pub step_is : (i j : ℕ) (xs : List Step) → IsStepOfItem m i j → AreStepsOf g t (steps_of w i) xs
+      → IsStepAt w i j (get_or xs j no_step)
+  step_is i j xs is are =
+      let within = step_known i j xs is are in
+      record {
+        is_step = are.steps_are (get_or xs j no_step) (Contains-get_or xs j no_step within);
+        target =
+            sym (get_or-map (target_of g t) xs j no_step no_instance within)
+            ∙ ap (λ ys. get_or ys j no_instance) are.targets;
+      }
+
+  module _ (i j : ℕ) (x : Step) (is : IsStepOfItem m i j) (at : IsStepAt w i j x) where
+    has : HasStep (shape_of w) i j
+    has = has_step (shape_of w) i j is
+
+    pub target_is : filled_cell g t x ≡ cell_of m i j
+    target_is = ap (instance_number g t) at.target ∙ sym (target_of-listed (shape_of w) i j has)
+
+    pub read_total_is : length (reads_of g t (target_of g t x)) ≡ read_total m i j
+    read_total_is = ap (λ y. length (reads_of g t y)) at.target ∙ sym (read_total-listed (shape_of w) i j has)
+
+    pub reads_are : read_cells g t x ≡ reads_of_step m i j
+    reads_are =
+        ap (λ y. map (instance_number g t) (reads_of g t y)) at.target
+        ∙ sym
+        (listed_map (instance_number g t) (reads_at g s t (grain_of w) w.stage i j) no_instance 0)
+        ∙ sym (reads_of_step-listed (shape_of w) i j has)
+
+    pub read_known : (k : ℕ) → k < read_total m i j → k < length (read_cells g t x)
+    read_known k below = subst (λ n. k < n) (sym (ap length reads_are)) below
+
+  -- ---- values
+
+  past_end : (c : ℕ) → instance_count g t ≤ c → solution_at m c ≡ overflow
+  unfolding solution_at listed
+  past_end c past =
+      get_or_past (listing (shape_of w).value (instance_count g t)) c overflow
+      (let n = length-map-range_with_len (shape_of w).value 0 (instance_count g t) in omega (arith, n, past))
+
+  pub solution_is : SolvesList g t (solution g t) → (c : ℕ)
+      → solution_at m c ≡ get_or (solution g t) c overflow
+  solution_is solves c =
+      elim (ltb c (instance_count g t)) as
+      (λ b. (ltb c (instance_count g t) ≡ b) → solution_at m c ≡ get_or (solution g t) c overflow) [
+        | true ↦ λ e. solution_at-listed (shape_of w) c (ltb-true c (instance_count g t) e)
+        | false ↦ λ e.
+            let past = ltb-false c (instance_count g t) e in
+            past_end c past
+            ∙ sym (get_or_past (solution g t) c overflow (let n = solves.count in omega (arith, n, past)))
+      ]
+      refl
+
+  module _ (solves : SolvesList g t (solution g t)) (x : Step) (is : IsStepOf g t x) where
+    pub values_are :
+        map (solution_at m) (read_cells g t x) ≡ map (value_in g t (solution g t)) (reads_of g t (target_of g t x))
+    values_are =
+        ap (λ f. map f (read_cells g t x)) (fun_ext (solution_is solves))
+        ∙ map-map (λ c. get_or (solution g t) c overflow) (instance_number g t) (reads_of g t (target_of g t x))
+
+    pub value_is : value_of_step g t (value_in g t (solution g t)) x ≡ solution_at m (filled_cell g t x)
+    value_is =
+        sym (solves.solves (target_of g t x) (target_there g fit.sound.law t fit.can.is_tree x is))
+        ∙ sym (solution_is solves (filled_cell g t x))
+
+    -- a step that gives the one value that it reads copies a cell
+    pub copied_is : (cell : ℕ) → read_cells g t x ≡ cell ∷ [] → GivesItsRead g t x
+        → solution_at m cell ≡ solution_at m (filled_cell g t x)
+    copied_is cell one gives =
+        sym
+        (gives (value_in g t (solution g t)) (solution_at m cell)
+        (sym values_are ∙ ap (map (solution_at m)) one))
+        ∙ value_is

@@ -1,0 +1,13 @@
+use Rattle.std.proofs.Common.{◌<◌, ◌∙◌, ap, subst, sym}
+use Rattle.ftl_cells.specs.shared.Work.{item_total, step_total}
+use Rattle.ftl_plan.specs.plans.StageParts.{StageView, meaning_at}
+use Rattle.ftl_plan.proofs.plans.meant.StageWorkWork.step_count.Goals as goal
+
+pub step_count-requires-clause-item : goal.step_count-requires-clause-item
+step_count-requires-clause-item c =
+    subst (λ (v : StageView). c.args.item < item_total (meaning_at v)) (sym c.self.view_is) c.requires.item
+
+pub returns : goal.returns
+returns c = record {
+  count = c.step_count.ensures.count ∙ ap (λ (v : StageView). step_total (meaning_at v) c.args.item) c.self.view_is;
+}

@@ -1,6 +1,0 @@
-use Rattle.ftl_dep_table.specs.Meant.{meant}
-use Rattle.ftl_plan.proofs.InputRows.{AreSetBefore}
-use Rattle.ftl_plan.proofs.words.first_words.Given as goal
-
-abbrev pub invariant-loop-node : goal.invariant-loop-node
-invariant-loop-node l = AreSetBefore (meant l.tree.checked) l.tree.tree l.node l.words.items

@@ -1,0 +1,45 @@
+-- What a stage of a plan means: the work of the stage, with the solution of the tree.
+use Rattle.std.specs.Prelude.{◌≡◌, ℕ, ◌≤◌, length, None}
+use Rattle.ftl_cells.specs.shared.Shape.{listed}
+use Rattle.ftl_cells.specs.shared.Work.{IsLawfulWork, Meaning}
+use Rattle.ftl_items.specs.stage_items.Items.{passes_of}
+use Rattle.ftl_items.specs.stage_items.StageWork.{stage_work}
+use Rattle.ftl_model.specs.layout.AttributeGrammar.{AttributeGrammar}
+use Rattle.ftl_model.specs.layout.Solves.{Instance}
+use Rattle.ftl_model.specs.layout.Table.{instance_count}
+use Rattle.ftl_model.specs.layout.Tree.{Forest, size}
+use Rattle.ftl_model.specs.layout.TreeOf.{IsTreeOf}
+use Rattle.ftl_order.specs.orders.Lawful.{IsLawful}
+use Rattle.ftl_order.specs.orders.LegalOrder.{IsStep}
+use Rattle.ftl_order.specs.orders.Ordered.{IsOrdered}
+use Rattle.ftl_order.specs.orders.Reads.{reads_of}
+use Rattle.ftl_order.specs.orders.Schedule.{Schedule}
+use Rattle.ftl_limits.specs.faults.PlanFaults.{first_fault}
+use Rattle.ftl_items.specs.solution.Solution.{solution}
+
+-- what a stage means; no step reads more than 1048576 cells
+abbrev pub stage_meaning : AttributeGrammar → Schedule → Forest → (grain stage max_stack : ℕ) → Meaning
+stage_meaning g s t grain stage max_stack = listed (stage_work g s t grain stage (solution g t) 1048576 max_stack)
+
+-- a lawful grammar, an ordered schedule and a tree within the limits, which have a plan
+pub record CanBePlanned (g : AttributeGrammar) (s : Schedule) (t : Forest) : Type 0 where
+  pub law : IsLawful g
+  pub ordered : IsOrdered g s
+  pub is_tree : IsTreeOf g t
+  pub nodes : size t ≤ 1048576
+  pub cells : instance_count g t ≤ 33554432
+  pub no_fault : first_fault g s t ≡ None
+
+-- of each of these
+abbrev pub OfPlans : (AttributeGrammar → Schedule → Forest → Type 0) → Type 0
+OfPlans P = (g : AttributeGrammar) (s : Schedule) (t : Forest) → CanBePlanned g s t → P g s t
+
+-- no step reads too much
+abbrev pub StepsAreNarrow : AttributeGrammar → Schedule → Forest → Type 0
+StepsAreNarrow g s t = (i : Instance) → IsStep g t i → length (reads_of g t i) ≤ 1048576
+
+-- each stage is lawful work, with at most so many passes
+abbrev pub StagesAreLawful : AttributeGrammar → Schedule → Forest → Type 0
+StagesAreLawful g s t =
+    (grain stage max_stack : ℕ) → length (passes_of s stage) ≤ 2048
+    → IsLawfulWork (stage_meaning g s t grain stage max_stack)

@@ -1,0 +1,62 @@
+-- Which phase each item of a stage takes, where its cells are cut into ranges of one size.
+use Rattle.std.specs.Prelude.{◌≡◌, ℕ, ◌+◌, ◌*◌, ◌/◌, nat_le, if◌then◌else◌, List, flat_map, map, sum_by, take}
+use Rattle.std.specs.List.{range_with_len}
+use Rattle.ftl_deps.specs.reads.Meant.{meant}
+use Rattle.ftl_cursors.specs.items.StageItems.{passes_in, tree_in}
+use Rattle.ftl_cursors.specs.declared.items.columns.ItemRows.{ItemRows}
+use Rattle.ftl_cursors.specs.declared.items.view.StageItems.{StageItems}
+use Rattle.ftl_items.specs.stage_items.Cut.{is_small, tops}
+use Rattle.ftl_items.specs.stage_items.Items.{pass_in, passes_of}
+use Rattle.ftl_model.specs.layout.AttributeGrammar.{AttributeGrammar}
+use Rattle.ftl_model.specs.layout.Path.{Path, number_of, preorder, size_at}
+use Rattle.ftl_model.specs.layout.Table.{first_instance, width_at}
+use Rattle.ftl_model.specs.layout.Tree.{Forest}
+use Rattle.ftl_order.specs.orders.Schedule as order
+use Rattle.ftl_order.specs.orders.Schedule.{PassKind, bottomup, inorder, topdown}
+use Rattle.ftl_plan.specs.laws.StageMeanings.{CanBePlanned, stage_meaning}
+use Rattle.ftl_cells.specs.work_phases.Phases.{CanTake}
+use Rattle.ftl_cells.specs.declared.work_phases.phase.Phase.{Phase}
+use Rattle.ftl_cells.specs.declared.work_phases.phase.Phase.TheVariants.{First, Range, Last}
+use Rattle.ftl_cells.specs.declared.work_phases.phase.Phases.{Phases}
+
+-- the grammar
+abbrev pub grammar_in : ItemRows → AttributeGrammar
+grammar_in rows = meant rows.tree.now.checked
+
+-- the first cell behind those of the tree at a node
+abbrev pub cells_end : AttributeGrammar → Forest → Path → ℕ
+cells_end g t p = sum_by (width_at g t) (take (number_of t p + size_at t p) (preorder t))
+
+-- the range in which all cells of the tree at a node lie, or the last phase where they lie in two
+abbrev pub range_phase : AttributeGrammar → Forest → (size : ℕ) → Path → Phase
+range_phase g t size p =
+    if nat_le (cells_end g t p) ((first_instance g t p / size + 1) * size) then Range (first_instance g t p / size)
+    else Last
+
+module _ (g : AttributeGrammar) (t : Forest) (grain size : ℕ) where
+  -- of a small tree its range, and of a node alone another phase
+  abbrev pub tree_phase : (alone : Phase) → Path → Phase
+  tree_phase alone p = if is_small t grain p then range_phase g t size p else alone
+
+  -- The phase of the item that begins at a node. A node alone comes before the small trees below it in a topdown pass,
+  -- and behind them in a bottomup pass.
+  abbrev pub item_phase : PassKind → Path → Phase
+  item_phase topdown p = tree_phase First p
+  item_phase bottomup p = tree_phase Last p
+  item_phase inorder p = Last
+
+  -- the phases of the items of a pass
+  abbrev pub phases_of_pass : PassKind → List Phase
+  phases_of_pass kind = map (item_phase kind) (tops kind t grain)
+
+  -- those of the items of the first so many passes
+  abbrev pub phases_to : List order.Pass → ℕ → List Phase
+  phases_to passes n = flat_map (λ m. phases_of_pass (pass_in passes m).kind) (range_with_len 0 n)
+
+-- each stage of a plan that has these items can take these phases
+abbrev pub CanBeTaken : StageItems → Phases → Type 0
+CanBeTaken items phases =
+    (s : order.Schedule) (stage max_stack : ℕ) → CanBePlanned (grammar_in items.rows.now) s (tree_in items.rows.now)
+    → passes_of s stage ≡ passes_in items
+    → CanTake
+    (stage_meaning (grammar_in items.rows.now) s (tree_in items.rows.now) items.rows.now.grain stage max_stack) phases

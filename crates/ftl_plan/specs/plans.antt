@@ -1,0 +1,9 @@
+pub mod StageParts
+pub mod Driving
+pub mod Planned
+pub mod PlannedStages
+pub mod PlanInside
+pub mod InputWords
+pub mod StageTables
+pub mod StageWords
+pub use Rattle.ftl_limits.specs.faults.PlanFaults

@@ -1,0 +1,36 @@
+-- The fields of a plan.
+use Rattle.std.specs.Prelude.{◌≡◌, None, map}
+use Rattle.ftl_deps.specs.reads.Meant.{meant}
+use Rattle.ftl_limits.specs.reads.ReadTables.{AreTables, IsSound}
+use Rattle.ftl_cursors.specs.items.StageItems.{tree_in}
+use Rattle.ftl_step_value.specs.neighbours.NearParts.{AreNearParts}
+use Rattle.ftl_schedule.specs.stages.Stages.{stages_of}
+use Rattle.ftl_step_value.specs.value.RuleCopies.{AreCopies}
+use Rattle.ftl_limits.specs.faults.PlanFaults.{first_fault}
+use Rattle.ftl_visit.specs.passes.VisitRows.{target_of}
+use Rattle.ftl_plan.specs.plans.Planned.{MayBePlanned, PlanMeaning}
+use Rattle.ftl_plan.specs.plans.PlannedStages.{HaveRows}
+use Rattle.ftl_plan.specs.declared.plans.plan.Plan.TheInside.{Inside}
+
+abbrev pub plan_inside : Inside → PlanMeaning
+plan_inside p =
+    record {
+      checked = p.checked.now;
+      schedule = p.accepted.now;
+      programs = p.programs.now;
+      tree = p.tree.now.tree;
+      grain = p.items.grain;
+    }
+
+-- all belong to one grammar, each stage has its rows, and there is no fault
+pub record IsPlan (p : Inside) : Type 0 where
+  pub tree : p.tree.now.checked ≡ p.checked.now
+  pub may : MayBePlanned (plan_inside p)
+  pub sound : IsSound (meant p.checked.now)
+  pub tables : AreTables (meant p.checked.now) p.tables
+  pub items : p.items.tree.now ≡ p.tree.now
+  pub targets : p.targets.items ≡ map target_of (meant p.checked.now).rules
+  pub copies : AreCopies p.checked.now p.copies.items
+  pub near : AreNearParts p.checked.now p.near.items
+  pub rows : HaveRows (meant p.checked.now) (tree_in p.items) p.items.grain p.accepted.now.stages p.stages.items
+  pub no_fault : first_fault (meant p.checked.now) (stages_of p.accepted.now) p.tree.now.tree ≡ None

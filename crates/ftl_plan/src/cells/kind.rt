@@ -1,0 +1,48 @@
+//! The kinds of cells in a stage.
+ghost use Rattle.std.specs.Prelude.{◌≡◌, ◌<◌, slice_index_or};
+ghost use Rattle.ftl_deps.specs.reads.Meant.{meant};
+ghost use Rattle.ftl_model.specs.layout.Table.{instance_count, instances};
+ghost use Rattle.ftl_limits.specs.reads.ReadTables.{AreTables, IsSound};
+ghost use Rattle.ftl_items.specs.stage_items.StageWork.{kind_by_stage, kind_of, no_instance};
+ghost use Rattle.ftl_schedule.specs.stages.Stages.{stages_of};
+
+use crate::cells::node::attr_of_cell;
+use ftl_cells::shared::CellKind;
+use ftl_limits::reads::ReadTables;
+use ftl_schedule::check::{Accepted, is_input};
+use ftl_tree::trees::Tree;
+
+/// The kind of a cell in a stage: an input is given, and what is computed is given after its
+/// stage.
+pub fn cell_kind(
+    accepted: &Accepted,
+    tables: &ReadTables,
+    tree: &Tree<'_>,
+    stage: u32,
+    cell: u32,
+) -> CellKind
+    requires sound { IsSound (meant tree.now.checked) }
+    requires tables { AreTables (meant tree.now.checked) tables.now }
+    requires cell { cell < instance_count (meant tree.now.checked) tree.now.tree }
+    ensures kind { result ≡ kind_of (meant tree.now.checked) (stages_of accepted.now) stage
+        (slice_index_or (instances (meant tree.now.checked) tree.now.tree) cell no_instance) }
+{
+    let attr = attr_of_cell(tables, tree, cell);
+    if is_input(tree.checked(), attr) {
+        return CellKind::Given;
+    }
+    kind_by_stage(accepted.spot(attr).stage, stage as usize)
+}
+
+/// The kind by the stage that computes the cell's attribute.
+fn kind_by_stage(its: usize, stage: usize) -> CellKind
+    ensures kind { result ≡ kind_by_stage its stage }
+{
+    if its < stage {
+        CellKind::Given
+    } else if its == stage {
+        CellKind::Target
+    } else {
+        CellKind::Later
+    }
+}

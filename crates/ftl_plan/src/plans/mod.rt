@@ -1,0 +1,29 @@
+//! Plans of a layout. Goes in: a checked grammar, a schedule that was accepted for it, the code of
+//! its rules and a tree. Comes out: `Plan`, or its first fault, which `specs/plans/Planned.antt`
+//! has; the words of the cells before the first stage; each stage as lawful work, `StageWork`,
+//! which means what `laws` says that the stage means and drives a filler through an item with each
+//! step made once; and the words of the values that solve the tree, computed by one thread, stage
+//! after stage. `specs/plans/StageParts.antt` says what a stage is made of,
+//! `specs/plans/StageWords.antt` which words fit it, `specs/plans/Driving.antt` where a filler
+//! stands around a step. The work of a stage may be shared by threads, as
+//! `proofs/plans/Shared.antt` shows.
+
+mod alone;
+mod fitting;
+mod items;
+mod meant;
+mod parts;
+mod phases;
+mod plan;
+mod running;
+mod sound;
+mod stages;
+mod steps;
+mod words;
+mod work;
+
+pub use alone::solve_alone;
+pub use ftl_limits::faults::PlanFault;
+pub use parts::StageParts;
+pub use plan::Plan;
+pub use work::StageWork;

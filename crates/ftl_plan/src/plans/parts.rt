@@ -1,0 +1,56 @@
+//! What the work of a stage is made of.
+ghost use Rattle.std.specs.Prelude.{◌≡◌, ◌<◌};
+ghost use Rattle.ftl_cells.specs.shared.Work.{IsStepOfItem, item_total};
+ghost use Rattle.ftl_cursors.specs.item_cursor.ItemSteps.{AreStepsOf, steps_left};
+ghost use Rattle.ftl_plan.specs.plans.StageParts.{IsStage, IsStepAt, grammar_of, meaning_of};
+ghost use Rattle.ftl_plan.specs.plans.StageParts.{steps_of};
+ghost use Rattle.ftl_plan.specs.plans.StageParts.{tree_of};
+
+use ftl_cursors::item_cursor::{ItemCursor, ItemTables, item_steps, step_at};
+use ftl_limits::reads::ReadTables;
+use ftl_order::steps::Step;
+use ftl_schedule::check::Accepted;
+use ftl_step_value::neighbours::NearParts;
+use ftl_step_value::value::RuleCopy;
+use ftl_tree::trees::Tree;
+use ftl_visit::compiled::Programs;
+
+/// What a plan keeps, for one stage.
+#[derive(Clone, Copy)]
+pub struct StageParts<'a> {
+    pub accepted: &'a Accepted,
+    pub programs: &'a Programs,
+    pub read_tables: &'a ReadTables,
+    pub item_tables: ItemTables<'a>,
+    pub copies: &'a [RuleCopy],
+    pub near: &'a [NearParts],
+    pub stage: u32,
+}
+
+impl<'a> StageParts<'a> {
+    /// The tree.
+    pub(crate) fn tree(&self) -> &'a Tree<'a>
+        ensures tree { result.now ≡ self.now.item_tables.items.rows.now.tree.now }
+    {
+        self.item_tables.items.rows.tree
+    }
+
+    /// The steps of an item, from the first on.
+    pub(crate) fn cursor(&self, item: u32) -> ItemCursor<'a>
+        requires fit { IsStage self.now }
+        requires item { item < item_total (meaning_of self.now) }
+        ensures steps { AreStepsOf (grammar_of self.now) (tree_of self.now)
+            (steps_of self.now item) (steps_left result) }
+    {
+        item_steps(self.item_tables, item)
+    }
+
+    /// A step of an item; goes through those before it.
+    pub(crate) fn step(&self, item: u32, place: u32) -> Step
+        requires fit { IsStage self.now }
+        requires step { IsStepOfItem (meaning_of self.now) item place }
+        ensures step { IsStepAt self.now item place result }
+    {
+        step_at(self.cursor(item), place)
+    }
+}

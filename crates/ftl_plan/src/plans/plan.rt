@@ -1,0 +1,176 @@
+//! Plans.
+ghost use Rattle.std.specs.Prelude.{◌≡◌, ◌<◌, length, IfOk};
+ghost use Rattle.ftl_deps.specs.reads.Meant.{meant};
+ghost use Rattle.ftl_items.specs.stage_items.WordLaws.{first_words};
+ghost use Rattle.ftl_model.specs.layout.Outcome.{Gives};
+ghost use Rattle.ftl_plan.specs.laws.StageMeanings.{CanBePlanned};
+ghost use Rattle.ftl_schedule.specs.stages.Stages.{stages_of};
+ghost use Rattle.ftl_plan.specs.plans.Planned.{MayBePlanned, planned};
+ghost use Rattle.ftl_plan.specs.plans.StageTables.{AreTablesOf, stage_in};
+ghost use Rattle.ftl_limits.specs.declared.faults.fault.PlanFault.TheVariants.{OutOfMemory};
+
+use crate::plans::parts::StageParts;
+use crate::plans::sound::is_sound;
+use crate::plans::stages::rows_of_stages;
+use crate::plans::words::first_words;
+use crate::plans::work::StageWork;
+use ftl_checked::grammars::Checked;
+use ftl_cursors::item_cursor::ItemTables;
+use ftl_cursors::items::{ItemRows, StageItems};
+use ftl_cursors::stages::StageRows;
+use ftl_limits::faults::{PlanFault, ReadTables, first_fault};
+use ftl_schedule::check::Accepted;
+use ftl_step_value::neighbours::{NearParts, near_parts};
+use ftl_step_value::value::{RuleCopy, rule_copies};
+use ftl_tree::trees::Tree;
+use ftl_visit::compiled::Programs;
+use ftl_visit::passes::{RuleTarget, rule_targets};
+use std::alloc::{AllocError, Global};
+use std::marker::Model;
+
+/// The stages of a tree. It borrows what it is made of, and keeps no list of steps: for each class
+/// and pass what a visit does, for each rule what its steps copy and read, and for each node where items
+/// begin.
+#[derive(Drop)]
+pub struct Plan<'a> {
+    checked: &'a Checked,
+    accepted: &'a Accepted,
+    programs: &'a Programs,
+    tree: &'a Tree<'a>,
+    tables: ReadTables,
+    items: ItemRows<'a>,
+    targets: Vec<RuleTarget>,
+    copies: Vec<RuleCopy>,
+    near: Vec<NearParts>,
+    stages: Vec<StageRows>,
+}
+
+impl<'a> Model for Plan<'a> {
+    ghost use Rattle.std.specs.Coded.{codes};
+    ghost use Rattle.ftl_model.specs.layout.ForestCode.{forest_code};
+    ghost use Rattle.ftl_grammar.specs.contracts.syntax.expression.Expr as e;
+    ghost use Rattle.ftl_plan.specs.plans.PlanInside.{IsPlan, plan_inside};
+    ghost use Rattle.ftl_plan.specs.plans.Planned.{PlanMeaning};
+
+    ghost Value = { PlanMeaning };
+
+    ghost coded = { Prim.hlevel (codes, e.the_row.coded, forest_code) };
+
+    ghost view = { plan_inside };
+
+    ghost invariant = { IsPlan };
+}
+
+impl<'a> Plan<'a> {
+    /// The plan of a tree with items of at most so many nodes, or its first fault. All must belong
+    /// to one grammar.
+    #[inline(never)]
+    pub fn new(
+        alloc: Global,
+        checked: &'a Checked,
+        accepted: &'a Accepted,
+        programs: &'a Programs,
+        tree: &'a Tree<'a>,
+        grain: u32,
+    ) -> Result<Plan<'a>, PlanFault>
+        requires tree { tree.now.checked ≡ checked.now }
+        requires may { MayBePlanned (record {
+          checked = checked.now;
+          schedule = accepted.now;
+          programs = programs.now;
+          tree = tree.now.tree;
+          grain = grain;
+        }) }
+        ensures exact { Gives OutOfMemory (λ p. p) result (planned (record {
+          checked = checked.now;
+          schedule = accepted.now;
+          programs = programs.now;
+          tree = tree.now.tree;
+          grain = grain;
+        })) }
+    {
+        is_sound(checked);
+        let tables = ReadTables::new(alloc, checked)?;
+        if let Some(fault) = first_fault(alloc, &tables, accepted, tree)? {
+            return Err(fault);
+        }
+        let items = ItemRows::new(alloc, tree, grain)?;
+        let targets = rule_targets(alloc, checked)?;
+        let copies = rule_copies(alloc, programs, &tables, checked)?;
+        let near = near_parts(alloc, &tables, checked)?;
+        let stages = rows_of_stages(
+            alloc,
+            checked,
+            &items,
+            accepted.schedule().stages.as_slice(),
+        )?;
+        Ok(Plan {
+            checked,
+            accepted,
+            programs,
+            tree,
+            tables,
+            items,
+            targets,
+            copies,
+            near,
+            stages,
+        })
+    }
+
+    /// How many stages the schedule has.
+    pub fn stage_count(&self) -> u32
+        ensures count { result ≡ length (stages_of self.now.schedule) }
+        ensures plan { CanBePlanned (meant self.now.checked) (stages_of self.now.schedule)
+            self.now.tree }
+    {
+        let _nodes = self.tree.node_count();
+        let _cells = self.tree.instance_count();
+        self.accepted.schedule().stages.len() as u32
+    }
+
+    /// The work of a stage. It borrows the plan, and takes no memory.
+    pub fn stage(&self, stage: u32) -> StageWork<'_>
+        requires stage { stage < length (stages_of self.now.schedule) }
+        ensures stage { result ≡ stage_in self.now stage }
+    {
+        let _stages = self.stage_count();
+        let copies = self.copies.as_slice();
+        let near = self.near.as_slice();
+        StageWork::new(StageParts {
+            accepted: self.accepted,
+            programs: self.programs,
+            read_tables: &self.tables,
+            item_tables: self.item_tables(stage),
+            copies,
+            near,
+            stage,
+        })
+    }
+
+    /// The items of a stage, with what their steps are told by.
+    fn item_tables(&self, stage: u32) -> ItemTables<'_>
+        requires stage { stage < length (stages_of self.now.schedule) }
+        ensures tables { AreTablesOf self.now stage result }
+    {
+        let stages = self.stages.as_slice();
+        let rows = &stages[stage as usize];
+        let passes = self.accepted.schedule().stages.as_slice()[stage as usize]
+            .passes
+            .as_slice();
+        ItemTables {
+            items: StageItems::new(&self.items, passes, rows.starts.as_slice()),
+            visits: rows.visits.as_slice(),
+            places: rows.places.as_slice(),
+            targets: self.targets.as_slice(),
+        }
+    }
+
+    /// The words of all cells before the first stage: those of the inputs, and 0 elsewhere.
+    pub fn first_words(&self, alloc: Global) -> Result<Vec<u64>, AllocError>
+        ensures words { IfOk result (λ v. v.items
+            ≡ first_words (meant self.now.checked) self.now.tree) }
+    {
+        first_words(alloc, &self.tables, self.tree)
+    }
+}

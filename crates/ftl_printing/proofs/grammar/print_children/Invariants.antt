@@ -1,7 +1,0 @@
-use Rattle.std.proofs.Common.{◌≡◌, ◌++◌, string_bytes, take, flat_map}
-use Rattle.ftl_printing.specs.GrammarTokens.{spaced_text, child_tokens}
-use Rattle.ftl_printing.proofs.grammar.print_children.Given as goal
-
-abbrev pub invariant-loop-child : goal.invariant-loop-child
-invariant-loop-child l =
-    string_bytes l.out ≡ string_bytes l.initial.out ++ spaced_text (flat_map child_tokens (take l.child-index l.children))

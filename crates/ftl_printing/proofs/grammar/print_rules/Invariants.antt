@@ -1,7 +1,0 @@
-use Rattle.std.proofs.Common.{◌≡◌, ◌++◌, string_bytes, take, flat_map}
-use Rattle.ftl_printing.specs.GrammarTokens.{spaced_text, rule_tokens}
-use Rattle.ftl_printing.proofs.grammar.print_rules.Given as goal
-
-abbrev pub invariant-loop-rule : goal.invariant-loop-rule
-invariant-loop-rule l =
-    string_bytes l.out ≡ string_bytes l.initial.out ++ spaced_text (flat_map rule_tokens (take l.rule-index l.rules))

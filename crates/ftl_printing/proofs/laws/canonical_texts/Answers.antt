@@ -1,6 +1,0 @@
-use Rattle.ftl_printing.proofs.SpelledExpressions.{exact_expr}
-use Rattle.ftl_printing.proofs.CanonicalTexts.{canonical_text}
-use Rattle.ftl_printing.proofs.laws.canonical_texts.Goals as goal
-
-pub returns : goal.returns
-returns c = record { grammar = canonical_text; expression = λ tokens x s. (exact_expr s).same }

@@ -1,5 +1,0 @@
-use Rattle.ftl_programs.proofs.SpelledCode.{spelled_has_code}
-use Rattle.ftl_programs.proofs.spelled.spelled_grammars_have_code.Goals as goal
-
-pub returns : goal.returns
-returns c = record { code = spelled_has_code }

@@ -1,6 +1,0 @@
-use Rattle.ftl_reading.specs.Depth.{brackets_of}
-use Rattle.ftl_reading.proofs.ShallowLemmas.{Counted}
-use Rattle.ftl_reading.proofs.brackets.first_too_deep_in.Given as goal
-
-abbrev pub invariant-loop-token : goal.invariant-loop-token
-invariant-loop-token l = Counted (brackets_of l.opening l.closing) l.limit l.scanned l.token-index l.opened l.closed

@@ -1,5 +1,0 @@
-use Rattle.ftl_reading.proofs.NarrowLemmas.{at_most-step}
-use Rattle.ftl_reading.proofs.input.Input.expect.Goals as goal
-
-pub invariant_of-self : goal.invariant_of-self
-invariant_of-self c = at_most-step 2147483647 _ _ c.self.invariant c.expect.ensures.step

@@ -1,6 +1,0 @@
-use Rattle.std.proofs.Common.{inr}
-use Rattle.ftl_reading.proofs.NarrowLemmas.{at_most-step}
-use Rattle.ftl_reading.proofs.input.Input.skip.Goals as goal
-
-pub invariant_of-self : goal.invariant_of-self
-invariant_of-self c = at_most-step 2147483647 _ _ c.self.invariant (inr c.skip.ensures.rest)

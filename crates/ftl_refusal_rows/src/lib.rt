@@ -1,7 +1,0 @@
-//! Refusal lines that were typed out by hand. Goes in: the definitions of `ftl_refusals`. Comes out:
-//! laws, stated by empty functions. There is no code here.
-#![tactic(auto)]
-
-mod laws;
-
-pub use laws::{lines_of_documents, lines_of_schedules, other_lines};

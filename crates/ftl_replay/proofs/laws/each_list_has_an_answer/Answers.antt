@@ -1,5 +1,0 @@
-use Rattle.ftl_replay.proofs.Decided.{some_answer}
-use Rattle.ftl_replay.proofs.laws.each_list_has_an_answer.Goals as goal
-
-pub returns : goal.returns
-returns c = record { some = some_answer }

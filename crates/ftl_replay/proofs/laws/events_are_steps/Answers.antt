@@ -1,6 +1,0 @@
-use Rattle.ftl_replay.proofs.Leads.{does_makes}
-use Rattle.ftl_replay.proofs.Fits.{step_fits}
-use Rattle.ftl_replay.proofs.laws.events_are_steps.Goals as goal
-
-pub returns : goal.returns
-returns c = record { makes = does_makes; fits = step_fits }

@@ -1,5 +1,0 @@
-use Rattle.ftl_replay.proofs.Stands.{step_exactly}
-use Rattle.ftl_replay.proofs.laws.places_decide_steps.Goals as goal
-
-pub returns : goal.returns
-returns c = record { exactly = step_exactly }

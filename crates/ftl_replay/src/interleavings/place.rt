@@ -1,0 +1,8 @@
+use ftl_cells::shared::HandPlace;
+
+/// Where a hand is, or that it was given up.
+#[derive(Clone, Copy, Debug, PartialEq, Eq)]
+pub enum ReplayPlace {
+    Live(HandPlace),
+    Spent,
+}

@@ -1,0 +1,13 @@
+use Rattle.ftl_meaning.specs.lawful.Faultless.{IsFaultless}
+use Rattle.ftl_requests.proofs.sections.limits.is_sound.Goals as goal
+
+pub returns : goal.returns
+returns c =
+    let k = c.args.checked.now in
+    let fine : IsFaultless k.grammar = record { faults = c.grammar.ensures.lawful; kinds = c.grammar.ensures.kinds } in
+    record {
+      sound = record {
+        law = c.faultless_grammars_are_lawful.ensures.lawful k.grammar k.width fine;
+        limits = c.faultless_grammars_are_small.ensures.limits k.grammar k.width fine;
+      };
+    }

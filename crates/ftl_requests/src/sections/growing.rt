@@ -1,0 +1,113 @@
+//! The tree of a text.
+
+ghost use Rattle.std.specs.Prelude.{◌≡◌, ◌≤◌, length, None, string_bytes, string_len, IfOk};
+ghost use Rattle.ftl_answer.specs.answers.Answer as answer;
+ghost use Rattle.ftl_answer.specs.answers.Stages.{Then};
+ghost use Rattle.ftl_answer.specs.answers.Texts.{planned_tree, spelled_tree, tokens, tree};
+ghost use Rattle.ftl_base.specs.Widths.{greatest_of_width};
+ghost use Rattle.ftl_requests.specs.sections.Outcomes.{IsOutcome};
+ghost use Rattle.ftl_requests.specs.sections.Telling.{Tells};
+ghost use Rattle.ftl_deps.specs.reads.Meant.{meant};
+ghost use Rattle.ftl_document.specs.declared.faults.fault.DocFault.TheVariants as faults;
+ghost use Rattle.ftl_page.specs.declared.sections.fault.Section.TheVariants as section;
+ghost use Rattle.ftl_limits.specs.faults.PlanFaults.{first_fault};
+ghost use Rattle.ftl_answer.specs.refusals.DocumentLines.{document_line};
+ghost use Rattle.ftl_schedule.specs.stages.Stages.{stages_of};
+
+use crate::sections::decision::{Undecided, refused};
+use crate::sections::limits::within_limits;
+use crate::sections::read::tokens_refused;
+use crate::sections::status::Status;
+use ftl_answer::refusals::write_document_fault;
+use ftl_base::Width;
+use ftl_checked::grammars::Checked;
+use ftl_document::faults::DocFault;
+use ftl_document::reading::read_document;
+use ftl_page::sections::Section;
+use ftl_schedule::check::Accepted;
+use ftl_tokens::scanner::{TokenFault, WideScanned, document_tokens};
+use ftl_tree::trees::Tree;
+use std::alloc::Global;
+
+/// The tree that the text spells, where no stage reads too much.
+#[inline(never)]
+pub fn tree_of<'a>(
+    alloc: Global,
+    checked: &'a Checked,
+    accepted: &Accepted,
+    text: String,
+) -> Result<Tree<'a>, Undecided>
+    requires short { string_len text ≤ 67108864 }
+    requires few { length (stages_of accepted.now) ≤ 2048 }
+    ensures outcome { IsOutcome (tree checked.now accepted.now (string_bytes text))
+        (λ t. t.tree) result }
+    ensures grammar { IfOk result (λ t. t.checked ≡ checked.now) }
+    // what a plan of it asks for
+    ensures fits { IfOk result (λ t. first_fault (meant checked.now) (stages_of accepted.now)
+        t.tree ≡ None) }
+{
+    match scanned_document(alloc, checked.width(), text) {
+        Ok(scanned) => tree_of_tokens(alloc, checked, accepted, &scanned),
+        Err(end) => Err(end),
+    }
+}
+
+/// The greatest number of a document.
+fn greatest_of(width: Width) -> u64
+    ensures greatest { result ≡ greatest_of_width width }
+{
+    match width {
+        Width::Narrow => 2147483647,
+        Width::Wide => 140737488355327,
+    }
+}
+
+/// The text of a document with its tokens.
+fn scanned_document(alloc: Global, width: Width, text: String) -> Result<WideScanned, Undecided>
+    requires short { string_len text ≤ 67108864 }
+    ensures outcome { IsOutcome
+        (tokens section.Document (greatest_of_width width) (string_bytes text))
+        (λ s. s.tokenized) result }
+    ensures greatest { IfOk result (λ s. s.greatest ≡ greatest_of_width width) }
+{
+    match document_tokens(alloc, text, greatest_of(width)) {
+        Ok(scanned) => Ok(scanned),
+        Err(TokenFault::OutOfMemory) => Err(Undecided::OutOfMemory),
+        Err(fault) => Err(tokens_refused(alloc, Section::Document, fault)),
+    }
+}
+
+/// The tree that the tokens spell, where no stage reads too much.
+fn tree_of_tokens<'a>(
+    alloc: Global,
+    checked: &'a Checked,
+    accepted: &Accepted,
+    scanned: &WideScanned,
+) -> Result<Tree<'a>, Undecided>
+    requires few { length (stages_of accepted.now) ≤ 2048 }
+    requires greatest { scanned.now.greatest ≡ greatest_of_width checked.now.width }
+    ensures outcome { IsOutcome (Then (spelled_tree checked.now scanned.now)
+        (λ t. planned_tree checked.now accepted.now t.tree)) (λ t. t.tree) result }
+    ensures grammar { IfOk result (λ t. t.checked ≡ checked.now) }
+    ensures fits { IfOk result (λ t. first_fault (meant checked.now) (stages_of accepted.now)
+        t.tree ≡ None) }
+{
+    match read_document(alloc, checked, scanned) {
+        Ok(tree) => within_limits(alloc, checked, accepted, tree),
+        Err(fault) => Err(document_refused(alloc, checked, &fault)),
+    }
+}
+
+fn document_refused(alloc: Global, checked: &Checked, fault: &DocFault) -> Undecided
+    ensures ends { Tells faults.OutOfMemory
+        (λ f. answer.refused 7 (document_line checked.now.grammar f)) fault.now result }
+{
+    if let DocFault::OutOfMemory = fault {
+        return Undecided::OutOfMemory;
+    }
+    let mut line = Vec::new(alloc);
+    match write_document_fault(&mut line, checked, fault) {
+        Ok(()) => refused(Status::DOCUMENT_REFUSED, line),
+        Err(_) => Undecided::OutOfMemory,
+    }
+}

@@ -1,0 +1,78 @@
+//! How much the stages of a tree read.
+
+ghost use Rattle.std.specs.Prelude.{◌≡◌, ◌≤◌, length, None, IfOk};
+ghost use Rattle.ftl_answer.specs.answers.Answer as answer;
+ghost use Rattle.ftl_answer.specs.answers.Texts.{planned_tree};
+ghost use Rattle.ftl_requests.specs.sections.Outcomes.{Ends, IsOutcome};
+ghost use Rattle.ftl_deps.specs.reads.Meant.{meant};
+ghost use Rattle.ftl_limits.specs.reads.ReadTables.{IsSound};
+ghost use Rattle.ftl_limits.specs.faults.PlanFaults.{first_fault};
+ghost use Rattle.ftl_answer.specs.refusals.PlanLines.{plan_line};
+ghost use Rattle.ftl_schedule.specs.stages.Stages.{stages_of};
+
+use crate::sections::decision::{Undecided, refused};
+use crate::sections::status::Status;
+use ftl_answer::refusals::write_plan_fault;
+use ftl_checked::grammars::Checked;
+use ftl_limits::faults::{PlanFault, ReadTables, first_fault};
+use ftl_meaning::lawful::{faultless_grammars_are_lawful, faultless_grammars_are_small};
+use ftl_schedule::check::Accepted;
+use ftl_tree::trees::Tree;
+use std::alloc::{AllocError, Global};
+
+/// The tree, where no stage reads too much.
+pub(crate) fn within_limits<'a>(
+    alloc: Global,
+    checked: &'a Checked,
+    accepted: &Accepted,
+    tree: Tree<'a>,
+) -> Result<Tree<'a>, Undecided>
+    requires few { length (stages_of accepted.now) ≤ 2048 }
+    requires grammar { tree.checked ≡ checked.now }
+    ensures outcome { IsOutcome (planned_tree checked.now accepted.now tree.entry.tree)
+        (λ t. t.tree) result }
+    ensures grammar { IfOk result (λ t. t.checked ≡ checked.now) }
+    ensures fits { IfOk result (λ t. first_fault (meant checked.now) (stages_of accepted.now)
+        t.tree ≡ None) }
+{
+    match fault_of(alloc, checked, accepted, &tree)? {
+        Some(fault) => Err(plan_refused(alloc, fault)),
+        None => Ok(tree),
+    }
+}
+
+/// The first stage that reads too much; none where there is none.
+fn fault_of(
+    alloc: Global,
+    checked: &Checked,
+    accepted: &Accepted,
+    tree: &Tree<'_>,
+) -> Result<Option<PlanFault>, AllocError>
+    requires few { length (stages_of accepted.now) ≤ 2048 }
+    requires grammar { tree.now.checked ≡ checked.now }
+    ensures fault { IfOk result (λ fault. fault
+        ≡ first_fault (meant checked.now) (stages_of accepted.now) tree.now.tree) }
+{
+    is_sound(checked);
+    let tables = ReadTables::new(alloc, checked)?;
+    first_fault(alloc, &tables, accepted, tree)
+}
+
+/// A law: a checked grammar is lawful, and within the limits on counts.
+fn is_sound(checked: &Checked)
+    ensures sound { IsSound (meant checked.now) }
+{
+    let _ = checked.grammar();
+    faultless_grammars_are_lawful();
+    faultless_grammars_are_small();
+}
+
+fn plan_refused(alloc: Global, fault: PlanFault) -> Undecided
+    ensures ends { Ends (answer.refused 7 (plan_line fault)) result }
+{
+    let mut line = Vec::new(alloc);
+    match write_plan_fault(&mut line, fault) {
+        Ok(()) => refused(Status::DOCUMENT_REFUSED, line),
+        Err(_) => Undecided::OutOfMemory,
+    }
+}

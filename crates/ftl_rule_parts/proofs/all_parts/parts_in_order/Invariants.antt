@@ -1,7 +1,0 @@
-use Rattle.std.proofs.Common.{◌≡◌, map, take}
-use Rattle.ftl_dep_table.specs.Meant.{meant}
-use Rattle.ftl_rule_parts.specs.RuleParts.{all_parts, parts_meant}
-use Rattle.ftl_rule_parts.proofs.all_parts.parts_in_order.Given as goal
-
-abbrev pub invariant-loop-rule : goal.invariant-loop-rule
-invariant-loop-rule l = map parts_meant l.rows ≡ take l.rule (all_parts (meant l.checked))

@@ -1,0 +1,14 @@
+use Rattle.std.proofs.Common.{Ok}
+use Rattle.ftl_requests.specs.requests.Requests.{problem_stage}
+use Rattle.ftl_requests.proofs.requests.Endings.{if_ended}
+use Rattle.ftl_run.proofs.calls.Leading.{page_answered}
+use Rattle.ftl_run.proofs.calls.workers.answered_by_workers.Goals as goal
+
+pub returns-in_ok-ended-in-Solve : goal.returns-in_ok-ended-in-Solve
+returns-in_ok-ended-in-Solve g c = record {
+  answered =
+      page_answered c.args.requested c.in_ok-decided.field-0 c.in-Solve.problem c.in_ok-ended-in-Solve.field-0
+      c.in_ok-decided.was c.in-Solve.is
+      (if_ended (problem_stage c.in-Solve.problem) c.told_by_workers.result (Ok c.in_ok-ended-in-Solve.field-0) c.told_by_workers.ensures.outcome
+      c.in_ok-ended-in-Solve.ensures.end);
+}

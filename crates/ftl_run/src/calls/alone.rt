@@ -1,0 +1,117 @@
+//! Pages that are solved on the calling thread.
+
+ghost use Rattle.std.specs.Prelude.{◌≡◌, ◌≤◌, None, string_bytes, string_len, IfOk};
+ghost use Rattle.ftl_answer.specs.answers.Answers.{shown_by};
+ghost use Rattle.ftl_deps.specs.reads.Meant.{meant};
+ghost use Rattle.ftl_limits.specs.faults.PlanFaults.{first_fault};
+ghost use Rattle.ftl_requests.specs.requests.Asked.{EndsIn};
+ghost use Rattle.ftl_requests.specs.requests.Requests.{IsAnsweredBy, problem_stage};
+ghost use Rattle.ftl_requests.specs.requests.ShownTexts.{text_shown};
+ghost use Rattle.ftl_run.specs.calls.ShownTables.{IsSolvedBy};
+ghost use Rattle.ftl_run.specs.calls.SolvedPages.{AreReady, IsPlannable, document_stage};
+ghost use Rattle.ftl_run.specs.calls.SolvedPages.{rules_stage};
+ghost use Rattle.ftl_schedule.specs.stages.Stages.{stages_of};
+
+use crate::calls::shown::table_shown;
+use crate::calls::solving::{Rules, is_solved, plan_of, rules_of, text_of};
+use ftl_checked::grammars::Checked;
+use ftl_plan::plans::solve_alone;
+use ftl_requests::requests::{Problem, Request, Shown, Undone, ended};
+use ftl_requests::sections::{Decided, Undecided, tree_of};
+use ftl_schedule::check::Accepted;
+use ftl_tree::trees::Tree;
+use ftl_visit::compiled::compile;
+use std::alloc::{AllocError, Global};
+
+/// The answer to what is asked for, found on the calling thread.
+pub(crate) fn answered_alone(
+    alloc: Global,
+    requested: Result<Request, Undone>,
+) -> Result<Decided, Undone>
+    ensures answered { IsAnsweredBy requested result }
+{
+    match requested? {
+        Request::Answered(decided) => Ok(decided),
+        Request::Solve(problem) => Ok(ended(told_alone(alloc, problem))?),
+    }
+}
+
+/// The table of a page, shown, or the page's refusal.
+fn told_alone(alloc: Global, problem: Problem) -> Result<Decided, Undecided>
+    ensures outcome { EndsIn (problem_stage problem) result }
+{
+    let Problem { shown, how, bytes } = problem;
+    match rules_of(alloc, bytes) {
+        Ok(rules) => rules_told(alloc, &shown, how.grain, rules),
+        Err(end) => Err(end),
+    }
+}
+
+fn rules_told(alloc: Global, shown: &Shown, grain: u32, rules: Rules) -> Result<Decided, Undecided>
+    requires ready { AreReady rules }
+    ensures outcome { EndsIn (rules_stage rules (text_shown shown.now)) result }
+{
+    let Rules {
+        checked,
+        accepted,
+        document,
+    } = rules;
+    let document = text_of(alloc, document);
+    document_told(alloc, shown, grain, &checked, &accepted, document)
+}
+
+fn document_told(
+    alloc: Global,
+    shown: &Shown,
+    grain: u32,
+    checked: &Checked,
+    accepted: &Accepted,
+    document: String,
+) -> Result<Decided, Undecided>
+    requires may { IsPlannable checked.now accepted.now }
+    requires short { string_len document ≤ 67108864 }
+    ensures outcome { EndsIn (document_stage checked.now accepted.now (string_bytes document)
+        (text_shown shown.now)) result }
+{
+    match tree_of(alloc, checked, accepted, document) {
+        Ok(tree) => tree_told(alloc, shown, grain, checked, accepted, &tree),
+        Err(end) => Err(end),
+    }
+}
+
+fn tree_told(
+    alloc: Global,
+    shown: &Shown,
+    grain: u32,
+    checked: &Checked,
+    accepted: &Accepted,
+    tree: &Tree<'_>,
+) -> Result<Decided, Undecided>
+    requires may { IsPlannable checked.now accepted.now }
+    requires grammar { tree.now.checked ≡ checked.now }
+    requires fits { first_fault (meant checked.now) (stages_of accepted.now) tree.now.tree ≡ None }
+    ensures outcome { EndsIn (shown_by (text_shown shown.now) checked.now tree.now.tree) result }
+{
+    let words = words_alone(alloc, grain, checked, accepted, tree)?;
+    Ok(table_shown(alloc, shown, tree, words.as_slice())?)
+}
+
+/// The words of the values that solve a tree.
+fn words_alone(
+    alloc: Global,
+    grain: u32,
+    checked: &Checked,
+    accepted: &Accepted,
+    tree: &Tree<'_>,
+) -> Result<Vec<u64>, AllocError>
+    requires may { IsPlannable checked.now accepted.now }
+    requires grammar { tree.now.checked ≡ checked.now }
+    requires fits { first_fault (meant checked.now) (stages_of accepted.now) tree.now.tree ≡ None }
+    ensures solved { IfOk result (λ v. IsSolvedBy tree.now v.items) }
+{
+    let programs = compile(alloc, checked)?;
+    let plan = plan_of(alloc, grain, checked, accepted, &programs, tree)?;
+    let words = solve_alone(alloc, &plan)?;
+    is_solved(&plan, tree, words.as_slice());
+    Ok(words)
+}

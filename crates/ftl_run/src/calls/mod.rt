@@ -1,0 +1,14 @@
+//! The top calls: words and a page in, boxes or one refusal line out, with a status. What is
+//! written is the answer of `ftl_answer::answers`; `ftl_answer::headline` has what is promised of
+//! both calls. What the words and the page ask for is found first, then a page that is to be solved
+//! is solved, by workers in threads of their own or on the calling thread, and then the answer is
+//! written.
+
+mod alone;
+mod layout;
+mod shown;
+mod solving;
+mod workers;
+
+pub use ftl_requests::sections::Status;
+pub use layout::{layout_alone, layout_top};

@@ -1,0 +1,64 @@
+//! Tables, shown.
+
+ghost use Rattle.std.specs.Prelude.{◌≡◌, length, IfOk, if◌then◌else◌};
+ghost use Rattle.ftl_answer.specs.answers.Answers.{shown_by};
+ghost use Rattle.ftl_answer.specs.answers.Stages.{ends};
+ghost use Rattle.ftl_tree.specs.boxes.WordValues.{table_of_words};
+ghost use Rattle.ftl_deps.specs.reads.Meant.{meant};
+ghost use Rattle.ftl_model.specs.layout.Table.{instance_count};
+ghost use Rattle.ftl_requests.specs.sections.Outcomes.{answer_of};
+ghost use Rattle.ftl_requests.specs.requests.ShownTexts.{text_shown};
+ghost use Rattle.ftl_run.specs.calls.ShownTables.{IsSolvedBy, text_by};
+
+use ftl_answer::summary::print_summary;
+use ftl_requests::requests::Shown;
+use ftl_requests::sections::{Decided, Status};
+use ftl_tree::boxes::{print_boxes, shows_overflow, words_are_undone};
+use ftl_tree::trees::Tree;
+use std::alloc::{AllocError, Global};
+
+/// The table of these words, shown.
+#[inline(never)]
+pub(crate) fn table_shown(
+    alloc: Global,
+    shown: &Shown,
+    tree: &Tree<'_>,
+    words: &[u64],
+) -> Result<Decided, AllocError>
+    requires solved { IsSolvedBy tree.now words.now }
+    ensures outcome { IfOk result (λ d. shown_by (text_shown shown.now) tree.now.checked
+        tree.now.tree (ends (answer_of d))) }
+{
+    words_are_undone();
+    let status = status_by(shows_overflow(alloc, tree, words)?);
+    let text = text_of(alloc, shown, tree, words)?;
+    Ok(Decided { status, text })
+}
+
+/// The text of the table of these words.
+fn text_of(
+    alloc: Global,
+    shown: &Shown,
+    tree: &Tree<'_>,
+    words: &[u64],
+) -> Result<Vec<u8>, AllocError>
+    requires words { length words.now ≡ instance_count (meant tree.now.checked) tree.now.tree }
+    ensures text { IfOk result (λ v. v.items
+        ≡ text_by shown.now tree.now (table_of_words tree.now words.now)) }
+{
+    match shown {
+        Shown::Boxes => print_boxes(alloc, tree, words),
+        Shown::Summary(name) => print_summary(alloc, name.text().as_bytes(), tree, words),
+    }
+}
+
+/// The status of a table that was shown.
+fn status_by(overflows: bool) -> Status
+    ensures status { result.0 ≡ (if overflows then 8 else 0) }
+{
+    if overflows {
+        Status::OVERFLOW
+    } else {
+        Status::DONE
+    }
+}

@@ -1,0 +1,138 @@
+//! A page that is to be solved: its rules, and the plan of its tree.
+
+ghost use Rattle.std.specs.Prelude.{◌≡◌, ◌≤◌, length, None, string_bytes, string_len, IfOk, IfSome};
+ghost use Rattle.ftl_answer.specs.answers.Answers.{text_or_none, whole_page};
+ghost use Rattle.ftl_answer.specs.answers.Texts.{page, tree};
+ghost use Rattle.ftl_deps.specs.reads.Meant.{meant};
+ghost use Rattle.ftl_items.specs.stage_items.WordLaws.{HoldTheSolution};
+ghost use Rattle.ftl_page.specs.sections.Texts.{HasTextsUpTo};
+ghost use Rattle.ftl_visit.specs.compiled.RuleCode.{rule_codes};
+ghost use Rattle.ftl_limits.specs.faults.PlanFaults.{first_fault};
+ghost use Rattle.ftl_run.specs.calls.ShownTables.{IsSolvedBy};
+ghost use Rattle.ftl_run.specs.calls.SolvedPages.{AreReady, LeadsTo, IsPlannable};
+ghost use Rattle.ftl_requests.specs.sections.Outcomes.{IsOutcome};
+ghost use Rattle.ftl_items.specs.solution.Solution.{solution};
+ghost use Rattle.ftl_schedule.specs.stages.Stages.{stages_of};
+
+use ftl_checked::grammars::Checked;
+use ftl_items::solution::solution_solves;
+use ftl_order::orders::{reads_end_by_rank, values_are_in_range};
+use ftl_page::sections::{Need, Page, Text};
+use ftl_plan::plans::{Plan, PlanFault};
+use ftl_requests::sections::{Undecided, grammar_of, read_page, schedule_of};
+use ftl_schedule::check::Accepted;
+use ftl_tree::trees::Tree;
+use ftl_visit::compiled::Programs;
+use std::alloc::{AllocError, Global};
+
+/// The sections that are needed.
+const WHOLE_PAGE: Need = Need {
+    schedule: true,
+    document: true,
+    edits: false,
+};
+
+/// The grammar and the schedule of a page, and the text of its document.
+#[derive(Drop)]
+pub(crate) struct Rules {
+    pub checked: Checked,
+    pub accepted: Accepted,
+    pub document: Option<Text>,
+}
+
+/// The rules of a page, or its refusal. The page's bytes are let go as soon as its sections are
+/// there.
+pub(crate) fn rules_of(alloc: Global, bytes: Vec<u8>) -> Result<Rules, Undecided>
+    ensures outcome { LeadsTo bytes.items result }
+    ensures ready { IfOk result AreReady }
+{
+    let Page {
+        width,
+        grammar,
+        schedule,
+        document,
+        edits: _,
+    } = page_of(alloc, bytes)?;
+    let checked = grammar_of(alloc, width, grammar)?;
+    let accepted = schedule_of(alloc, &checked, schedule)?;
+    Ok(Rules {
+        checked,
+        accepted,
+        document,
+    })
+}
+
+/// The sections of a page, whose bytes are let go.
+fn page_of(alloc: Global, bytes: Vec<u8>) -> Result<Page, Undecided>
+    ensures outcome { IsOutcome (page whole_page bytes.items) (λ p. p) result }
+    ensures short { IfOk result (HasTextsUpTo 67108864) }
+{
+    read_page(alloc, bytes.as_slice(), WHOLE_PAGE)
+}
+
+/// The text of a section; empty where there is none.
+pub(crate) fn text_of(alloc: Global, text: Option<Text>) -> String
+    requires short { IfSome text (λ t. length t ≤ 67108864) }
+    ensures text { string_bytes result ≡ text_or_none text }
+    ensures short { string_len result ≤ 67108864 }
+{
+    match text {
+        Some(text) => text.into_string(),
+        None => String::new(alloc),
+    }
+}
+
+/// The plan of a tree, with subtrees of at most so many nodes as items, or of the nearest number
+/// that a plan may have.
+#[inline(never)]
+pub(crate) fn plan_of<'a>(
+    alloc: Global,
+    grain: u32,
+    checked: &'a Checked,
+    accepted: &'a Accepted,
+    programs: &'a Programs,
+    tree: &'a Tree<'a>,
+) -> Result<Plan<'a>, AllocError>
+    requires may { IsPlannable checked.now accepted.now }
+    requires rules { programs.now.rules ≡ rule_codes checked.now.grammar }
+    requires width { programs.now.width ≡ checked.now.width }
+    requires grammar { tree.now.checked ≡ checked.now }
+    requires fits { first_fault (meant checked.now) (stages_of accepted.now) tree.now.tree ≡ None }
+    ensures grammar { IfOk result (λ p. p.checked ≡ checked.now) }
+    ensures tree { IfOk result (λ p. p.tree ≡ tree.now.tree) }
+{
+    let grain = in_range(grain, 1_048_576);
+    match Plan::new(alloc, checked, accepted, programs, tree, grain) {
+        Ok(plan) => Ok(plan),
+        Err(PlanFault::OutOfMemory) => Err(AllocError),
+        Err(_) => unreachable!(),
+    }
+}
+
+/// The number, or the nearest one from 1 to the most.
+pub(crate) fn in_range(number: u32, most: u32) -> u32
+    requires some { 1 ≤ most }
+    ensures some { 1 ≤ result }
+    ensures most { result ≤ most }
+{
+    if number == 0 {
+        1
+    } else if number > most {
+        most
+    } else {
+        number
+    }
+}
+
+/// Says of the words of the solution of a plan that they are those of values that solve its tree.
+pub(crate) fn is_solved(plan: &Plan<'_>, tree: &Tree<'_>, words: &[u64])
+    requires grammar { tree.now.checked ≡ plan.now.checked }
+    requires tree { tree.now.tree ≡ plan.now.tree }
+    requires held { HoldTheSolution (solution (meant plan.now.checked) plan.now.tree) words.now }
+    ensures solved { IsSolvedBy tree.now words.now }
+{
+    solution_solves();
+    values_are_in_range();
+    reads_end_by_rank();
+    let _can_be_planned = plan.stage_count();
+}

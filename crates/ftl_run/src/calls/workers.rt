@@ -1,0 +1,144 @@
+//! Pages that are solved by workers in threads of their own.
+
+ghost use Rattle.std.specs.Prelude.{◌≡◌, ◌≤◌, None, string_bytes, string_len, IfOk};
+ghost use Rattle.ftl_answer.specs.answers.Answers.{shown_by};
+ghost use Rattle.ftl_deps.specs.reads.Meant.{meant};
+ghost use Rattle.ftl_limits.specs.faults.PlanFaults.{first_fault};
+ghost use Rattle.ftl_requests.specs.requests.Asked.{EndsIn};
+ghost use Rattle.ftl_requests.specs.requests.Requests.{IsAnsweredBy, problem_stage};
+ghost use Rattle.ftl_requests.specs.requests.ShownTexts.{text_shown};
+ghost use Rattle.ftl_run.specs.calls.ShownTables.{IsSolvedBy};
+ghost use Rattle.ftl_run.specs.calls.SolvedPages.{AreReady, IsPlannable, document_stage};
+ghost use Rattle.ftl_run.specs.calls.SolvedPages.{rules_stage};
+ghost use Rattle.ftl_schedule.specs.stages.Stages.{stages_of};
+
+use crate::calls::shown::table_shown;
+use crate::calls::solving::{Rules, in_range, is_solved, plan_of, rules_of, text_of};
+use crate::solve::solve;
+use ftl_checked::grammars::Checked;
+use ftl_edge::Gate;
+use ftl_page::commands::Solving;
+use ftl_requests::requests::{Problem, Request, Shown, Undone, ended};
+use ftl_requests::sections::{Decided, Undecided, tree_of};
+use ftl_schedule::check::Accepted;
+use ftl_tree::trees::Tree;
+use ftl_visit::compiled::compile;
+use std::alloc::{AllocError, Global};
+use std::sync::Wait;
+use std::thread::Threads;
+
+/// The answer to what is asked for. Pages are solved by as many workers as the words say, who call
+/// the gate as they begin an item of a stage that has several. One worker is the calling thread,
+/// also of a stage of one item, and calls no gate.
+pub(crate) fn answered_by_workers<R: Threads + Wait + Sync, G: Gate>(
+    rt: &R,
+    alloc: Global,
+    requested: Result<Request, Undone>,
+    gate: &G,
+) -> Result<Decided, Undone>
+    ensures answered { IsAnsweredBy requested result }
+{
+    match requested? {
+        Request::Answered(decided) => Ok(decided),
+        Request::Solve(problem) => Ok(ended(told_by_workers(rt, alloc, problem, gate))?),
+    }
+}
+
+/// The table of a page, shown, or the page's refusal.
+fn told_by_workers<R: Threads + Wait + Sync, G: Gate>(
+    rt: &R,
+    alloc: Global,
+    problem: Problem,
+    gate: &G,
+) -> Result<Decided, Undecided>
+    ensures outcome { EndsIn (problem_stage problem) result }
+{
+    let Problem { shown, how, bytes } = problem;
+    match rules_of(alloc, bytes) {
+        Ok(rules) => rules_told(rt, alloc, &shown, how, rules, gate),
+        Err(end) => Err(end),
+    }
+}
+
+fn rules_told<R: Threads + Wait + Sync, G: Gate>(
+    rt: &R,
+    alloc: Global,
+    shown: &Shown,
+    how: Solving,
+    rules: Rules,
+    gate: &G,
+) -> Result<Decided, Undecided>
+    requires ready { AreReady rules }
+    ensures outcome { EndsIn (rules_stage rules (text_shown shown.now)) result }
+{
+    let Rules {
+        checked,
+        accepted,
+        document,
+    } = rules;
+    let document = text_of(alloc, document);
+    document_told(rt, alloc, shown, how, &checked, &accepted, document, gate)
+}
+
+fn document_told<R: Threads + Wait + Sync, G: Gate>(
+    rt: &R,
+    alloc: Global,
+    shown: &Shown,
+    how: Solving,
+    checked: &Checked,
+    accepted: &Accepted,
+    document: String,
+    gate: &G,
+) -> Result<Decided, Undecided>
+    requires may { IsPlannable checked.now accepted.now }
+    requires short { string_len document ≤ 67108864 }
+    ensures outcome { EndsIn (document_stage checked.now accepted.now (string_bytes document)
+        (text_shown shown.now)) result }
+{
+    match tree_of(alloc, checked, accepted, document) {
+        Ok(tree) => tree_told(rt, alloc, shown, how, checked, accepted, &tree, gate),
+        Err(end) => Err(end),
+    }
+}
+
+fn tree_told<R: Threads + Wait + Sync, G: Gate>(
+    rt: &R,
+    alloc: Global,
+    shown: &Shown,
+    how: Solving,
+    checked: &Checked,
+    accepted: &Accepted,
+    tree: &Tree<'_>,
+    gate: &G,
+) -> Result<Decided, Undecided>
+    requires may { IsPlannable checked.now accepted.now }
+    requires grammar { tree.now.checked ≡ checked.now }
+    requires fits { first_fault (meant checked.now) (stages_of accepted.now) tree.now.tree ≡ None }
+    ensures outcome { EndsIn (shown_by (text_shown shown.now) checked.now tree.now.tree) result }
+{
+    let words = words_by_workers(rt, alloc, how, checked, accepted, tree, gate)?;
+    Ok(table_shown(alloc, shown, tree, words.as_slice())?)
+}
+
+/// The words of the values that solve a tree.
+fn words_by_workers<R: Threads + Wait + Sync, G: Gate>(
+    rt: &R,
+    alloc: Global,
+    how: Solving,
+    checked: &Checked,
+    accepted: &Accepted,
+    tree: &Tree<'_>,
+    gate: &G,
+) -> Result<Vec<u64>, AllocError>
+    requires may { IsPlannable checked.now accepted.now }
+    requires grammar { tree.now.checked ≡ checked.now }
+    requires fits { first_fault (meant checked.now) (stages_of accepted.now) tree.now.tree ≡ None }
+    ensures solved { IfOk result (λ v. IsSolvedBy tree.now v.items) }
+{
+    let programs = compile(alloc, checked)?;
+    let plan = plan_of(alloc, how.grain, checked, accepted, &programs, tree)?;
+    let workers = in_range(how.workers, 64);
+    let words = solve(rt, alloc, &plan, workers, gate)?;
+    is_solved(&plan, tree, words.as_slice());
+    Ok(words)
+}

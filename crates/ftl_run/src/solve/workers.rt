@@ -1,0 +1,76 @@
+//! All stages of a plan, one after the other, each by workers.
+ghost use Rattle.std.specs.Prelude.{◌≡◌, ◌<◌, ◌≤◌, IfOk, Some};
+ghost use Rattle.ftl_cells.specs.shared.State.{AreFirst, AreLast};
+ghost use Rattle.ftl_deps.specs.reads.Meant.{meant};
+ghost use Rattle.ftl_items.specs.stage_items.WordLaws.{HoldTheSolution};
+ghost use Rattle.ftl_items.specs.solution.Solution.{solution};
+ghost use Rattle.ftl_cells.specs.work_phases.Phases.{CanTake};
+ghost use Rattle.ftl_cells.specs.declared.work_phases.phase.Phases.{Phases};
+
+use ftl_cells::shared::{Cells, Work};
+use ftl_cells::work_phases::Phases;
+use ftl_edge::Gate;
+use ftl_plan::plans::{Plan, solve_alone};
+use ftl_ranges::run_ranges;
+use ftl_steal::{run_alone, run_stage};
+use std::alloc::{AllocError, Global};
+use std::sync::Wait;
+use std::thread::Threads;
+
+/// The words of the solution, one for each cell. A stage is run by so many workers, or by fewer
+/// where it has fewer items. One worker is the calling thread, also of a stage of one item, as an
+/// inorder pass is: it starts no other, shares no cells and calls no gate.
+pub fn solve<R: Threads + Wait + Sync, G: Gate>(
+    rt: &R,
+    alloc: Global,
+    plan: &Plan<'_>,
+    workers: u32,
+    gate: &G,
+) -> Result<Vec<u64>, AllocError>
+    requires some { 0 < workers }
+    requires few { workers ≤ 64 }
+    ensures solution { IfOk result (λ v. HoldTheSolution
+        (solution (meant plan.now.checked) plan.now.tree) v.items) }
+{
+    if workers == 1 {
+        return solve_alone(alloc, plan);
+    }
+    plan.words_fit();
+    let mut words = plan.first_words(alloc)?;
+    for stage in 0..plan.stage_count() {
+        let work = plan.stage(stage);
+        let ranges = workers.min(work.items().max(1));
+        let phases = work.phases(alloc, ranges)?;
+        words = words_after(rt, alloc, work, phases, words, workers, gate)?;
+    }
+    Ok(words)
+}
+
+/// The words after a work, from those that fit it. An item by itself is computed by the calling
+/// thread on the words as they are. Where the items have phases, each worker fills a range of the
+/// cells in place; elsewhere workers share the cells and take items from each other.
+fn words_after<R: Threads + Wait + Sync, W: Work + Drop, G: Gate>(
+    rt: &R,
+    alloc: Global,
+    work: W,
+    phases: Option<Phases>,
+    words: Vec<u64>,
+    workers: u32,
+    gate: &G,
+) -> Result<Vec<u64>, AllocError>
+    requires first { AreFirst (W.meaning work) words.items }
+    requires phases { (t : Phases) → phases ≡ Some t → CanTake (W.meaning work) t }
+    requires some { 0 < workers }
+    requires few { workers ≤ 64 }
+    ensures last { IfOk result (λ v. AreLast (W.meaning work) v.items) }
+{
+    if work.items() < 2 {
+        return run_alone(alloc, &work, words);
+    }
+    if let Some(phases) = phases {
+        return run_ranges(rt, alloc, &work, &phases, words, gate);
+    }
+    let (cells, hand) = Cells::open(alloc, work, words)?;
+    let hand = run_stage(rt, alloc, &cells, hand, workers, gate)?;
+    Ok(cells.close(hand))
+}

@@ -1,0 +1,18 @@
+use Rattle.std.proofs.Common.{sym, ap, ◌∙◌}
+use Rattle.ftl_schedule.specs.syntax.Reading.{schedule}
+use Rattle.ftl_schedule.proofs.syntax.Schedules.{is_spelled, is_no_schedule}
+use Rattle.ftl_schedule.proofs.syntax.read.read_written_schedule.Goals as goal
+
+pub returns-in-Ok : goal.returns-in-Ok
+returns-in-Ok c = record {
+  answer = is_spelled _ _ c.in-Ok.schedule (sym (ap schedule c.new-input.ensures.tokens) ∙ c.in-Ok.ensures);
+}
+
+-- the fault isn't that of memory
+pub returns-in-Err-Refused : goal.returns-in-Err-Refused
+returns-in-Err-Refused c = record {
+  answer =
+      let e = c.in-Err-Refused.ensures (λ memory. cc (c.in-Err-Refused.field-0-is)) in
+      is_no_schedule c.args.scanned.now c.schedule.new.input c.left.result c.place.result
+      (sym (ap schedule c.new-input.ensures.tokens) ∙ e) c.left.ensures.count c.place.ensures.place;
+}

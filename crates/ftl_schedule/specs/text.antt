@@ -1,0 +1,2 @@
+pub mod ScheduleText
+pub use Rattle.ftl_tokens.specs.writing.Written

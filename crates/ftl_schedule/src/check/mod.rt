@@ -1,0 +1,18 @@
+//! Schedules that are accepted. Goes in: a grammar that `ftl_checked::grammars` accepted, what its
+//! rules read, and a schedule of its computed attributes. Comes out: `Accepted`, the schedule with
+//! the spot of each attribute, or its first fault, which `specs/FirstFault.antt` of
+//! `ftl_order::faults` defines. `specs/check/Accepted.antt` says what follows for the trees of the
+//! grammar.
+
+mod accepted;
+mod check;
+mod kinds;
+mod missing;
+mod unordered;
+
+pub use crate::places::Spot;
+pub use accepted::Accepted;
+pub use check::verify;
+pub use ftl_order::faults::VerifyFault;
+pub use kinds::{attribute_count, is_input};
+pub use unordered::{read_count, read_of, standing};

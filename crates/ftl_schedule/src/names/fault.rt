@@ -1,0 +1,30 @@
+//! Why a text is no schedule of a grammar.
+
+ghost use Rattle.std.specs.Prelude.{◌≡◌};
+ghost use Rattle.ftl_schedule.specs.declared.names.fault.ScheduleFault.TheVariants as fault;
+
+use ftl_tokens::scanner::Name;
+use std::alloc::AllocError;
+
+/// Why a text is no schedule of a grammar. Places are counted in bytes, from 0.
+#[derive(Drop)]
+pub enum ScheduleFault {
+    /// The tokens before `at` begin some schedule; with the next one they don't, or there is none.
+    Syntax { at: u32 },
+    /// There are more passes than 2048.
+    TooManyPasses { count: u32 },
+    /// A stage, counted from 1, has more passes than 4.
+    TooManyBeside { stage: u32, count: u32 },
+    /// The names are those of no computed attribute.
+    UnknownAttribute { owner: Name, attr: Name },
+    /// No memory was left for the schedule.
+    OutOfMemory,
+}
+
+impl From<AllocError> for ScheduleFault {
+    ghost from_gives = { λ _ e. e ≡ fault.OutOfMemory };
+
+    fn from(_: AllocError) -> Self {
+        ScheduleFault::OutOfMemory
+    }
+}

@@ -1,8 +1,0 @@
-use Rattle.std.proofs.Common.{◌≡◌, ◌≤◌, ◌+◌, drop}
-use Rattle.ftl_schedule_reading.specs.Limits.{beside_fault, pass_count}
-use Rattle.ftl_schedule_reading.proofs.limits.beside_fault.Given as goal
-
-abbrev pub invariant-loop-number : goal.invariant-loop-number
-invariant-loop-number l =
-    (beside_fault (l.number + 1) (drop l.number l.stages) ≡ beside_fault 1 l.stages)
-    × (pass_count (drop l.number l.stages) ≤ pass_count l.stages)

@@ -1,5 +1,0 @@
-pub mod Trees
-pub mod Spelling
-pub mod Reading
-pub mod Read
-pub use Rattle.ftl_reading.specs.Place

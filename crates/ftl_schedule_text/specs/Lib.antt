@@ -1,2 +1,0 @@
-pub mod ScheduleText
-pub use Rattle.ftl_written.specs.Written

@@ -1,8 +1,0 @@
-use Rattle.std.proofs.Common.{not}
-use Rattle.ftl_model.specs.AttributeGrammar.{is_input}
-use Rattle.ftl_dep_table.specs.Meant.{meant}
-use Rattle.ftl_picks.proofs.Marks.{IsMarked}
-use Rattle.ftl_scheduler.proofs.computed.computed_row.Given as goal
-
-abbrev pub invariant-loop-attr : goal.invariant-loop-attr
-invariant-loop-attr l = IsMarked (λ a. not (is_input ((meant l.checked).sort a))) l.row l.attr

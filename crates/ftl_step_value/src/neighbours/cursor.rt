@@ -1,0 +1,146 @@
+//! The cells that a step reads of near nodes, one after the other.
+ghost use Rattle.std.specs.Prelude.{◌≡◌, ◌<◌, [], is_some, map, slice_index_or, IfNone, IfSome};
+ghost use Rattle.std.specs.List.{cons_option};
+ghost use Rattle.ftl_model.specs.layout.Tree.{size};
+ghost use Rattle.ftl_deps.specs.reads.Meant.{meant};
+ghost use Rattle.ftl_limits.specs.reads.ReadTables.{IsSound};
+ghost use Rattle.ftl_order.specs.steps.Steps.{IsStepOf};
+ghost use Rattle.ftl_step_value.specs.cells.ReadCells.{read_cells};
+ghost use Rattle.ftl_step_value.specs.neighbours.NearParts.{AreNearParts, is_near, near_at};
+ghost use Rattle.ftl_step_value.specs.neighbours.NearCells.{AreNear, IsNear, near_cell, near_cells};
+ghost use Rattle.ftl_step_value.specs.neighbours.NearCells.{site_node};
+
+use crate::neighbours::parts::NearParts;
+use crate::neighbours::reads::{NearRead, NearSite};
+use ftl_order::steps::Step;
+use ftl_tree::trees::Tree;
+use std::marker::Model;
+
+/// A cursor over the cells that a step reads, all of near nodes. Contracts see the cells that are
+/// left.
+#[derive(Drop)]
+pub struct NearCells<'a> {
+    tree: &'a Tree<'a>,
+    own: u32,
+    kid: u32,
+    before: u32,
+    reads: &'a [NearRead],
+    each: &'a [NearRead],
+    kids: &'a [u32],
+}
+
+impl<'a> Model for NearCells<'a> {
+    ghost use Rattle.std.specs.Prelude.{ℕ, List};
+
+    ghost Value = { List ℕ };
+
+    ghost use Rattle.ftl_step_value.specs.neighbours.NearCells.{IsCursor, cells_left};
+
+    ghost view = { cells_left };
+
+    ghost invariant = { IsCursor };
+}
+
+impl<'a> NearCells<'a> {
+    /// Before the first cell that a step reads; none where its rule reads elsewhere too.
+    #[inline(always)]
+    pub fn new(parts: &'a [NearParts], tree: &'a Tree<'a>, step: Step) -> Option<NearCells<'a>>
+        requires sound { IsSound (meant tree.now.checked) }
+        requires parts { AreNearParts tree.now.checked parts.now }
+        requires step { IsStepOf (meant tree.now.checked) tree.now.tree step }
+        ensures cells { IfSome result
+            (λ c. c ≡ read_cells (meant tree.now.checked) tree.now.tree step) }
+        ensures near { is_some result ≡ is_near (near_at parts.now step.rule) }
+    {
+        let _nodes = tree.node_count();
+        match &parts[step.rule as usize] {
+            NearParts::Own(reads) => {
+                Some(NearCells::of_part(tree, step.node, 0, 0, reads.as_slice()))
+            }
+            NearParts::Kids(child, first, later) => {
+                let kids = tree.kids(step.node, *child);
+                let kid = kids[step.kid as usize];
+                if step.kid == 0 {
+                    return Some(NearCells::of_part(tree, step.node, kid, 0, first.as_slice()));
+                }
+                let before = kids[step.kid as usize - 1];
+                Some(NearCells::of_part(tree, step.node, kid, before, later.as_slice()))
+            }
+            NearParts::Fold(child, start, each) => Some(NearCells {
+                tree,
+                own: step.node,
+                kid: 0,
+                before: 0,
+                reads: start.as_slice(),
+                each: each.as_slice(),
+                kids: tree.kids(step.node, *child),
+            }),
+            NearParts::Far => None,
+        }
+    }
+
+    // Before what a part reads that is read once.
+    #[inline(always)]
+    fn of_part(
+        tree: &'a Tree<'a>,
+        own: u32,
+        kid: u32,
+        before: u32,
+        reads: &'a [NearRead],
+    ) -> NearCells<'a>
+        requires near { AreNear tree.now own kid before reads.now }
+        ensures cells { result ≡ near_cells tree.now own kid before reads.now }
+    {
+        NearCells {
+            tree,
+            own,
+            kid,
+            before,
+            reads,
+            each: &[],
+            kids: &[],
+        }
+    }
+
+    /// The next cell; none at the end.
+    #[inline(always)]
+    pub fn next(&mut self) -> Option<u32>
+        ensures next { self.old ≡ cons_option result self.new }
+        ensures end { IfNone result (self.new ≡ []) }
+    {
+        loop {
+            if let [read, rest @ ..] = self.reads {
+                self.reads = rest;
+                return Some(near_cell(self.tree, self.own, self.kid, self.before, *read));
+            }
+            if let [kid, rest @ ..] = self.kids {
+                self.kids = rest;
+                self.kid = *kid;
+                self.reads = self.each;
+            } else {
+                return None;
+            }
+        }
+    }
+}
+
+/// The cell of a read, where these are the near nodes.
+#[inline(always)]
+fn near_cell(tree: &Tree<'_>, own: u32, kid: u32, before: u32, read: NearRead) -> u32
+    requires near { IsNear tree.now own kid before read }
+    ensures cell { result ≡ near_cell tree.now own kid before read }
+{
+    tree.instance(site_node(own, kid, before, read.site), read.attr)
+}
+
+/// The node of a site.
+#[inline(always)]
+fn site_node(own: u32, kid: u32, before: u32, site: NearSite) -> u32
+    ensures node { result ≡ site_node own kid before site }
+{
+    match site {
+        NearSite::Own => own,
+        NearSite::Kid => kid,
+        NearSite::Before => before,
+    }
+}

@@ -1,0 +1,115 @@
+//! What each rule reads of near nodes.
+ghost use Rattle.std.specs.Prelude.{◌≡◌, false, map, None, Some, IfOk};
+ghost use Rattle.ftl_deps.specs.reads.Meant.{meant};
+ghost use Rattle.ftl_limits.specs.reads.ReadTables.{AreTables};
+ghost use Rattle.ftl_deps.specs.parts.RuleParts.{parts_meant, read_meant};
+ghost use Rattle.ftl_step_value.specs.neighbours.NearParts.{AreNearParts, fold_parts, kids_parts};
+ghost use Rattle.ftl_step_value.specs.neighbours.NearParts.{near_list, near_parts_of, own_parts};
+
+use crate::neighbours::reads::{NearRead, near_list};
+use ftl_checked::grammars::Checked;
+use ftl_deps::parts::{PartRead, RuleParts};
+use ftl_limits::reads::ReadTables;
+use sqlite_items::Items;
+use std::alloc::{AllocError, Global};
+
+/// What a rule reads of near nodes, where it reads of no others.
+#[derive(Drop)]
+pub enum NearParts {
+    /// A rule of one part for the node itself.
+    Own(Items<NearRead>),
+    /// A rule for the kids of this child: for its first kid, and for each later one.
+    Kids(u32, Items<NearRead>, Items<NearRead>),
+    /// A fold over the kids of this child: its start, and its step at each kid.
+    Fold(u32, Items<NearRead>, Items<NearRead>),
+    /// A rule that reads elsewhere too.
+    Far,
+}
+
+/// What each rule reads of near nodes, by the rule's number.
+pub fn near_parts(
+    alloc: Global,
+    tables: &ReadTables,
+    checked: &Checked,
+) -> Result<Vec<NearParts>, AllocError>
+    requires tables { AreTables (meant checked.now) tables.now }
+    ensures parts { IfOk result (λ v. AreNearParts checked.now v.items) }
+{
+    let _lawful = checked.grammar();
+    let rows = tables.parts.as_slice();
+    let mut parts = Vec::new(alloc);
+    for rule in 0..checked.rule_count() {
+        let child = checked.rule(rule).child;
+        parts.push(parts_of(alloc, child, &rows[rule as usize])?)?;
+    }
+    Ok(parts)
+}
+
+/// What a rule with these parts reads of near nodes, which is for the kids of this child, or for
+/// the node itself.
+fn parts_of(alloc: Global, child: Option<u32>, parts: &RuleParts) -> Result<NearParts, AllocError>
+    ensures parts { IfOk result (λ p. p ≡ near_parts_of child (parts_meant parts.now)) }
+{
+    match parts {
+        RuleParts::Plain(reads) => match child {
+            None => own_parts(alloc, reads.as_slice()),
+            Some(of) => kids_parts(alloc, of, reads.as_slice(), false, reads.as_slice()),
+        },
+        RuleParts::FirstThen(first, later) => match child {
+            None => Ok(NearParts::Far),
+            Some(of) => kids_parts(alloc, of, first.as_slice(), true, later.as_slice()),
+        },
+        RuleParts::FoldOver(over, start, step) => {
+            fold_parts(alloc, *over, start.as_slice(), step.as_slice())
+        }
+    }
+}
+
+fn own_parts(alloc: Global, reads: &[PartRead]) -> Result<NearParts, AllocError>
+    ensures parts { IfOk result (λ p.
+        p ≡ own_parts (near_list None false (map read_meant reads.now))) }
+{
+    match near_list(alloc, None, false, reads)? {
+        Some(reads) => Ok(NearParts::Own(reads)),
+        None => Ok(NearParts::Far),
+    }
+}
+
+/// Those of a rule for the kids of a child; whether its part for later kids is another than that
+/// for the first.
+fn kids_parts(
+    alloc: Global,
+    child: u32,
+    first: &[PartRead],
+    is_later: bool,
+    later: &[PartRead],
+) -> Result<NearParts, AllocError>
+    ensures parts { IfOk result (λ p. p ≡ kids_parts child
+        (near_list (Some child) false (map read_meant first.now))
+        (near_list (Some child) is_later (map read_meant later.now))) }
+{
+    let first = near_list(alloc, Some(child), false, first)?;
+    let later = near_list(alloc, Some(child), is_later, later)?;
+    match (first, later) {
+        (Some(first), Some(later)) => Ok(NearParts::Kids(child, first, later)),
+        _ => Ok(NearParts::Far),
+    }
+}
+
+fn fold_parts(
+    alloc: Global,
+    child: u32,
+    start: &[PartRead],
+    step: &[PartRead],
+) -> Result<NearParts, AllocError>
+    ensures parts { IfOk result (λ p. p ≡ fold_parts child
+        (near_list None false (map read_meant start.now))
+        (near_list (Some child) false (map read_meant step.now))) }
+{
+    let start = near_list(alloc, None, false, start)?;
+    let step = near_list(alloc, Some(child), false, step)?;
+    match (start, step) {
+        (Some(start), Some(step)) => Ok(NearParts::Fold(child, start, step)),
+        _ => Ok(NearParts::Far),
+    }
+}

@@ -1,8 +1,0 @@
-use Rattle.ftl_tokens.proofs.PieceLemmas.{short_mark_is, no_mark_is}
-use Rattle.ftl_tokens.proofs.piece.short_piece.Goals as goal
-
-pub returns-in-Some : goal.returns-in-Some
-returns-in-Some c = λ greatest. short_mark_is greatest c.args.c c.short_mark.result c.in-Some.kind c.len_utf8.result c.short_mark.ensures c.in-Some.is c.len_utf8.ensures.value
-
-pub returns-in-None : goal.returns-in-None
-returns-in-None c = λ greatest. no_mark_is greatest c.args.c c.short_mark.result c.short_mark.ensures c.in-None.is

@@ -1,7 +1,0 @@
-use Rattle.std.proofs.Common.{drop}
-use Rattle.ftl_tokens.specs.Run.{goes_on}
-use Rattle.ftl_tokens.proofs.RunLemmas.{RunsThrough}
-use Rattle.ftl_tokens.proofs.run.run_length.Given as goal
-
-abbrev pub invariant-loop-at : goal.invariant-loop-at
-invariant-loop-at l = RunsThrough (goes_on l.run) l.text l.at (drop l.at l.text)

@@ -1,5 +1,0 @@
-use Rattle.ftl_tree.proofs.OneInput.{changes_one}
-use Rattle.ftl_tree.proofs.laws.one_input_changes.Goals as goal
-
-pub returns : goal.returns
-returns c = record { one = changes_one }

@@ -1,0 +1,8 @@
+use Rattle.ftl_deps.specs.reads.Meant.{meant}
+use Rattle.ftl_tree.specs.rows.ClassRows.{AreWidths}
+use Rattle.ftl_tree.specs.rows.Rows.{attribute_width}
+use Rattle.ftl_tree.proofs.trees.widths.attribute_widths.Given as goal
+
+-- the widths of the classes so far
+abbrev pub invariant-loop-class : goal.invariant-loop-class
+invariant-loop-class l = AreWidths (attribute_width (meant l.checked)) l.class l.widths.items

@@ -1,8 +1,0 @@
-use Rattle.ftl_dep_table.specs.Meant.{meant}
-use Rattle.ftl_tree_rows.specs.ClassRows.{AreWidths}
-use Rattle.ftl_tree_rows.specs.Rows.{attribute_width}
-use Rattle.ftl_tree.proofs.widths.attribute_widths.Given as goal
-
--- the widths of the classes so far
-abbrev pub invariant-loop-class : goal.invariant-loop-class
-invariant-loop-class l = AreWidths (attribute_width (meant l.checked)) l.class l.widths.items

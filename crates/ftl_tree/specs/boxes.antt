@@ -1,0 +1,3 @@
+pub mod WordValues
+pub mod Shows
+pub use Rattle.ftl_model.specs.layout.Boxes

@@ -1,0 +1,8 @@
+use Rattle.std.proofs.Common.{◌≡◌, None}
+use Rattle.ftl_deps.specs.reads.Meant.{meant}
+use Rattle.ftl_visit.specs.visits.Visits.{rule_number}
+use Rattle.ftl_visit.specs.rule_tables.RuleTables.{by_number}
+use Rattle.ftl_visit.proofs.rule_tables.tables.own_row.Given as goal
+
+abbrev pub invariant-loop-attr : goal.invariant-loop-attr
+invariant-loop-attr l = l.row ≡ by_number (rule_number (meant l.index) l.class None) l.attr

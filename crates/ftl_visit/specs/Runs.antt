@@ -1,8 +1,0 @@
--- The code of rules with a count of its runs.
-use Rattle.std.specs.Prelude.{ℕ}
-use Rattle.ftl_programs.specs.RuleCode.{Compiled}
-
--- both
-pub record CountedCode : Type 0 where
-  pub programs : Compiled
-  pub runs : ℕ

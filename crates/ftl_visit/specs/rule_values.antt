@@ -1,0 +1,3 @@
+pub mod PartValues
+pub mod StepPlaces
+pub mod Runs

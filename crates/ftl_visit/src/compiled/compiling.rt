@@ -1,0 +1,51 @@
+//! The code of a grammar.
+ghost use Rattle.std.specs.Prelude.{◌≡◌, ◌++◌, map, IfOk, OnOk};
+ghost use Rattle.std.specs.List.{All};
+ghost use Rattle.ftl_visit.specs.compiled.Compilable.{HasCode, IsCompilableClass, IsCompilableRule};
+ghost use Rattle.ftl_visit.specs.compiled.Pieces.{IsBuilt, codes_in};
+ghost use Rattle.ftl_visit.specs.compiled.RuleCode.{class_codes, rule_code, rule_codes};
+
+use crate::compiled::built::{Built, push_rule};
+use crate::compiled::programs::Programs;
+use ftl_checked::grammars::Checked;
+use ftl_grammar::syntax::{Class, Rule};
+use std::alloc::{AllocError, Global};
+
+/// Makes the code of each part of each rule.
+pub fn compile(alloc: Global, checked: &Checked) -> Result<Programs, AllocError>
+    requires code { HasCode checked.now.grammar }
+    ensures width { IfOk result (λ p. p.width ≡ checked.now.width) }
+    ensures rules { IfOk result (λ p. p.rules ≡ rule_codes checked.now.grammar) }
+{
+    let built = build(alloc, checked.grammar().classes.as_slice())?;
+    Ok(Programs::new(checked.width(), built))
+}
+
+fn build(alloc: Global, classes: &[Class]) -> Result<Built, AllocError>
+    requires code { All IsCompilableClass classes.now }
+    ensures codes { IfOk result (λ b. codes_in b ≡ class_codes classes.now) }
+    ensures built { IfOk result (λ b. IsBuilt b) }
+{
+    let mut built = Built {
+        instructions: Vec::new(alloc),
+        rules: Vec::new(alloc),
+        max_stack: 0,
+    };
+    for class in classes {
+        push_rules(alloc, class.rules.as_slice(), &mut built)?;
+    }
+    Ok(built)
+}
+
+fn push_rules(alloc: Global, rules: &[Rule], built: &mut Built) -> Result<(), AllocError>
+    requires code { All IsCompilableRule rules.now }
+    requires built { IsBuilt built.old }
+    ensures codes { OnOk result (codes_in built.new
+        ≡ codes_in built.old ++ map (λ r. rule_code r.body) rules.now) }
+    ensures built { OnOk result (IsBuilt built.new) }
+{
+    for rule in rules {
+        push_rule(alloc, &rule.body, built)?;
+    }
+    Ok(())
+}

@@ -1,6 +1,0 @@
-use Rattle.ftl_dep_table.specs.Meant.{meant}
-use Rattle.ftl_visit_rows.proofs.MadeVisits.{AreMade}
-use Rattle.ftl_visit_rows.proofs.pass_visits.PassVisits.new.Given as goal
-
-abbrev pub invariant-loop-class : goal.invariant-loop-class
-invariant-loop-class l = AreMade (meant l.index) l.kind l.attrs l.class l.starts.items l.ops.items

@@ -1,5 +1,0 @@
-use Rattle.ftl_works.proofs.EightLaws.{eight_is_lawful}
-use Rattle.ftl_works.proofs.eight.EightAloneWork.items.Goals as goal
-
-pub returns-clause-lawful : goal.returns-clause-lawful
-returns-clause-lawful c = eight_is_lawful

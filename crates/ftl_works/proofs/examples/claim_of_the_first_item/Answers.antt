@@ -1,8 +1,0 @@
-use Rattle.std.proofs.Common.{refl}
-use Rattle.ftl_cells.specs.Work.{cell_total, item_total, pred_total, next_total, next_at, step_total, target_of, reads_of_step, solution_at}
-use Rattle.ftl_cells.specs.State.{claims}
-use Rattle.ftl_works.proofs.examples.claim_of_the_first_item.Goals as goal
-
-pub returns : goal.returns
-unfolding cell_total item_total pred_total next_total next_at step_total target_of reads_of_step solution_at
-returns c = claims 0 refl refl

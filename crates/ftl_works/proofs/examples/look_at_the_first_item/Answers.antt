@@ -1,8 +1,0 @@
-use Rattle.std.proofs.Common.{refl, arith}
-use Rattle.ftl_cells.specs.Work.{cell_total, item_total, pred_total, next_total, next_at, step_total, target_of, reads_of_step, solution_at}
-use Rattle.ftl_cells.specs.State.{finds_ready}
-use Rattle.ftl_works.proofs.examples.look_at_the_first_item.Goals as goal
-
-pub returns : goal.returns
-unfolding cell_total item_total pred_total next_total next_at step_total target_of reads_of_step solution_at
-returns c = finds_ready 0 refl (omega arith) refl

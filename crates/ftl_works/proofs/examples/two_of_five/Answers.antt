@@ -1,8 +1,0 @@
-use Rattle.std.proofs.Common.{arith}
-use Rattle.ftl_cells.specs.Count.{at_zero, counts_it, skips_it}
-use Rattle.ftl_works.proofs.examples.two_of_five.Goals as goal
-
-pub returns : goal.returns
-returns c =
-    skips_it (λ h. omega arith) (skips_it (λ h. omega arith) (skips_it (λ h. omega arith)
-    (counts_it (omega arith) (counts_it (omega arith) at_zero))))

@@ -1,6 +1,0 @@
-use Rattle.std.proofs.Common.{arith}
-use Rattle.ftl_works.proofs.LadderLaws.{ladder_is_lawful}
-use Rattle.ftl_works.proofs.ladder.LadderWork.items.Goals as goal
-
-pub returns-clause-lawful : goal.returns-clause-lawful
-returns-clause-lawful c = ladder_is_lawful c.args.self.now.items (omega arith)

@@ -1,5 +1,0 @@
-use Rattle.ftl_works.proofs.StarLaws.{star_is_lawful}
-use Rattle.ftl_works.proofs.star.StarWork.items.Goals as goal
-
-pub returns-clause-lawful : goal.returns-clause-lawful
-returns-clause-lawful c = star_is_lawful

@@ -1,2 +1,0 @@
-pub mod Written
-pub use Rattle.ftl_tokens.specs.Tokenized
