@@ -1,3 +1,6 @@
+mod Refusals
 mod Statuses
+mod Shown
 mod Bytes
 mod Tables
+mod Written

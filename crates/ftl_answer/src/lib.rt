@@ -1,11 +1,13 @@
-//! TODO: what this room has. Its folders, from the bottom up:
+//! The answer to words and to the bytes of a page. Goes in: words and bytes, as definitions see
+//! them. Comes out: the status and the text that they are answered with, what is promised of a call
+//! that writes it, and the lines that refuse, with the calls that write them.
 //!
-//! - `refusals`: The lines that refuse.
-//! - `worked_lines`: Refusal lines that were typed out by hand.
-//! - `answers`: The answer to words and to the bytes of a page, as a definition without code.
-//! - `summary`: The summary of a tree of a sample.
-//! - `headline`: What is promised of a call that writes the answer to its words and to the bytes
-//!   that its source had left, as a definition without code.
+//! - `refusals`: the line of each fault of a page, a text, a grammar, a schedule, a document or a
+//!   plan
+//! - `worked_lines`: refusal lines that were typed by hand
+//! - `answers`: the answer, built of stages each of which ends with a refusal or hands a value on
+//! - `summary`: `print_summary`: the summary of a sample
+//! - `headline`: what is promised of the status, the text, the faults and the input
 #![tactic(auto)]
 
 pub mod answers;
@@ -13,3 +15,11 @@ pub mod headline;
 pub mod refusals;
 pub mod summary;
 pub mod worked_lines;
+
+pub use answers::one_answer;
+pub use headline::{answers_have_statuses, one_table};
+pub use refusals::{
+    write_document_fault, write_grammar_fault, write_page_fault, write_plan_fault,
+    write_schedule_fault, write_stuck, write_syntax_fault, write_token_fault, write_verify_fault,
+};
+pub use summary::print_summary;

@@ -17,7 +17,7 @@ pub enum Cmp {
 
 impl Cmp {
     fn holds(self, m: i64, n: i64) -> bool
-        ensures { result ≡ holds self m n }
+        ensures holds { result ≡ holds self m n }
     {
         match self {
             Cmp::Less => m < n,

@@ -36,7 +36,7 @@ class Word : Box { input iw, ih;
 /// The text of the grammar.
 #[tactic(auto, unfolding(crate::specs::Block::block_text))]
 pub(crate) fn text() -> &'static str
-    ensures { result.now ≡ block_text }
+    ensures text { result.now ≡ block_text }
 {
     TEXT
 }

@@ -73,7 +73,7 @@ class FloatRight : Box { input iw, ih;
 /// The text of the grammar.
 #[tactic(auto, unfolding(crate::specs::Float::float_text))]
 pub(crate) fn text() -> &'static str
-    ensures { result.now ≡ float_text }
+    ensures text { result.now ≡ float_text }
 {
     TEXT
 }

@@ -120,7 +120,7 @@ class Cell : Slot { input iw, ih;
 /// The text of the grammar.
 #[tactic(auto, unfolding(crate::specs::Flow::flow_text))]
 pub(crate) fn text() -> &'static str
-    ensures { result.now ≡ flow_text }
+    ensures text { result.now ≡ flow_text }
 {
     TEXT
 }

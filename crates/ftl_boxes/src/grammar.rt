@@ -18,7 +18,7 @@ pub(crate) enum Grammar {
 
 impl Grammar {
     pub(crate) fn named(name: &[u8]) -> Option<Grammar>
-        ensures { result ≡ shipped_grammar name.now }
+        ensures grammar { result ≡ shipped_grammar name.now }
     {
         if name == b"stack".as_slice() {
             Some(Grammar::Stack)
@@ -38,7 +38,7 @@ impl Grammar {
     }
 
     pub(crate) fn name(self) -> &'static str
-        ensures { result.now ≡ name_of self }
+        ensures name { result.now ≡ name_of self }
     {
         match self {
             Grammar::Stack => "stack",
@@ -51,7 +51,7 @@ impl Grammar {
     }
 
     pub(crate) fn text(self) -> &'static str
-        ensures { result.now ≡ text_of self }
+        ensures text { result.now ≡ text_of self }
     {
         match self {
             Grammar::Stack => stack::text(),

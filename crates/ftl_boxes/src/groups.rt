@@ -10,7 +10,7 @@ use crate::pieces::{Sample, is_grid};
 use std::alloc::AllocError;
 
 fn opening(grammar: Grammar, group: u32) -> &'static str
-    ensures { result.now ≡ opening grammar group }
+    ensures text { result.now ≡ opening grammar group }
 {
     match grammar {
         Grammar::Stack => "Column { kids = [ ",

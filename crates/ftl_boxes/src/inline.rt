@@ -44,7 +44,7 @@ class Word : Item { input iw, ih; local brk;
 /// The text of the grammar.
 #[tactic(auto, unfolding(crate::specs::Inline::inline_text))]
 pub(crate) fn text() -> &'static str
-    ensures { result.now ≡ inline_text }
+    ensures text { result.now ≡ inline_text }
 {
     TEXT
 }

@@ -14,7 +14,7 @@ pub(crate) struct Numbers {
 impl Numbers {
     /// A number below the bound. The state moves first.
     pub(crate) fn draw(&mut self, bound: u32) -> u32
-        requires { 0 < bound }
+        requires some { 0 < bound }
         ensures drawn { result ≡ drawn bound self.new.state }
         ensures moved { self.new.state ≡ next_state self.old.state }
         ensures below { result < bound }

@@ -17,21 +17,21 @@ pub(crate) struct Sample {
 }
 
 fn push_box(out: &mut String, class: &str, width: u32, height: u32) -> Result<(), AllocError>
-    ensures { OnOk result (string_bytes out.new ≡ string_bytes out.old ++ box_text class.now width
-        height) }
+    ensures text { OnOk result (string_bytes out.new ≡ string_bytes out.old ++ box_text class.now
+        width height) }
 {
     write!(out, "{class} {{ iw = {width} ih = {height} }} ")
 }
 
 fn push_strip(out: &mut String, height: u32) -> Result<(), AllocError>
-    ensures { OnOk result (string_bytes out.new ≡ string_bytes out.old ++ strip_text height) }
+    ensures text { OnOk result (string_bytes out.new ≡ string_bytes out.old ++ strip_text height) }
 {
     write!(out, "Strip {{ ih = {height} }} ")
 }
 
 /// Whether this group of a sample of `flow` is a grid.
 pub(crate) fn is_grid(group: u32) -> bool
-    ensures { result ≡ is_grid group }
+    ensures grid { result ≡ is_grid group }
 {
     group % 4 == 3
 }
@@ -44,8 +44,8 @@ impl Sample {
         width: u32,
         height: u32,
     ) -> Result<(), AllocError>
-        ensures { OnOk result (string_bytes out.new ≡ string_bytes out.old ++ piece_of self.grammar
-            piece width height) }
+        ensures text { OnOk result (string_bytes out.new ≡ string_bytes out.old ++ piece_of
+            self.grammar piece width height) }
     {
         match self.grammar {
             Grammar::Float if piece % 8 == 0 => push_box(out, "FloatLeft", width, height),
@@ -64,7 +64,7 @@ impl Sample {
         numbers: &mut Numbers,
         piece: u32,
     ) -> Result<(), AllocError>
-        requires { numbers.old.state ≡ state self.size (2 * piece) }
+        requires state { numbers.old.state ≡ state self.size (2 * piece) }
         ensures text { OnOk result (string_bytes out.new ≡ string_bytes out.old ++ piece_text
             self.grammar self.size piece) }
         ensures state { numbers.new.state ≡ state self.size (2 * (piece + 1)) }

@@ -35,7 +35,7 @@ pub fn sample_page(alloc: Global, n: u32, grammar: &str) -> Result<String, Sampl
 }
 
 fn head(grammar: Grammar) -> &'static str
-    ensures { result.now ≡ head grammar }
+    ensures text { result.now ≡ head grammar }
 {
     match grammar {
         Grammar::Stack => "Sheet { body = Column { kids = [\n",
@@ -49,7 +49,7 @@ fn head(grammar: Grammar) -> &'static str
 }
 
 fn tail(grammar: Grammar) -> &'static str
-    ensures { result.now ≡ tail grammar }
+    ensures text { result.now ≡ tail grammar }
 {
     match grammar {
         Grammar::Stack | Grammar::Block => "] } }\n",

@@ -26,7 +26,7 @@ class Word : Box { input iw, ih;
 /// The text of the grammar.
 #[tactic(auto, unfolding(crate::specs::Stack::stack_text))]
 pub(crate) fn text() -> &'static str
-    ensures { result.now ≡ stack_text }
+    ensures text { result.now ≡ stack_text }
 {
     TEXT
 }

@@ -60,7 +60,7 @@ class Cell : Slot { input iw, ih;
 /// The text of the grammar.
 #[tactic(auto, unfolding(crate::specs::Table::table_text))]
 pub(crate) fn text() -> &'static str
-    ensures { result.now ≡ table_text }
+    ensures text { result.now ≡ table_text }
 {
     TEXT
 }

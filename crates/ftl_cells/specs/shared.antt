@@ -3,7 +3,7 @@ pub mod Work
 pub mod State
 pub mod Kept
 pub mod Calls
-pub mod Told
+pub mod Effects
 pub mod Table
 pub mod Diamond
 pub mod Shape

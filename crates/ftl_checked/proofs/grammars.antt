@@ -1,4 +1,4 @@
 pub mod SlotSets
 pub mod RuleLists
-pub mod NeedLists
+pub mod MissingLists
 pub mod RuleInfos

@@ -1,4 +1,4 @@
 pub mod Tables
 pub mod Found
-pub mod Told
+pub mod OwnerInfos
 pub use Rattle.ftl_grammar.specs.syntax.Trees

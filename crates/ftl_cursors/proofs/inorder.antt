@@ -1,5 +1,8 @@
+pub mod ListedRules
 pub mod KeyedLists
 pub mod RunRules
+pub mod Pieces
+pub mod KidByKid
 pub mod SequenceKids
 pub mod SequenceVisits
 pub mod InorderTargets

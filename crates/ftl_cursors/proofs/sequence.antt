@@ -2,7 +2,7 @@ pub mod VisitShape
 pub mod RestLemmas
 pub mod MovesByKids
 pub mod MoveLemmas
-pub mod Near
+pub mod CursorMoves
 pub mod Above
 pub mod BlockLemmas
 pub mod PlaceTable

@@ -1,13 +1,14 @@
-//! TODO: what this room has. Its folders, from the bottom up:
+//! The steps of items, one after another. Goes in: a tree, the passes of a stage with their visits,
+//! and how many nodes an item has at most. Comes out: cursors that give each item's steps without
+//! recursion and without memory, and rows that tell which items there are.
 //!
-//! - `visit_steps`: Why the visits of `ftl_visit::visits` are those of `ftl_items::stage_items`.
-//! - `inorder`: The sequence of an inorder pass, node by node, as definitions and laws without
-//!   code.
-//! - `items`: The items of a stage in flat rows.
-//! - `sequence`: The steps of an inorder pass, one after another.
-//! - `stages`: What a plan keeps for a stage, once for all nodes.
-//! - `visits`: The steps of the visits of some nodes, one after another.
-//! - `item_cursor`: The steps of an item, one after another.
+//! - `visit_steps`: the visits of `ftl_visit` are those of `ftl_items`
+//! - `inorder`: what in-order visits run is the sequence of the pass
+//! - `items`: `ItemRows`, `StageItems`: the items of a stage in flat rows
+//! - `sequence`: `SequenceCursor`: the steps of an in-order pass
+//! - `stages`: `StageRows`: what a plan keeps for a stage, once for all nodes
+//! - `visits`: `VisitCursor`: the steps of the visits of a range of nodes
+//! - `item_cursor`: `ItemCursor`: the steps of an item
 #![tactic(auto)]
 
 pub mod inorder;
@@ -17,3 +18,7 @@ pub mod sequence;
 pub mod stages;
 pub mod visit_steps;
 pub mod visits;
+
+pub use item_cursor::{ItemCursor, ItemTables, item_steps, step_at, step_count};
+pub use items::{ItemRows, StageItems};
+pub use stages::StageRows;

@@ -1,3 +1,4 @@
-pub mod FaultsTold
+pub mod AnsweredFaults
 pub mod ReadOnce
 pub mod NodesRead
+pub mod Widths

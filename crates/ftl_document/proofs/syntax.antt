@@ -3,7 +3,7 @@ pub mod RowTurns
 pub mod CountLemmas
 pub mod Parts
 pub mod Heights
-pub mod Told
+pub mod DocumentPrefix
 pub mod Went
 pub mod OneAhead
 pub mod RowLemmas

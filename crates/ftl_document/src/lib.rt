@@ -1,10 +1,12 @@
-//! TODO: what this room has. Its folders, from the bottom up:
+//! Documents of a grammar. Goes in: a grammar that `ftl_checked` accepted, and the tokens of a
+//! text. Comes out: the one tree that they mean, or the first fault, of the text and then of the
+//! nodes in preorder.
 //!
-//! - `syntax`: Documents as they are written.
-//! - `faults`: The first fault of a document, and the tree that it means.
-//! - `fields`: What the names of a written document stand for.
-//! - `nodes`: The nodes of a written document, one after another.
-//! - `reading`: Documents of a grammar, read from tokens.
+//! - `syntax`: `read_written_document`: the document that tokens spell, as flat rows by name
+//! - `faults`: the first fault of a document, and the tree that it means
+//! - `fields`: what the names of one node stand for
+//! - `nodes`: `document_nodes`: the nodes of a document, by one walk
+//! - `reading`: `read_document`: the tree of a document, or its first fault
 #![tactic(auto)]
 
 pub mod faults;
@@ -12,3 +14,8 @@ pub mod fields;
 pub mod nodes;
 pub mod reading;
 pub mod syntax;
+
+pub use faults::{DocFault, faultless_documents_are_trees, trees_are_written};
+pub use nodes::document_nodes;
+pub use reading::read_document;
+pub use syntax::{WrittenDocument, WrittenRow, read_written_document};

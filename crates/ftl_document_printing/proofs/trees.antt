@@ -1,5 +1,5 @@
 mod KidLists
 mod InputFields
-mod Spots
+mod WriterPlaces
 mod Turns
 mod Attributes

@@ -1,12 +1,13 @@
-//! TODO: what this room has. Its folders, from the bottom up:
+//! The canonical text of a tree. Goes in: a tree of a checked grammar. Comes out: the text of its
+//! document, which is read as the same tree again. The program doesn't call it.
 //!
-//! - `text`: The canonical text of a document.
-//! - `trees`: The canonical text of a tree.
-//! - `round_trip`: The canonical text of a tree, that of its document in the canonical order, is
-//!   read back: a law takes a checked grammar and a tree of it within the limits of documents, and
-//!   says that the text has tokens, and that what is read of them is the tree.
+//! - `text`: the canonical text of a document by names
+//! - `trees`: `print_document`: the canonical text of a tree
+//! - `round_trip`: what is read of that text is the tree
 #![tactic(auto)]
 
 pub mod round_trip;
 pub mod text;
 pub mod trees;
+
+pub use trees::print_document;

@@ -73,7 +73,7 @@ impl MemSink {
 
     // Whether the next call fails.
     fn refuses(&self, piece: &[u8]) -> bool
-        ensures { IsTrue result ↔ Refuses self.now piece.now }
+        ensures refuses { IsTrue result ↔ Refuses self.now piece.now }
     {
         if self.failing.contains(&self.calls) {
             return true;

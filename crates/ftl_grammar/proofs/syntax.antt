@@ -1,11 +1,11 @@
 pub mod Parts
 pub mod Examples
-pub mod SumTold
-pub mod CondTold
+pub mod SumPrefix
+pub mod CondPrefix
 pub mod RuleParts
-pub mod InterfaceTold
-pub mod RuleTold
-pub mod GrammarTold
+pub mod InterfacePrefix
+pub mod RulePrefix
+pub mod GrammarPrefix
 pub mod Heads
 pub mod Begins
 pub mod Lengths

@@ -11,7 +11,7 @@ use crate::reads::write_rules;
 use crate::requests::write_indexed;
 use crate::schedules::write_schedules;
 use ftl_base::Width;
-use ftl_checked::grammars::Checked;
+use ftl_checked::Checked;
 use ftl_grammar_texts::grammar_of_text;
 use std::alloc::{AllocError, Global};
 

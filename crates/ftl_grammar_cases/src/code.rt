@@ -1,8 +1,7 @@
 //! Code of parts of rules.
 
 use ftl_base::Cmp;
-use ftl_visit::rule_code::Instruction;
-use ftl_visit::rule_values::{Part, Programs};
+use ftl_visit::{Instruction, Part, Programs};
 use std::alloc::AllocError;
 use std::fmt::Write;
 use std::str::SplitWhitespace;

@@ -1,6 +1,6 @@
 //! What is found by name.
 
-use ftl_checked::grammars::Checked;
+use ftl_checked::Checked;
 use std::alloc::AllocError;
 use std::fmt::Write;
 

@@ -3,7 +3,7 @@
 ghost use Rattle.std.specs.Prelude.{◌<◌, length};
 ghost use Rattle.ftl_meaning.specs.faults.Checked.{all_rules};
 
-use ftl_checked::grammars::{Checked, RuleName};
+use ftl_checked::{Checked, RuleName};
 use std::alloc::{AllocError, Global};
 use std::fmt::Write;
 

@@ -1,8 +1,8 @@
 //! Attributes and classes, a line each.
 
 use crate::names::write_attribute;
-use ftl_checked::grammars::{Checked, ChildInfo};
-use ftl_grammar::syntax::AttrKind;
+use ftl_checked::{Checked, ChildInfo};
+use ftl_grammar::AttrKind;
 use std::alloc::AllocError;
 use std::fmt::Write;
 

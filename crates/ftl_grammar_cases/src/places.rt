@@ -1,6 +1,6 @@
 //! Places of steps.
 
-use ftl_visit::rule_values::{StepPlace, step_place};
+use ftl_visit::{StepPlace, step_place};
 use std::alloc::AllocError;
 use std::fmt::Write;
 

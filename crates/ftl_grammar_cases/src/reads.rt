@@ -5,9 +5,9 @@ ghost use Rattle.ftl_deps.specs.reads.DepRows.{dep_rows};
 ghost use Rattle.ftl_deps.specs.reads.Meant.{meant};
 
 use crate::names::write_rule;
-use ftl_checked::grammars::Checked;
-use ftl_deps::reads::{DepTable, dep_table};
-use ftl_order::dependencies::{DepRead, Form, Site};
+use ftl_checked::Checked;
+use ftl_deps::{DepTable, dep_table};
+use ftl_order::{DepRead, Form, Site};
 use std::alloc::{AllocError, Global};
 use std::fmt::Write;
 

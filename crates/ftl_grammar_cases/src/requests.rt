@@ -5,8 +5,8 @@ ghost use Rattle.ftl_visit.specs.compiled.Compilable.{HasCode};
 use crate::code::write_code;
 use crate::runs::{write_run, write_twice};
 use crate::visits::write_visit;
-use ftl_checked::grammars::Checked;
-use ftl_visit::rule_values::{Programs, RuleIndex, compile};
+use ftl_checked::Checked;
+use ftl_visit::{Programs, RuleIndex, compile};
 use std::alloc::{AllocError, Global};
 use std::fmt::Write;
 

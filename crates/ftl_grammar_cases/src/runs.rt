@@ -2,7 +2,8 @@
 
 use crate::code::part_in;
 use ftl_base::{CodeStack, Val};
-use ftl_visit::rule_values::{Part, Programs, Runner, run_code};
+use ftl_visit::rule_values::run_code;
+use ftl_visit::{Part, Programs, Runner};
 use std::alloc::{AllocError, Global};
 use std::fmt::Write;
 use std::str::SplitWhitespace;

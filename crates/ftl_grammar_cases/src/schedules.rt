@@ -1,16 +1,14 @@
-//! Canonical texts of schedules, also of ones that aren't accepted. A request is `print` and a text,
-//! in which `/` stands for a line feed.
+//! Canonical texts of schedules, also of ones that aren't accepted. A request is `print` and a
+//! text, in which `/` stands for a line feed.
 
 ghost use Rattle.std.specs.Prelude.{◌≤◌, length, IfSome};
 ghost use Rattle.ftl_deps.specs.reads.Meant.{meant};
 ghost use Rattle.ftl_order.specs.faults.FaultLaws.{AreComputed};
 ghost use Rattle.ftl_schedule.specs.stages.Stages.{stages_of};
 
-use ftl_checked::grammars::Checked;
-use ftl_schedule::computed::{
-    Schedule, computed_entries, known_entries, print_schedule, read_schedule,
-};
-use ftl_tokens::scanner::{Scanned, tokens};
+use ftl_checked::Checked;
+use ftl_schedule::{Schedule, computed_entries, known_entries, print_schedule, read_schedule};
+use ftl_tokens::{Scanned, tokens};
 use std::alloc::{AllocError, Global};
 use std::fmt::Write;
 

@@ -3,8 +3,8 @@
 pub(crate) mod rows;
 mod shape;
 
-use ftl_grammar::reading::{Class, Grammar, Interface, SyntaxFault, read_grammar};
-use ftl_tokens::scanner::{Scanned, tokens};
+use ftl_grammar::{Class, Grammar, Interface, SyntaxFault, read_grammar};
+use ftl_tokens::{Scanned, tokens};
 use shape::write_shape;
 use std::alloc::{AllocError, Global};
 use std::fmt::Write;

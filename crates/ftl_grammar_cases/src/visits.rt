@@ -1,7 +1,7 @@
 //! Visits of classes.
 
-use ftl_schedule::syntax::PassKind;
-use ftl_visit::rule_values::{RuleIndex, VisitOp, visit_list};
+use ftl_schedule::PassKind;
+use ftl_visit::{RuleIndex, VisitOp, visit_list};
 use std::alloc::{AllocError, Global};
 use std::fmt::Write;
 use std::str::SplitWhitespace;

@@ -6,12 +6,11 @@ ghost use Rattle.ftl_meaning.specs.faults.Kinds.{HasKinds};
 ghost use Rattle.ftl_visit.specs.compiled.Compilable.{HasCode};
 
 use ftl_base::Width;
-use ftl_checked::grammars::{Checked, check_grammar};
-use ftl_grammar::reading::read_grammar;
-use ftl_grammar::syntax::Grammar;
-use ftl_meaning::counts::small_counts;
-use ftl_tokens::scanner::{Scanned, tokens};
-use ftl_visit::compiled::has_code;
+use ftl_checked::{Checked, check_grammar};
+use ftl_grammar::{Grammar, read_grammar};
+use ftl_meaning::small_counts;
+use ftl_tokens::{Scanned, tokens};
+use ftl_visit::has_code;
 use std::alloc::{AllocError, Global};
 
 /// The lawful grammar that the text spells, in this width; none where it spells none.

@@ -2,7 +2,7 @@
 #![tactic(auto)]
 
 use ftl_edge::{OpenGate, StdSink, StdSource};
-use ftl_run::calls::{Status, layout_top};
+use ftl_run::{Status, layout_top};
 use std::io::ErrorKind;
 use std::process::ExitCode;
 use std::rt::Env;

@@ -1,9 +1,9 @@
 //! Gates that see which workers begin items of a page. A top call that solves every page on the
 //! calling thread never has two workers meet here.
 
-use crate::told;
+use crate::printed;
 use ftl_edge::{Gate, MemSink, MemSource};
-use ftl_run::calls::layout_top;
+use ftl_run::layout_top;
 use std::alloc::{AllocError, Global};
 use std::io;
 use std::sync::Wait;
@@ -88,7 +88,7 @@ fn answer_to<R: Threads + Wait + Sync, G: Gate>(
     let mut source = MemSource::new(page, PAGE.len(), Vec::new(alloc));
     let mut sink = MemSink::new(alloc, PAGE.len(), Vec::new(alloc))?;
     let status = layout_top(rt, alloc, words.as_slice(), &mut source, &mut sink, gate);
-    told(alloc, &sink, status)
+    printed(alloc, &sink, status)
 }
 
 /// Prints whether two workers began an item each, on cells that they shared and on ranges of their

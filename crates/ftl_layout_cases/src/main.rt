@@ -12,7 +12,7 @@ mod gates;
 
 use case::Case;
 use ftl_edge::{MemSink, MemSource, OpenGate, StdSource, read_all};
-use ftl_run::calls::{Status, layout_alone, layout_top};
+use ftl_run::{Status, layout_alone, layout_top};
 use gates::print_gates;
 use std::alloc::{AllocError, Global};
 use std::fmt::Write;
@@ -37,7 +37,7 @@ fn read_text(rt: &impl Input, alloc: Global) -> Option<String> {
 }
 
 /// The text that was written, and the status.
-fn told(alloc: Global, sink: &MemSink, status: Status) -> Result<String, AllocError> {
+fn printed(alloc: Global, sink: &MemSink, status: Status) -> Result<String, AllocError> {
     let written = Vec::from_slice(alloc, sink.written())?;
     let mut out = String::from_utf8(written).unwrap_or(String::new(alloc));
     writeln!(out, "status {}", status.0)?;
@@ -66,14 +66,14 @@ fn answer<R: Threads + Wait + Sync>(
     let (mut source, mut sink) = (source_of(alloc, case)?, sink_of(alloc, case)?);
     let words = case.words.as_slice();
     let status = layout_top(rt, alloc, words, &mut source, &mut sink, &OpenGate);
-    told(alloc, &sink, status)
+    printed(alloc, &sink, status)
 }
 
 /// The same by one thread alone.
 fn answer_alone(alloc: Global, case: &Case) -> Result<String, AllocError> {
     let (mut source, mut sink) = (source_of(alloc, case)?, sink_of(alloc, case)?);
     let status = layout_alone(alloc, case.words.as_slice(), &mut source, &mut sink);
-    told(alloc, &sink, status)
+    printed(alloc, &sink, status)
 }
 
 fn main(rt: HostRuntime) -> io::Result<()> {

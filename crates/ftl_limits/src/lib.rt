@@ -1,8 +1,12 @@
-//! TODO: what this room has. Its folders, from the bottom up:
+//! How much the stages of a tree read. Goes in: a tree of a checked grammar, and a schedule that
+//! was accepted for it. Comes out: the first stage or step that reads more than it may, or none.
 //!
-//! - `reads`: How much the equations of instances read.
-//! - `faults`: The limits of a plan.
+//! - `reads`: how many reads the equation of an instance has
+//! - `faults`: `first_fault`: the first stage or step that reads too much
 #![tactic(auto)]
 
 pub mod faults;
 pub mod reads;
+
+pub use faults::{PlanFault, first_fault};
+pub use reads::ReadTables;

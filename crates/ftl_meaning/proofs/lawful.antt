@@ -9,7 +9,7 @@ pub mod RuleParts
 pub mod RightRules
 pub mod RuleList
 pub mod Declared
-pub mod Needs
+pub mod RequiredRules
 pub mod Lawfulness
 pub mod KeptRules
 pub mod AlikeTrees

@@ -1,4 +1,5 @@
 pub mod Names
+pub mod NameFaults
 pub mod NoNameFault
 pub mod Numbered
 pub mod Printed

@@ -1,14 +1,15 @@
-//! TODO: what this room has. Its folders, from the bottom up:
+//! What grammars mean. Goes in: a grammar as it is written. Comes out: its first fault, and of a
+//! grammar without one the numbers that its names stand for and the grammar of `ftl_model` that it
+//! means, which is lawful and loses nothing. Definitions and laws, but for postfix code and counts.
 //!
-//! - `formulas`: Expressions as what they compute.
-//! - `postfix_code`: The postfix code of an expression: its formula as a list, each operator after
-//!   its operands, and the names that it reads in the order of the text.
-//! - `faults`: The first fault of a grammar.
-//! - `fault_order`: Which of two faults of a grammar is the first.
-//! - `counts`: Counts of grammars that texts spell.
-//! - `grammars`: What a grammar as it is written means.
-//! - `lawful`: Why the meaning of a grammar is lawful.
-//! - `names`: Why nothing of a grammar is lost where its names go.
+//! - `formulas`: expressions as what they compute
+//! - `postfix_code`: `postfix`, `reads`: an expression as a list, each operator after its operands
+//! - `faults`: the first fault of a grammar; what names stand for, by number
+//! - `fault_order`: which of two faults is the first
+//! - `counts`: `small_counts`: 32 bits hold what a grammar that a text spells has of anything
+//! - `grammars`: the grammar with its names gone; the values of expressions and rules
+//! - `lawful`: grammars without a fault are lawful with their names gone
+//! - `names`: nothing of a grammar is lost where its names go
 #![tactic(auto)]
 
 pub mod counts;
@@ -19,3 +20,9 @@ pub mod grammars;
 pub mod lawful;
 pub mod names;
 pub mod postfix_code;
+
+pub use counts::{counts_of_spelled_grammars, small_counts};
+pub use faults::{AttrInfo, ChildInfo, Field, GrammarFault, RuleInfo, RuleName, What};
+pub use formulas::ReadName;
+pub use lawful::{faultless_grammars_are_lawful, faultless_grammars_are_small};
+pub use postfix_code::{Entry, ReadKind, ReadRef, postfix, reads};

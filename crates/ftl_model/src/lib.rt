@@ -1,9 +1,11 @@
-//! TODO: what this room has. Its folders, from the bottom up:
+//! The definitions that everything stands on, without code: lists; values, trees, attribute
+//! grammars with the names gone, the table that solves a tree, and its printed boxes. Goes in:
+//! nothing of the project. Comes out: words for contracts, and laws that hold them against worked
+//! pages.
 //!
-//! - `lists`: Lists of numbers and of other things: where an entry stands, that none stands twice,
-//!   lists put in order.
-//! - `layout`: The definitions that several crates speak of: values, trees, attribute grammars with
-//!   the names gone, the table that solves a tree, and its printed boxes.
+//! - `lists`: where an entry stands in a list, that none stands twice, lists in order
+//! - `layout`: values, trees, attribute grammars, the table that solves, boxes, what a call that
+//!   can refuse answers
 #![tactic(auto)]
 
 pub mod layout;

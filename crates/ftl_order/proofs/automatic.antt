@@ -1,6 +1,6 @@
 pub mod Lists
 pub mod Turns
-pub mod Needs
+pub mod PairsInPass
 pub mod Joined
 pub mod Ones
 pub mod ChainOrder

@@ -1,3 +1,4 @@
 pub mod Places
 pub mod ReadsThere
 pub mod Writers
+pub mod ClassRules

@@ -3,7 +3,7 @@ pub mod EquationSystem
 pub mod Instances
 pub mod Kids
 pub mod LegalOrders
-pub mod Near
+pub mod DirectPrecedence
 pub mod NotesLawful
 pub mod NotesOrders
 pub mod OneList
@@ -23,6 +23,6 @@ pub mod SequenceHas
 pub mod SequenceOnly
 pub mod SequenceOrder
 pub mod SequenceRises
-pub mod Spots
+pub mod SchedulePlaces
 pub mod TableRange
 pub mod TreeEquations

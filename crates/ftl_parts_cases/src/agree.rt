@@ -4,9 +4,8 @@ ghost use Rattle.ftl_cells.specs.shared.Work.{IsStepOfItem};
 
 use crate::hands::Answer;
 use ftl_base::{Val, val_of};
-use ftl_cells::shared::{Claim, Deliver, Hand, HandPlace, Look, Work};
-use ftl_replay::example_works::Solved;
-use ftl_replay::interleavings::{Event, ReplayPlace, Replayed};
+use ftl_cells::{Claim, Deliver, Hand, HandPlace, Look, Work};
+use ftl_replay::{Event, ReplayPlace, Replayed, Solved};
 use std::alloc::{AllocError, Global};
 
 /// Whether each hand is at the place that was replayed, or was given up.
@@ -101,7 +100,7 @@ fn found(claim: Claim) -> u64 {
 }
 
 fn has_step<W: Work>(work: &W, item: u32, step: u32) -> bool
-    ensures { IsTrue result → IsStepOfItem (W.meaning work.now) item step }
+    ensures step { IsTrue result → IsStepOfItem (W.meaning work.now) item step }
 {
     item < work.items() && step < work.step_count(item)
 }

@@ -6,7 +6,7 @@ use lane_rows::{BitMatrix, BitRow};
 use std::alloc::{AllocError, Global};
 use std::fmt::Write;
 
-/// Each line has two sets with `|` between them. Told are the first; whether it is within the
+/// Each line has two sets with `|` between them. Printed are the first; whether it is within the
 /// second and the least number that is missing there; what is left of it after the second was taken
 /// away; and that with the second and the first added.
 pub(crate) fn write_rows(out: &mut String, lines: &str) -> Result<(), AllocError> {
@@ -91,7 +91,7 @@ fn write_entries(out: &mut String, name: &str, matrix: &BitMatrix) -> Result<(),
 }
 
 fn write_entries_from(out: &mut String, matrix: &BitMatrix, from: u32) -> Result<(), AllocError>
-    requires { from < length matrix.now }
+    requires from { from < length matrix.now }
 {
     for to in 0..matrix.size() {
         if matrix.has(from, to) {

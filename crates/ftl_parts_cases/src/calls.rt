@@ -1,18 +1,17 @@
 // Calls on the cells of the diamond, and their replay. Each line is a call, as `look HAND ITEM` or
-// `claim HAND`; `places` asks where the hands are. Told are what each call answers, `None` where it
-// is no step, the words of the cells where the first hand found the end, and the state that the
+// `claim HAND`; `places` asks where the hands are. Printed is what each call answers, `None` where
+// it is no step, the words of the cells where the first hand found the end, and the state that the
 // replay comes to.
 ghost use Rattle.ftl_cells.specs.shared.Calls.{IsMadeBy};
 ghost use Rattle.ftl_parts_cases.specs.Hands.{AreAll};
 
 use crate::agree::places_of;
 use crate::hands::{make, take_hand};
+use crate::printing::write_words;
 use crate::requests::request_in;
-use crate::told::write_words;
 use crate::turns::write_close;
-use ftl_cells::shared::{Cells, Diamond, Hand};
-use ftl_replay::example_works::{Example, Solved};
-use ftl_replay::interleavings::{Event, Replayed, replay};
+use ftl_cells::{Cells, Diamond, Hand};
+use ftl_replay::{Event, Example, Replayed, Solved, replay};
 use std::alloc::{AllocError, Global};
 use std::fmt::Write;
 

@@ -5,9 +5,8 @@ ghost use Rattle.ftl_cells.specs.shared.Calls.{IsMadeBy};
 ghost use Rattle.ftl_parts_cases.specs.Hands.{AreAll};
 
 use ftl_base::Val;
-use ftl_cells::shared::{Cells, Claim, Deliver, Hand, HandPlace, Look, Work};
-use ftl_replay::example_works::Solved;
-use ftl_replay::interleavings::Event;
+use ftl_cells::{Cells, Claim, Deliver, Hand, HandPlace, Look, Work};
+use ftl_replay::{Event, Solved};
 use std::alloc::AllocError;
 
 /// What a call answers.
@@ -99,7 +98,7 @@ fn another<W: Work>(
 
 /// Whether the hand can be given up, or take in another.
 pub(crate) fn is_free(hand: &Hand) -> bool
-    ensures { IsTrue result → IsFree hand.now.state.place }
+    ensures free { IsTrue result → IsFree hand.now.state.place }
 {
     match hand.place() {
         HandPlace::Idle | HandPlace::Ended => true,

@@ -5,7 +5,7 @@ use std::alloc::{AllocError, Global};
 use std::fmt::Write;
 use std::sync::Wait;
 
-/// A row of so many flags, to which each line says `raise N` or `lower`. What was lowered is told.
+/// A row of so many flags; each line says `raise N` or `lower`. What was lowered is printed.
 pub(crate) fn write_flags(
     alloc: Global,
     out: &mut String,

@@ -1,8 +1,8 @@
 // Events that are drawn by a generator with a fixed seed.
 ghost use Rattle.std.specs.Prelude.{ℕ, ◌<◌};
 
-use ftl_cells::shared::HandPlace;
-use ftl_replay::interleavings::{Event, ReplayPlace};
+use ftl_cells::HandPlace;
+use ftl_replay::{Event, ReplayPlace};
 
 /// A linear congruence modulo 2 ^ 64, whose high bits are drawn.
 #[derive(Drop)]
@@ -13,8 +13,8 @@ pub(crate) struct Random {
 impl Random {
     /// A number below the bound.
     fn below(&mut self, bound: u32) -> u32
-        requires { 0 < bound }
-        ensures { result < bound }
+        requires some { 0 < bound }
+        ensures below { result < bound }
     {
         let state = self.state.wrapping_mul(6364136223846793005);
         self.state = state.wrapping_add(1442695040888963407);
@@ -24,7 +24,7 @@ impl Random {
     /// An event of a hand that is there, or of the one after the last. Mostly it is of a kind that
     /// the place of the hand allows.
     pub(crate) fn event(&mut self, hands: &[ReplayPlace], items: u32) -> Event
-        requires { items < 1000 }
+        requires few { items < 1000 }
     {
         let count = hands.len().min(1000) as u32;
         let hand = self.below(count + 1);

@@ -6,14 +6,14 @@
 // - `rounds N`: by one hand that goes over the items N times; `turns`: by three hands in turns;
 //   `threads`: by two threads.
 //
-// Told are the words of the cells, once where they are the same each time.
+// Printed are the words of the cells, once where they are the same each time.
 use crate::meeting::Meeting;
+use crate::printing::{write_new, write_words};
 use crate::requests::{Request, request_in};
-use crate::told::{write_new, write_words};
 use crate::turns::{by_rounds, by_turns, by_two_threads};
-use ftl_cells::shared::Cells;
+use ftl_cells::Cells;
 use ftl_edge::{Gate, OpenGate};
-use ftl_replay::example_works::Example;
+use ftl_replay::Example;
 use ftl_steal::{run_alone, run_stage};
 use std::alloc::{AllocError, Global};
 use std::fmt::Write;
@@ -42,10 +42,10 @@ fn write_times<R: Threads + Wait + Sync, W: Example + Drop>(
     work: &W,
     asked: Request<'_>,
 ) -> Result<(), AllocError> {
-    let mut told = String::new(alloc);
+    let mut shown = String::new(alloc);
     for _ in 0..asked.second {
         let words = run(rt, alloc, work.again(), asked)?;
-        told = write_new(out, told, words)?;
+        shown = write_new(out, shown, words)?;
     }
     Ok(())
 }

@@ -6,7 +6,7 @@ ghost use Rattle.ftl_cells.specs.shared.Calls.{IsMadeBy};
 ghost use Rattle.ftl_cells.specs.declared.shared.place.HandPlace.TheVariants.{Idle, Filled};
 
 use ftl_base::{CodeStack, Val};
-use ftl_cells::shared::{Cells, Claim, Hand, Look, Work};
+use ftl_cells::{Cells, Claim, Hand, Look, Work};
 
 /// Makes all deliveries of a filled item.
 fn deliver_all<W: Work>(cells: &Cells<W>, hand: &mut Hand, item: u32)

@@ -5,11 +5,11 @@ ghost use Rattle.ftl_cells.specs.shared.Calls.{IsMadeBy};
 ghost use Rattle.ftl_cells.specs.declared.shared.place.HandPlace.TheVariants.{Idle, Ended};
 
 use crate::hands::is_free;
+use crate::printing::write_words;
 use crate::take::take;
-use crate::told::write_words;
 use ftl_base::CodeStack;
-use ftl_cells::shared::{Cells, Hand, HandPlace, Work};
-use ftl_replay::example_works::Example;
+use ftl_cells::{Cells, Hand, HandPlace, Work};
+use ftl_replay::Example;
 use std::alloc::{AllocError, Global};
 use std::fmt::Write;
 use std::thread::{Threads, join};
@@ -115,7 +115,7 @@ pub(crate) fn write_close<W: Work + Drop>(
     cells: Cells<W>,
     hand: Hand,
 ) -> Result<(), AllocError>
-    requires { IsMadeBy (W.meaning cells.1) cells.0 hand }
+    requires made { IsMadeBy (W.meaning cells.1) cells.0 hand }
 {
     match hand.place() {
         HandPlace::Ended => write_words(out, cells.close(hand).as_slice()),

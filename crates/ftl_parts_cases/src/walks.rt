@@ -1,7 +1,7 @@
 // Calls that are drawn, replayed beside the calls on cells that they ask for. Each line is
-// `walk SEED TIMES`. Told of each walk are the words of the cells in the end, whether each call and
-// its replay made the step, or neither did, and told the same of it, the state of the replay in the
-// end, and how many reads, fills, marks and deliveries were made; once where all are the same.
+// `walk SEED TIMES`. Printed of each walk are the words of the cells in the end, whether each call
+// and its replay made the step, or neither did, and said the same of it, the state of the replay in
+// the end, and how many reads, fills, marks and deliveries were made; once where all are the same.
 ghost use Rattle.std.specs.Prelude.{◌<◌, length};
 ghost use Rattle.ftl_cells.specs.shared.Calls.{IsMadeBy};
 ghost use Rattle.ftl_parts_cases.specs.Hands.{AreAll};
@@ -9,13 +9,12 @@ ghost use Rattle.ftl_parts_cases.specs.Hands.{AreAll};
 use crate::agree::{agrees, are_places_of, replay_place};
 use crate::calls::write_state;
 use crate::hands::{Answer, make, take_hand};
+use crate::printing::write_new;
 use crate::random::Random;
 use crate::requests::{Request, request_in};
-use crate::told::write_new;
 use crate::turns::write_close;
-use ftl_cells::shared::{Cells, Hand, HandPlace, Work};
-use ftl_replay::example_works::Solved;
-use ftl_replay::interleavings::{Event, ReplayFault, ReplayPlace, Replayed, replay};
+use ftl_cells::{Cells, Hand, HandPlace, Work};
+use ftl_replay::{Event, ReplayFault, ReplayPlace, Replayed, Solved, replay};
 use std::alloc::{AllocError, Global};
 use std::fmt::Write;
 
@@ -24,7 +23,7 @@ use std::fmt::Write;
 struct Walk {
     events: Vec<Event>,
     state: Replayed,
-    /// Each call and its replay made the step, or neither did, and they told the same of it.
+    /// Each call and its replay made the step, or neither did, and they said the same of it.
     agrees: bool,
 }
 
@@ -51,11 +50,11 @@ fn write_times<W: Solved + Drop>(
     let mut random = Random {
         state: asked.first as u64,
     };
-    let mut told = String::new(alloc);
+    let mut shown = String::new(alloc);
     for _ in 0..asked.second {
         let mut walk = String::new(alloc);
         write_walk(alloc, &mut walk, work.again(), &mut random)?;
-        told = write_new(out, told, walk)?;
+        shown = write_new(out, shown, walk)?;
     }
     Ok(())
 }
@@ -92,7 +91,7 @@ fn write_end<W: Solved + Drop>(
     walk: &mut Walk,
     random: &mut Random,
 ) -> Result<(), AllocError>
-    requires { IsMadeBy (W.meaning cells.1) cells.0 hand }
+    requires made { IsMadeBy (W.meaning cells.1) cells.0 hand }
 {
     let mut hands = vec![in alloc; Some(hand)]?;
     draw_walk(alloc, &cells, &mut hands, walk, random)?;

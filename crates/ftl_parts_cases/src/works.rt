@@ -2,8 +2,8 @@
 use crate::requests::number;
 use crate::runs::write_work;
 use crate::walks::write_walks_of;
-use ftl_cells::shared::Diamond;
-use ftl_replay::example_works::{Chain, EightAlone, Ladder, Lent, Star};
+use ftl_cells::Diamond;
+use ftl_replay::{Chain, EightAlone, Ladder, Lent, Star};
 use std::alloc::{AllocError, Global};
 use std::sync::Wait;
 use std::thread::Threads;

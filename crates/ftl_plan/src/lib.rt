@@ -1,13 +1,16 @@
-//! TODO: what this room has. Its folders, from the bottom up:
+//! Plans of a layout. Goes in: a checked grammar, an accepted schedule, the code of the rules, a
+//! tree, and how many nodes an item has. Comes out: the stages of the tree as lawful work whose
+//! solution solves every equation of the tree, with the first words of each.
 //!
-//! - `cells`: What kind of cell the cells of a tree are in a stage.
-//! - `laws`: What the stages of a plan mean, as definitions and laws without code.
-//! - `phases`: In which phase each item of a stage is filled, where the cells of its tree are cut
-//!   into ranges of one size.
-//! - `plans`: Plans of a layout.
+//! - `cells`: `cell_kind`: the kind of a cell in a stage
+//! - `laws`: the stages of a plan are lawful work, and which words fit each
+//! - `phases`: `stage_phases`: in which phase each item of a stage is filled
+//! - `plans`: `Plan`, `StageWork`, `solve_alone`
 #![tactic(auto)]
 
 pub mod cells;
 pub mod laws;
 pub mod phases;
 pub mod plans;
+
+pub use plans::{Plan, PlanFault, solve_alone};

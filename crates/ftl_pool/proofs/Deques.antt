@@ -3,13 +3,13 @@ use Rattle.std.proofs.Common.{ℕ, List, [], ◌∷◌, ◌++◌, refl, arith}
 use Rattle.std.proofs.lemmas.List.Sums.{sum_by-append, sum_by_push}
 use Rattle.std.specs.List.{sum_by}
 use Rattle.crossbeam_deque.specs.Tasks as tasks
-use Rattle.ftl_pool.specs.Deque.{PassModel, new_pass, IsFair, puts_told, takes_told}
+use Rattle.ftl_pool.specs.Deque.{PassModel, new_pass, IsFair, puts_effect, takes_effect}
 use Rattle.ftl_pool.proofs.Balances.{sum_by_set}
 
 pub begins_fair : IsFair [] (new_pass ∷ [])
 begins_fair weight = refl
 
-pub puts_fairly : (port : ℕ) (v : PassModel) (xs : List ℕ) → tasks.Pushes IsFair port v xs (puts_told v xs)
+pub puts_fairly : (port : ℕ) (v : PassModel) (xs : List ℕ) → tasks.Pushes IsFair port v xs (puts_effect v xs)
 puts_fairly port v xs items views fair at =
     let w : PassModel = record { put = v.put ++ xs; taken = v.taken } in (
       w,
@@ -25,7 +25,7 @@ puts_fairly port v xs items views fair at =
       refl,
     )
 
-pub takes_fairly : (port most : ℕ) (v : PassModel) → tasks.Takes IsFair port v most (takes_told v)
+pub takes_fairly : (port most : ℕ) (v : PassModel) → tasks.Takes IsFair port v most (takes_effect v)
 takes_fairly port most v xs items views some_left few fair at =
     let w : PassModel = record { put = v.put; taken = v.taken ++ xs } in (
       w,

@@ -7,18 +7,18 @@ use Rattle.atomic_table.specs.Seated.{TableId}
 use Rattle.atomic_table.specs.Table.{State, step, keeps, Allows, Splits}
 use Rattle.atomic_table.proofs.Lists.{exchanged, set_again}
 use Rattle.ftl_pool.specs.Count.{Counted, new_hold, after_load, after_put, after_take, after_split, loads, puts, takes, splits, IsReached, goes_on, IsCount}
-use Rattle.ftl_pool.specs.Told.{Known, load_told, put_told, take_told}
+use Rattle.ftl_pool.specs.Effects.{Known, load_effect, put_effect, take_effect}
 use Rattle.ftl_pool.proofs.Balances.{few_wait}
 
 abbrev pub Holds : ℕ → State ℕ Counted → Type 0
 Holds items s = IsCount items s.words s.views
 
 -- a play that makes a step of the count
-plays : (items slots id : ℕ) (me : Known) (f : ℕ → ℕ) (told : ℕ → Known → Type 0)
+plays : (items slots id : ℕ) (me : Known) (f : ℕ → ℕ) (effect : ℕ → Known → Type 0)
     → ((n : ℕ) (holds : List Counted) → IsReached items n holds → get_elem? holds id ≡ some me.0
-    → (w : Counted) × IsReached items (f n) (set holds id w) × told n (w, me.1))
-    → Allows (Holds items) slots id me 0 f told
-plays items slots id me f told each s r homes at bound =
+    → (w : Counted) × IsReached items (f n) (set holds id w) × effect n (w, me.1))
+    → Allows (Holds items) slots id me 0 f effect
+plays items slots id me f effect each s r homes at bound =
     let n : ℕ = get_or s.words 0 0 in
     let is : r.0 ≡ n = sym (ap (λ (ws : List ℕ). get_or ws 0 0) r.1) in
     let e = each r.0 s.views r.2 at in (
@@ -26,20 +26,20 @@ plays items slots id me f told each s r homes at bound =
       keeps,
       tt,
       (f n, ap (λ (ws : List ℕ). set ws 0 (f n)) r.1, subst (λ x. IsReached items (f x) (set s.views id e.0)) is e.1),
-      subst (λ x. told x (e.0, me.1)) is e.2,
+      subst (λ x. effect x (e.0, me.1)) is e.2,
     )
 
 module _ (slots id : ℕ) (me : Known) where
-  load_plays : Allows (Holds me.0.items) slots id me 0 (λ n. n) (load_told (step slots 0 0 0 none) me)
-  load_plays = plays me.0.items slots id me (λ n. n) (load_told (step slots 0 0 0 none) me) (λ n holds r at. (
+  load_plays : Allows (Holds me.0.items) slots id me 0 (λ n. n) (load_effect (step slots 0 0 0 none) me)
+  load_plays = plays me.0.items slots id me (λ n. n) (load_effect (step slots 0 0 0 none) me) (λ n holds r at. (
     after_load me.0 n,
     goes_on r (loads id me.0 at),
     (record { holds = holds; reached = r; id = id; there = at }, refl),
   ))
 
   put_plays : me.0.items < 2 ^ 32 → me.0.puts < me.0.items
-      → Allows (Holds me.0.items) slots id me 0 (λ n. (n + 1) % 2 ^ 64) (put_told (step slots 0 1 0 none) me)
-  put_plays small room = plays me.0.items slots id me (λ n. (n + 1) % 2 ^ 64) (put_told (step slots 0 1 0 none) me)
+      → Allows (Holds me.0.items) slots id me 0 (λ n. (n + 1) % 2 ^ 64) (put_effect (step slots 0 1 0 none) me)
+  put_plays small room = plays me.0.items slots id me (λ n. (n + 1) % 2 ^ 64) (put_effect (step slots 0 1 0 none) me)
       (λ n holds r at.
       let fits : n + 1 < 2 ^ 64 = few_wait me.0.items n holds small r in
       let same : n + 1 ≡ (n + 1) % 2 ^ 64 = omega arith in (
@@ -50,11 +50,11 @@ module _ (slots id : ℕ) (me : Known) where
 
   take_plays : (old : ℕ) → 0 < old
       → Allows (Holds me.0.items) slots id me 0 (λ n. either (eqb n old) (old - 1) n)
-      (take_told (step slots 0 old (old - 1) none) me)
+      (take_effect (step slots 0 old (old - 1) none) me)
   take_plays old some_left = plays me.0.items slots id me (λ n. either (eqb n old) (old - 1) n)
-      (take_told (step slots 0 old (old - 1) none) me) (λ n holds r at.
+      (take_effect (step slots 0 old (old - 1) none) me) (λ n holds r at.
       exchanged n old (old - 1)
-      (λ x. (w : Counted) × IsReached me.0.items x (set holds id w) × take_told (step slots 0 old (old - 1) none) me n
+      (λ x. (w : Counted) × IsReached me.0.items x (set holds id w) × take_effect (step slots 0 old (old - 1) none) me n
       (w, me.1))
       (λ e. (
         after_take me.0,
@@ -78,30 +78,30 @@ module _ (said key : ℕ) (table : TableId) (id : ℕ) (me : Known) (of : me.0.i
   same = of ∙ sym is
 
   pub load_asks : (0 < table.words) × Allows (Holds key) table.slots id me 0 (λ n. n)
-      (load_told (step table.slots 0 0 0 none) me)
+      (load_effect (step table.slots 0 0 0 none) me)
   load_asks = (
     omega (arith, words),
-    subst (λ x. Allows (Holds x) table.slots id me 0 (λ n. n) (load_told (step table.slots 0 0 0 none) me)) same
+    subst (λ x. Allows (Holds x) table.slots id me 0 (λ n. n) (load_effect (step table.slots 0 0 0 none) me)) same
         (load_plays table.slots id me),
   )
 
   pub put_asks : me.0.puts < said
       → (0 < table.words) × Allows (Holds key) table.slots id me 0 (λ n. (n + 1) % 2 ^ 64)
-      (put_told (step table.slots 0 1 0 none) me)
+      (put_effect (step table.slots 0 1 0 none) me)
   put_asks room = (
     omega (arith, words),
     subst (λ x. Allows (Holds x) table.slots id me 0 (λ n. (n + 1) % 2 ^ 64)
-        (put_told (step table.slots 0 1 0 none) me)) same
+        (put_effect (step table.slots 0 1 0 none) me)) same
         (put_plays table.slots id me (omega (arith, same, small)) (omega (arith, of, room))),
   )
 
   pub take_asks : (old : ℕ) → 0 < old
       → (0 < table.words) × Allows (Holds key) table.slots id me 0 (λ n. either (eqb n old) (old - 1) n)
-      (take_told (step table.slots 0 old (old - 1) none) me)
+      (take_effect (step table.slots 0 old (old - 1) none) me)
   take_asks old some_left = (
     omega (arith, words),
     subst (λ x. Allows (Holds x) table.slots id me 0 (λ n. either (eqb n old) (old - 1) n)
-        (take_told (step table.slots 0 old (old - 1) none) me)) same (take_plays table.slots id me old some_left),
+        (take_effect (step table.slots 0 old (old - 1) none) me)) same (take_plays table.slots id me old some_left),
   )
 
   pub split_asks : 0 < me.0.spare

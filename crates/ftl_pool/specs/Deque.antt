@@ -22,12 +22,12 @@ abbrev pub times : ℕ → List ℕ → ℕ
 times item xs = sum_by (λ x. cond (eqb x item) 1 0) xs
 
 -- a pass after it put items
-abbrev pub puts_told : PassModel → List ℕ → PassModel → Type 0
-puts_told v items w = w ≡ record { put = v.put ++ items; taken = v.taken }
+abbrev pub puts_effect : PassModel → List ℕ → PassModel → Type 0
+puts_effect v items w = w ≡ record { put = v.put ++ items; taken = v.taken }
 
 -- a pass after it took items
-abbrev pub takes_told : PassModel → List ℕ → PassModel → Type 0
-takes_told v items w = w ≡ record { put = v.put; taken = v.taken ++ items }
+abbrev pub takes_effect : PassModel → List ℕ → PassModel → Type 0
+takes_effect v items w = w ≡ record { put = v.put; taken = v.taken ++ items }
 
 -- the owner's end of a deque: its pass, and for how many items there is room
 pub record OwnModel : Type 0 where
@@ -43,13 +43,13 @@ TakesItem taken (Some item) next = next ≡ taken ++ item ∷ []
 -- a pass takes an item, or nothing
 abbrev pub PassTakes : PassModel → Option ℕ → PassModel → Type 0
 PassTakes pass None next = next ≡ pass
-PassTakes pass (Some item) next = takes_told pass (item ∷ []) next
+PassTakes pass (Some item) next = takes_effect pass (item ∷ []) next
 
 -- one of these passes takes an item, or none does
 abbrev pub OnePassTakes : List PassModel → Option ℕ → List PassModel → Type 0
 OnePassTakes passes None next = next ≡ passes
 OnePassTakes passes (Some item) next = (at : ℕ) × (at < length passes) × (pass : PassModel)
-    × takes_told (slice_index_or passes at new_pass) (item ∷ []) pass × (next ≡ slice_set passes at pass)
+    × takes_effect (slice_index_or passes at new_pass) (item ∷ []) pass × (next ≡ slice_set passes at pass)
 
 -- an item was taken from one of these deques, or nothing from any
 abbrev pub TakesFromOne : List (List ℕ) → Option ℕ → List (List ℕ) → Type 0

@@ -1,5 +1,5 @@
 pub mod Count
-pub mod Told
+pub mod Effects
 pub mod Pool
 pub mod Flags
 pub mod Deque

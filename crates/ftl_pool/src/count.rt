@@ -4,7 +4,7 @@ ghost use Rattle.std.specs.Bool.{MatchBool};
 ghost use Rattle.ftl_pool.specs.Count.{IsCount, IsTallyOf, first_hold, new_hold, after_split};
 ghost use Rattle.ftl_pool.specs.Count.{after_load, after_put, after_take, IsMoment};
 ghost use Rattle.ftl_pool.specs.Count.{TakesNone, TakesOne};
-ghost use Rattle.ftl_pool.specs.Told.{load_told, put_told, take_told};
+ghost use Rattle.ftl_pool.specs.Effects.{load_effect, put_effect, take_effect};
 
 use atomic_table::{Play, Seat, Split, Table, TableRule};
 use std::alloc::{AllocError, Global};
@@ -12,9 +12,9 @@ use std::marker::Model;
 use std::sync::Wait;
 
 /// What contracts say of a hold's seat. It has no bytes.
-pub(crate) struct Told {}
+pub(crate) struct SeatView {}
 
-impl Model for Told {
+impl Model for SeatView {
     ghost use Rattle.ftl_pool.specs.Count.{Counted, new_hold};
 
     ghost Value = { Counted };
@@ -25,7 +25,7 @@ impl Model for Told {
 /// The word and the holds are in a state that steps lead to.
 pub(crate) struct Law;
 
-impl TableRule<u8, Told, u32> for Law {
+impl TableRule<u8, SeatView, u32> for Law {
     ghost holds = { λ items s. IsCount items s.words s.views };
 
     ghost first = { λ items. first_hold items };
@@ -33,25 +33,25 @@ impl TableRule<u8, Told, u32> for Law {
 
 struct LoadPlay;
 
-impl Play<u8, Told> for LoadPlay {
-    ghost then = { load_told };
+impl Play<u8, SeatView> for LoadPlay {
+    ghost then = { load_effect };
 }
 
 struct PutPlay;
 
-impl Play<u8, Told> for PutPlay {
-    ghost then = { put_told };
+impl Play<u8, SeatView> for PutPlay {
+    ghost then = { put_effect };
 }
 
 struct TakePlay;
 
-impl Play<u8, Told> for TakePlay {
-    ghost then = { take_told };
+impl Play<u8, SeatView> for TakePlay {
+    ghost then = { take_effect };
 }
 
 struct SplitPlay;
 
-impl Split<Told> for SplitPlay {
+impl Split<SeatView> for SplitPlay {
     ghost use Rattle.std.specs.Prelude.{◌-◌};
     ghost use Rattle.ftl_pool.specs.Count.{after_split, new_hold};
 
@@ -63,7 +63,7 @@ impl Split<Told> for SplitPlay {
 /// How many items wait in a pool.
 #[derive(Drop)]
 pub(crate) struct Count {
-    table: Table<u8, Told, u32, Law, Global>,
+    table: Table<u8, SeatView, u32, Law, Global>,
 }
 
 impl Model for Count {
@@ -81,7 +81,7 @@ impl Model for Count {
 /// A hold's seat at the count.
 #[derive(Drop)]
 pub(crate) struct Tally {
-    seat: Seat<u8, Told>,
+    seat: Seat<u8, SeatView>,
 }
 
 impl Model for Tally {
@@ -111,7 +111,7 @@ impl Count {
         requires made { IsTallyOf self.now tally.old }
         requires spare { 0 < tally.old.state.spare }
         ensures made { IsTallyOf self.now tally.new }
-        ensures told { tally.new.state
+        ensures effect { tally.new.state
             ≡ after_split tally.old.state (tally.old.state.spare - 1) }
         ensures other { IsTallyOf self.now result }
         ensures new { result.state ≡ new_hold self.now.items 0 }
@@ -125,7 +125,7 @@ impl Count {
         requires made { IsTallyOf self.now tally.old }
         ensures made { IsTallyOf self.now tally.new }
         ensures moment { IsMoment result tally.old.state }
-        ensures told { tally.new.state ≡ after_load tally.old.state result }
+        ensures effect { tally.new.state ≡ after_load tally.old.state result }
     {
         self.table.shared.load::<LoadPlay>(&mut tally.seat, 0)
     }
@@ -135,7 +135,7 @@ impl Count {
         requires made { IsTallyOf self.now tally.old }
         requires some { 0 < count }
         ensures made { IsTallyOf self.now tally.new }
-        ensures told { MatchBool result (tally.new.state ≡ after_take tally.old.state)
+        ensures effect { MatchBool result (tally.new.state ≡ after_take tally.old.state)
             (tally.new.state ≡ tally.old.state) }
     {
         let shared = &self.table.shared;
@@ -149,7 +149,7 @@ impl Count {
         requires there { tally.old.state.puts < put }
         requires few { put ≤ self.now.items }
         ensures made { IsTallyOf self.now tally.new }
-        ensures told { tally.new.state ≡ after_put tally.old.state }
+        ensures effect { tally.new.state ≡ after_put tally.old.state }
     {
         self.table
             .shared
@@ -160,7 +160,7 @@ impl Count {
     pub(crate) fn take<R: Wait>(&self, rt: &R, tally: &mut Tally) -> bool
         requires made { IsTallyOf self.now tally.old }
         ensures made { IsTallyOf self.now tally.new }
-        ensures told { MatchBool result (TakesOne tally.old.state tally.new.state)
+        ensures effect { MatchBool result (TakesOne tally.old.state tally.new.state)
             (TakesNone tally.old.state tally.new.state) }
     {
         for _ in rt.forever() {

@@ -34,17 +34,17 @@ impl Protocol<u32, Passed> for Fair {
 struct Puts;
 
 impl Outcome<u32, Passed> for Puts {
-    ghost use Rattle.ftl_pool.specs.Deque.{puts_told};
+    ghost use Rattle.ftl_pool.specs.Deque.{puts_effect};
 
-    ghost then = { puts_told };
+    ghost then = { puts_effect };
 }
 
 struct Takes;
 
 impl Outcome<u32, Passed> for Takes {
-    ghost use Rattle.ftl_pool.specs.Deque.{takes_told};
+    ghost use Rattle.ftl_pool.specs.Deque.{takes_effect};
 
-    ghost then = { takes_told };
+    ghost then = { takes_effect };
 }
 
 /// The owner's end.
@@ -76,7 +76,7 @@ impl Model for Own {
 impl Own {
     /// An empty deque, with room for all that is ever put.
     pub(crate) fn new(alloc: Global, room: u32) -> Result<Own, AllocError>
-        ensures { IfOk result (λ o. o ≡ record { put = []; taken = []; room = room }) }
+        ensures empty { IfOk result (λ o. o ≡ record { put = []; taken = []; room = room }) }
     {
         let deque = Worker::fifo_as(alloc, room as usize)?;
         Ok(Own {
@@ -88,13 +88,13 @@ impl Own {
 
     /// How many items were put.
     pub(crate) fn count(&self) -> usize
-        ensures { result ≡ length self.now.put }
+        ensures count { result ≡ length self.now.put }
     {
         self.count
     }
 
     pub(crate) fn push(&mut self, item: u32)
-        requires { length self.old.put < self.old.room }
+        requires has_room { length self.old.put < self.old.room }
         ensures put { self.new.put ≡ self.old.put ++ item ∷ [] }
         ensures taken { self.new.taken ≡ self.old.taken }
         ensures room { self.new.room ≡ self.old.room }
@@ -116,7 +116,7 @@ impl Own {
 
     /// A thief of this deque, for another hold.
     pub(crate) fn thief(&self) -> Result<Thief, AllocError>
-        ensures { IfOk result (λ t. t ≡ new_pass) }
+        ensures new { IfOk result (λ t. t ≡ new_pass) }
     {
         let stealer = self.deque.stealer()?;
         let pass = stealer.pass();
@@ -146,7 +146,7 @@ impl Model for Thief {
 impl Thief {
     /// Takes the first item of the deque, or none where it found none or another took it.
     pub(crate) fn steal(&mut self) -> Option<u32>
-        ensures { PassTakes self.old result self.new }
+        ensures taken { PassTakes self.old result self.new }
     {
         match self.stealer.steal_as::<Takes>(&mut self.pass) {
             Steal::Success(item) => Some(item),
@@ -157,7 +157,7 @@ impl Thief {
 
 /// Looks once into each deque.
 pub(crate) fn steal_once(thieves: &mut Vec<Thief>) -> Option<u32>
-    ensures { OnePassTakes thieves.old.items result thieves.new.items }
+    ensures taken { OnePassTakes thieves.old.items result thieves.new.items }
 {
     for at in 0..thieves.len() {
         if let Some(item) = thieves[at].steal() {

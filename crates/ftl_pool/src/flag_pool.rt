@@ -82,7 +82,7 @@ impl FlagPool {
 
     /// Lowers a flag, again and again, until it has one of an item.
     fn find<R: Wait>(&self, rt: &R) -> u32
-        ensures { result < self.now.items }
+        ensures item { result < self.now.items }
     {
         for _ in rt.forever() {
             let lowered = self.row.lock(rt).lower();

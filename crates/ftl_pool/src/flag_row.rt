@@ -27,7 +27,7 @@ impl Model for FlagRow {
 impl FlagRow {
     /// All flags are down.
     pub fn new(alloc: Global, items: u32) -> Result<FlagRow, AllocError>
-        ensures { IfOk result (λ r. r ≡ replicate items false) }
+        ensures none { IfOk result (λ r. r ≡ replicate items false) }
     {
         let flags = Vec::from_elem(alloc, false, items as usize)?;
         Ok(FlagRow { flags, from: 0 })
@@ -35,15 +35,15 @@ impl FlagRow {
 
     /// How many flags there are.
     pub fn items(&self) -> u32
-        ensures { result ≡ length self.now }
+        ensures count { result ≡ length self.now }
     {
         self.flags.len() as u32
     }
 
     /// Puts a flag up.
     pub fn raise(&mut self, item: u32)
-        requires { item < length self.old }
-        ensures { self.new ≡ slice_set self.old item true }
+        requires item { item < length self.old }
+        ensures raised { self.new ≡ slice_set self.old item true }
     {
         let at = item as usize;
         self.flags[at] = true;
@@ -54,7 +54,7 @@ impl FlagRow {
 
     /// Puts the first flag that is up down, and answers its number.
     pub fn lower(&mut self) -> Option<u32>
-        ensures { Lowers self.old result self.new }
+        ensures lowers { Lowers self.old result self.new }
     {
         for at in self.from..self.flags.len() {
             if self.flags[at] {

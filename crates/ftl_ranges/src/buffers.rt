@@ -2,7 +2,7 @@ ghost use Rattle.std.specs.Prelude.{◌≤◌, vec_capacity, IfOk};
 ghost use Rattle.ftl_ranges.specs.Workers.{HaveRoom};
 
 use ftl_base::{CodeStack, Val};
-use ftl_cells::shared::Work;
+use ftl_cells::Work;
 use std::alloc::{AllocError, Global};
 
 /// What a worker reads into and computes on.

@@ -7,8 +7,7 @@ ghost use Rattle.ftl_cells.specs.work_phases.Phases.{phase_at};
 
 use crate::buffers::Buffers;
 use crate::filler::RangeFiller;
-use ftl_cells::shared::Work;
-use ftl_cells::work_phases::{Phase, Phases};
+use ftl_cells::{Phase, Phases, Work};
 use ftl_edge::Gate;
 
 /// Fills the items of a phase in order, on the words of the cells from the first one on.

@@ -1,7 +1,6 @@
 //! A filler on the words of a range.
 use ftl_base::{Val, val_of, word_of};
-use ftl_cells::shared::{Filler, Meant};
-use ftl_cells::work_phases::{Phase, Phases};
+use ftl_cells::{Filler, Meant, Phase, Phases};
 
 /// Reads and fills cells of a range, whose words these are. Where it stands is for the contracts
 /// alone.

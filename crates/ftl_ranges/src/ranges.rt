@@ -10,8 +10,7 @@ ghost use Rattle.ftl_ranges.specs.Workers.{AreFilled, CanFill, HasRoom, HaveRoom
 use crate::buffers::Buffers;
 use crate::fill::fill_phase;
 use crossbeam_utils::CachePadded;
-use ftl_cells::shared::Work;
-use ftl_cells::work_phases::{Phase, Phases};
+use ftl_cells::{Phase, Phases, Work};
 use ftl_edge::{Gate, OpenGate};
 use std::alloc::{AllocError, Global};
 use std::thread::{Threads, join_mut};

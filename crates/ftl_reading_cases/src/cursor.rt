@@ -1,6 +1,5 @@
 //! A cursor of either width.
-use ftl_tokens::reading::{Input, ReadFault, WideInput};
-use ftl_tokens::scanner::Kind;
+use ftl_tokens::{Input, Kind, ReadFault, WideInput};
 
 /// A cursor over the tokens of a text whose numbers fit 31 bits, or of a document.
 #[derive(Drop)]

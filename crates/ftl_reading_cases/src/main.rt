@@ -1,8 +1,9 @@
 //! Prints what the cursors over tokens answer to requests on texts. Each case on standard input
-//! begins by a line with `%`, the word `narrow` or `wide`, and a title; the next line is the text, in
-//! which `/` stands for a line feed, and the others are requests:
+//! begins by a line with `%`, the word `narrow` or `wide`, and a title; the next line is the text,
+//! in which `/` stands for a line feed, and the others are requests:
 //!
-//! - `root`, `semicolon`, `paren`, `name`, `number`, `positive`: takes what is named, or is refused;
+//! - `root`, `semicolon`, `paren`, `name`, `number`, `positive`: takes what is named, or is
+//!   refused;
 //! - `is NAME`: takes the name, if it comes next; `skip`: takes what comes next;
 //! - `peek`, `left`, `end`: what comes next, how much is left, and whether all was taken;
 //! - `place N`: the byte at which the token stands that has so many behind it, itself among them;
@@ -16,8 +17,7 @@ mod requests;
 
 use cursor::Cursor;
 use ftl_edge::{StdSource, read_all};
-use ftl_tokens::reading::{Input as TextInput, WideInput};
-use ftl_tokens::scanner::{document_tokens, tokens};
+use ftl_tokens::{Input as TextInput, WideInput, document_tokens, tokens};
 use requests::write_answers;
 use std::alloc::{AllocError, Global};
 use std::io;

@@ -1,7 +1,6 @@
 //! Requests on a text, and their answers.
 use crate::cursor::Cursor;
-use ftl_tokens::reading::{ReadFault, first_too_deep_in, place_in};
-use ftl_tokens::scanner::{Kind, TokenizedText};
+use ftl_tokens::{Kind, ReadFault, TokenizedText, first_too_deep_in, place_in};
 use std::alloc::AllocError;
 use std::fmt::Write;
 

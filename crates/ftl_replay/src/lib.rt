@@ -1,11 +1,14 @@
-//! TODO: what this room has. Its folders, from the bottom up:
+//! Interleavings of steps on shared cells, one at a time, on plain vectors, and works to try them
+//! on. Goes in: a work and a list of events. Comes out: the state that they lead to, or the first
+//! event that is no step. The program doesn't call it.
 //!
-//! - `example_works`: Works for the programs that run them, each with its laws: a chain, two chains
-//!   side by side, a star, items alone, and items over a borrowed slice.
-//! - `interleavings`: Replays one interleaving of the steps on shared cells: a list of events goes
-//!   in, and out come the words and the places of the hands of the state that they lead to, on
-//!   plain vectors, or the first event that is no step.
+//! - `example_works`: a chain, two chains, a star, items alone, items over a borrowed slice, each
+//!   with its laws
+//! - `interleavings`: `replay`: the state that a list of events leads to
 #![tactic(auto)]
 
 pub mod example_works;
 pub mod interleavings;
+
+pub use example_works::{Chain, EightAlone, Example, Ladder, Lent, Solved, Star};
+pub use interleavings::{Event, ReplayFault, ReplayPlace, Replayed, replay};

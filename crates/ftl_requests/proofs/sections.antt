@@ -1,5 +1,5 @@
 mod Ways
-mod Told
-mod ToldSchedules
+mod FaultEnds
+mod ScheduleEnds
 mod AutomaticSmall
 mod ReadSmall

@@ -1,3 +1,3 @@
 pub mod ShownTexts
-pub mod Asked
+pub mod RulesAnswers
 pub mod Requests

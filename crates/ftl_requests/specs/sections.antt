@@ -1,3 +1,3 @@
 pub mod Outcomes
-pub mod Telling
+pub mod RefusalOf
 pub mod Small

@@ -1,8 +1,14 @@
-//! TODO: what this room has. Its folders, from the bottom up:
+//! What words and a page ask for, before a page is solved, and what is written after. Goes in:
+//! words and a source. Comes out: the answer, where nothing is left to be solved, or the page that
+//! is to be solved; and the answer in a sink.
 //!
-//! - `sections`: The stages from the bytes of a page to its tree.
-//! - `requests`: What words and a page ask for, before a page is solved, and what is written after.
+//! - `sections`: `read_page`, `grammar_of`, `schedule_of`, `tree_of`: from the bytes of a page to
+//!   its tree
+//! - `requests`: `requested`, `written`
 #![tactic(auto)]
 
 pub mod requests;
 pub mod sections;
+
+pub use requests::{Problem, Request, Shown, Undone, ended, requested, written};
+pub use sections::{Decided, Status, Undecided, grammar_of, read_page, schedule_of, tree_of};

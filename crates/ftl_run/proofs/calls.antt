@@ -2,4 +2,4 @@ mod Words
 mod Solved
 mod Passes
 mod Leading
-mod Telling
+mod Matching

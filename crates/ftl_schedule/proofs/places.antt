@@ -1,4 +1,4 @@
 mod EntryLists
 mod Lookup
-mod SpotOf
+mod PlacingOf
 mod Filling

@@ -1,4 +1,3 @@
-mod DistinctNames
 mod Joined
 mod Known
 mod NamedAgain

@@ -1,5 +1,5 @@
 pub mod KindWords
-pub mod Told
+pub mod SchedulePrefix
 pub mod Went
 pub mod OneAhead
 pub mod Schedules

@@ -1,14 +1,16 @@
-//! TODO: what this room has. Its folders, from the bottom up:
+//! Schedules of a grammar. Goes in: a grammar that `ftl_checked` accepted, what its rules read, and
+//! the tokens of a text or a schedule by number. Comes out: the schedule, accepted, or its first
+//! fault; and of a schedule its canonical text, which is read as the same schedule again.
 //!
-//! - `syntax`: Schedules of traversals as they are written.
-//! - `stages`: Schedules of a grammar's attributes by number.
-//! - `places`: Where the attributes of a schedule stand.
-//! - `text`: The canonical text of a schedule.
-//! - `check`: Schedules that are accepted.
-//! - `names`: The attributes that a schedule names.
-//! - `reading`: Schedules of a grammar, read from tokens.
-//! - `printing`: The canonical text of a schedule whose attributes are numbers of a grammar.
-//! - `computed`: Schedules of a grammar: read from tokens, verified and printed.
+//! - `syntax`: `read_written_schedule`: the schedule that tokens spell, by names
+//! - `stages`: schedules by number, and which schedule of `ftl_order` they are
+//! - `places`: `Placed`: where each attribute of a schedule stands
+//! - `text`: the canonical text of a schedule by names
+//! - `check`: `verify`, `Accepted`: a schedule that is ordered, or its first fault
+//! - `names`: `schedule_named`: the attributes that a schedule names, by number
+//! - `reading`: `read_schedule`: the schedule that the tokens of a text spell, by number
+//! - `printing`: `print_schedule`: the canonical text of a schedule by number
+//! - `computed`: `computed_entries`: what was read has computed attributes alone
 #![tactic(auto)]
 
 pub mod check;
@@ -20,3 +22,14 @@ pub mod reading;
 pub mod stages;
 pub mod syntax;
 pub mod text;
+
+pub use check::{Accepted, VerifyFault, attribute_count, is_input, read_count, read_of, verify};
+pub use computed::computed_entries;
+pub use names::ScheduleFault;
+pub use places::{
+    Standing, from_kid, from_parent, has_earlier_block, is_prev, is_same_block, is_same_rule,
+};
+pub use printing::{known_entries, print_schedule};
+pub use reading::read_schedule;
+pub use stages::{AttrList, Pass, Schedule, Stage};
+pub use syntax::PassKind;

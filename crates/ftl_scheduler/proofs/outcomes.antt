@@ -1,5 +1,5 @@
-pub mod NeedTests
-pub mod PickedLists
+pub mod ConstraintTests
+pub mod RowLists
 pub mod NextPass
 pub mod PassChains
 pub mod StagePush

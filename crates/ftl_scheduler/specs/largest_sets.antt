@@ -1,4 +1,4 @@
 pub mod Rows
-pub mod Picks
+pub mod LargestList
 pub mod Turns
 pub mod Staying

@@ -1,4 +1,4 @@
-pub mod Need
-pub mod NeedRows
-pub mod NeedLaws
+pub mod Constraint
+pub mod ConstraintRows
+pub mod ConstraintLaws
 pub mod Outcomes

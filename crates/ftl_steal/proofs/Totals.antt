@@ -8,13 +8,13 @@ use Rattle.crossbeam_utils.specs.declared.cache_padded.CachePadded.{CachePadded}
 use Rattle.ftl_cells.specs.shared.Work.{Meaning}
 use Rattle.ftl_pool.specs.Count.{PoolModel}
 use Rattle.ftl_steal.specs.declared.member.Member.{Member}
-use Rattle.ftl_steal.specs.Workers.{steps_of, put_total, step_total, IsDealtBelow, IsEndedMember}
+use Rattle.ftl_steal.specs.Workers.{steps_made, put_total, step_total, IsDealtBelow, IsEndedMember}
 
 puts_of : CachePadded Member → ℕ
 puts_of w = length (padded_value w).hold.hold.puts
 
 hand_steps : CachePadded Member → ℕ
-hand_steps w = steps_of (padded_value w).hand.state
+hand_steps w = steps_made (padded_value w).hand.state
 
 tail_all : {X : Type 0} (P : X → Type 0) (x : X) (xs : List X) → All P (x ∷ xs) → All P xs
 tail_all P x xs all k d l = all (suc k) d (omega arith)
@@ -64,7 +64,7 @@ one_more ws at old new l is more =
     omega (arith, sum_by-set puts_of ws at new old l, ap puts_of is, more)
 
 pub push_total : (ws : List (CachePadded Member)) (w : CachePadded Member)
-    → step_total (ws ++ w ∷ []) ≡ step_total ws + steps_of (padded_value w).hand.state
+    → step_total (ws ++ w ∷ []) ≡ step_total ws + steps_made (padded_value w).hand.state
 unfolding hand_steps
 push_total ws w = sum_by_push hand_steps ws w
 

@@ -28,8 +28,8 @@ pub record IsMember (m : Meaning) (table : TableId) (pool : PoolModel) (worker :
   pub stack : m.max_stack ≤ worker.stack.room
 
 -- how many steps a hand made, with those of the hands that it took in
-abbrev pub steps_of : HandState → ℕ
-steps_of hand = hand.count + hand.taken
+abbrev pub steps_made : HandState → ℕ
+steps_made hand = hand.count + hand.taken
 
 -- how many of the items below this number wait for none
 abbrev pub free_below : Meaning → ℕ → ℕ
@@ -42,7 +42,7 @@ put_total workers = sum_by (λ (w : CachePadded Member). length (padded_value w)
 
 -- how many steps the hands of these workers made
 abbrev pub step_total : List (CachePadded Member) → ℕ
-step_total workers = sum_by (λ (w : CachePadded Member). steps_of (padded_value w).hand.state) workers
+step_total workers = sum_by (λ (w : CachePadded Member). steps_made (padded_value w).hand.state) workers
 
 -- it is at no item
 pub record IsIdleMember (m : Meaning) (table : TableId) (pool : PoolModel) (worker : CachePadded Member) : Type 0 where

@@ -5,7 +5,7 @@ ghost use Rattle.ftl_cells.specs.shared.State.{AreFirst, AreLast};
 ghost use Rattle.ftl_steal.specs.Alone.{IsFilledTo};
 
 use ftl_base::{CodeStack, Val, val_of, word_of};
-use ftl_cells::shared::{Filler, Meant, Work};
+use ftl_cells::{Filler, Meant, Work};
 use std::alloc::{AllocError, Global};
 
 /// Computes the items in order, from the words of the Given cells and 0 for all others.

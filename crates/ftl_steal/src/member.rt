@@ -1,5 +1,5 @@
 use ftl_base::{CodeStack, Val};
-use ftl_cells::shared::Hand;
+use ftl_cells::Hand;
 use ftl_pool::StealHold;
 
 /// What one worker works with.

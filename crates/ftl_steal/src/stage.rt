@@ -9,13 +9,13 @@ ghost use Rattle.ftl_cells.specs.declared.shared.place.HandPlace.TheVariants.{Id
 ghost use Rattle.ftl_pool.specs.Pool.{IsFreshStealHoldOf};
 ghost use Rattle.crossbeam_utils.specs.Padded.{padded_value};
 ghost use Rattle.ftl_steal.specs.Workers.{IsIdleMember, IsDealtBelow, IsEndedMember};
-ghost use Rattle.ftl_steal.specs.Workers.{steps_of, free_below, put_total, step_total};
+ghost use Rattle.ftl_steal.specs.Workers.{steps_made, free_below, put_total, step_total};
 
 use crate::member::Member;
 use crate::worker::work;
 use crossbeam_utils::CachePadded;
 use ftl_base::{CodeStack, Val};
-use ftl_cells::shared::{Cells, Hand, Work};
+use ftl_cells::{Cells, Hand, Work};
 use ftl_edge::Gate;
 use ftl_pool::{ReadyPool, StealHold, StealPool};
 use std::alloc::{AllocError, Global};
@@ -43,8 +43,8 @@ pub fn run_stage<R: Threads + Wait + Sync, W: Work, G: Gate>(
     // Beside the steps of the hand that went in, the one that comes back counts three at least for
     // each worker: as many as it takes to make a hand for it, to find the end with this hand, and
     // to take it in.
-    ensures given_up { IfOk result (λ h. steps_of hand.state
-        + 3 * min workers (max (item_total (W.meaning cells.now.1)) 1) ≤ steps_of h.state) }
+    ensures given_up { IfOk result (λ h. steps_made hand.state
+        + 3 * min workers (max (item_total (W.meaning cells.now.1)) 1) ≤ steps_made h.state) }
 {
     let items = cells.work().items();
     let workers = workers.min(items.max(1));
@@ -70,7 +70,7 @@ fn gather<W: Work>(
     requires fresh { All (IsFreshStealHoldOf pool.now) holds.items }
     ensures made { IsMadeBy (W.meaning cells.now.1) cells.now.0 hand.new }
     ensures idle { hand.new.state.place ≡ live Idle }
-    ensures steps { OnOk result (steps_of hand.new.state ≡ steps_of hand.old.state + workers) }
+    ensures steps { OnOk result (steps_made hand.new.state ≡ steps_made hand.old.state + workers) }
     ensures count { IfOk result (λ members. vec_len members ≡ workers) }
     ensures dealt { IfOk result
         (λ members. All (IsDealtBelow (W.meaning cells.now.1) cells.now.0 pool.now 0)
@@ -110,7 +110,7 @@ fn equip<W: Work>(
     requires fresh { IsFreshStealHoldOf _pool.now hold }
     ensures made { IsMadeBy (W.meaning cells.now.1) cells.now.0 hand.new }
     ensures idle { hand.new.state.place ≡ live Idle }
-    ensures steps { OnOk result (steps_of hand.new.state ≡ steps_of hand.old.state + 1) }
+    ensures steps { OnOk result (steps_made hand.new.state ≡ steps_made hand.old.state + 1) }
     ensures dealt { IfOk result
         (IsDealtBelow (W.meaning cells.now.1) cells.now.0 _pool.now 0) }
 {
@@ -258,9 +258,9 @@ fn give_up_all<W: Work>(cells: &Cells<W>, mut members: Vec<CachePadded<Member>>,
     requires ended { All (IsEndedMember (W.meaning cells.now.1) cells.now.0) members.items }
     ensures made { IsMadeBy (W.meaning cells.now.1) cells.now.0 result }
     ensures ended { result.state.place ≡ live Ended }
-    ensures all { steps_of result.state
-        ≡ steps_of hand.state + step_total members.items + vec_len members }
-    ensures least { steps_of hand.state + 2 * vec_len members ≤ steps_of result.state }
+    ensures all { steps_made result.state
+        ≡ steps_made hand.state + step_total members.items + vec_len members }
+    ensures least { steps_made hand.state + 2 * vec_len members ≤ steps_made result.state }
 {
     let mut kept = next_member(cells, &mut members).into_inner().hand;
     cells.give_up(&mut kept, hand);

@@ -8,7 +8,7 @@ ghost use Rattle.ftl_steal.specs.Workers.{IsMember};
 
 use crate::member::Member;
 use ftl_cells::shared::laws::{items_are_released_once, next_items_have_predecessors};
-use ftl_cells::shared::{Cells, Claim, Deliver, Look, Work};
+use ftl_cells::{Cells, Claim, Deliver, Look, Work};
 use ftl_edge::Gate;
 use ftl_pool::{ReadyPool, StealPool};
 use std::sync::Wait;

@@ -4,3 +4,4 @@ pub mod KidCells
 pub mod StepCells
 pub mod CursorSteps
 pub mod Taken
+pub mod TableParts

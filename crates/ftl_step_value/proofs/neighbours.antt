@@ -1,6 +1,6 @@
-pub mod NearLists
-pub mod NearSeen
+pub mod NeighbourLists
+pub mod NeighbourSeen
 pub mod SeenCells
-pub mod NearSteps
-pub mod NearTable
-pub mod NearCursor
+pub mod NeighbourSteps
+pub mod NeighbourTable
+pub mod NeighbourCursor

@@ -1,3 +1,3 @@
-pub mod NearParts
-pub mod NearCells
+pub mod NeighbourParts
+pub mod NeighbourCells
 pub mod Worked

@@ -1,11 +1,17 @@
-//! TODO: what this room has. Its folders, from the bottom up:
+//! What a step reads, and the value that it gives. Goes in: a tree of a checked grammar with the
+//! code of its rules, a step at one of its nodes, and the words of its cells. Comes out: the cells
+//! that the step reads, the cell that it fills, and the value.
 //!
-//! - `cells`: The cells of a step.
-//! - `neighbours`: The cells that a step reads, found quickly where all its reads are of near
-//!   nodes: its own node, the kid at hand, and the kid before that one.
-//! - `value`: The value of a step.
+//! - `cells`: `target_cell`, `read_count`, `StepReads`: the cells of a step
+//! - `neighbours`: the cells of a step, found quickly where all are of the node, the kid at hand
+//!   and the kid before
+//! - `value`: `step_value`: the value of a step; `copied_cell`: which cell it copies
 #![tactic(auto)]
 
 pub mod cells;
 pub mod neighbours;
 pub mod value;
+
+pub use cells::{StepReads, read_at, read_count, target_cell};
+pub use neighbours::{NeighbourCells, NeighbourParts, neighbour_parts};
+pub use value::{RuleCopy, copied_cell, rule_copies, step_value};

@@ -1,10 +1,11 @@
-//! TODO: what this room has. Its folders, from the bottom up:
+//! Tests of lower crates, which stand here so that those are proved once and not once more with
+//! their tests.
 //!
-//! - `base`: The tests of values and the stack, apart from them, so that these are proved once.
-//! - `edge`: The tests of sources and sinks, apart from them, so that these are proved once.
-//! - `boxes`: Shipped texts and samples.
-//! - `page`: Worked pages.
-//! - `code`: Worked code, from its instructions and its reads to its value.
+//! - `base`: values and the stack
+//! - `edge`: sources and sinks
+//! - `boxes`: shipped grammars and samples
+//! - `page`: sections of pages
+//! - `code`: code, from its instructions and its reads to its value
 #![tactic(auto)]
 
 pub mod base;

@@ -22,7 +22,7 @@ use crate::tokens::{
     greatest, write_gaps, write_kinds, write_limited, write_names, write_numbers, write_places,
 };
 use ftl_boxes::shipped;
-use ftl_tokens::scanner::{Scanned, WideScanned, document_tokens, tokens};
+use ftl_tokens::{Scanned, WideScanned, document_tokens, tokens};
 use std::alloc::{AllocError, Global};
 use std::fmt::Write;
 

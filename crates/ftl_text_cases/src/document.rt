@@ -1,7 +1,7 @@
 //! Documents, as they are written.
 
-use ftl_document::syntax::{WrittenDocument, WrittenRow, read_written_document};
-use ftl_tokens::scanner::WideScanned;
+use ftl_document::{WrittenDocument, WrittenRow, read_written_document};
+use ftl_tokens::WideScanned;
 use std::alloc::{AllocError, Global};
 use std::fmt::Write;
 

@@ -1,7 +1,7 @@
 //! Grammars, read and printed.
 
-use ftl_grammar::reading::{SyntaxFault, print_grammar, read_grammar};
-use ftl_tokens::scanner::{Scanned, tokens};
+use ftl_grammar::{SyntaxFault, print_grammar, read_grammar};
+use ftl_tokens::{Scanned, tokens};
 use std::alloc::{AllocError, Global};
 
 /// The most bytes of a text.

@@ -2,14 +2,13 @@
 
 ghost use Rattle.ftl_tokens.specs.scanner.Tokenized.{IsGreatestNumber};
 
-use ftl_tokens::scanner::{Kind, Name, Scanned, Token, WideScanned};
-use ftl_tokens::writing::{write_fixed, write_name, write_number};
+use ftl_tokens::{Kind, Name, Scanned, Token, WideScanned, write_fixed, write_name, write_number};
 use std::alloc::{AllocError, Global};
 use std::fmt::Write;
 
 /// Where the numbers of a document end.
 pub(crate) fn greatest(question: &str) -> u64
-    ensures { IsGreatestNumber result }
+    ensures limit { IsGreatestNumber result }
 {
     if question.starts_with("wide") {
         140737488355327

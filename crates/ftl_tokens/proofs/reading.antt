@@ -1,7 +1,7 @@
-pub mod Told
+pub mod KeptPrefix
 pub mod TokenLemmas
-pub mod TokenTold
-pub mod ChainTold
+pub mod TokenPrefix
+pub mod ChainPrefix
 pub mod Went
 pub mod ChainWent
 pub mod UntilWent

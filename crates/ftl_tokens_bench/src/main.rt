@@ -3,7 +3,7 @@
 #![tactic(auto)]
 
 use ftl_edge::{StdSource, read_all};
-use ftl_tokens::scanner::tokens;
+use ftl_tokens::tokens;
 use std::time::Instant;
 use std::{env, io};
 

@@ -1,12 +1,14 @@
-//! TODO: what this room has. Its folders, from the bottom up:
+//! Rules as code, and the visits that run them. Goes in: a grammar that `ftl_checked` accepted, and
+//! the passes of a schedule. Comes out: the code of each rule, which computes what the rule means,
+//! and for each pass and class the list of what a visit does.
 //!
-//! - `rule_code`: Code without names, and the engine that runs it.
-//! - `compiled`: The code of rules.
-//! - `visits`: The visits of the classes of a grammar.
-//! - `rule_values`: Rule code and visits.
-//! - `step_reads`: How much rules read.
-//! - `rule_tables`: The rules of a checked grammar by what they define.
-//! - `passes`: The visits of the classes of a grammar in one pass, made once for all nodes.
+//! - `rule_code`: code without names, and the engine that runs it
+//! - `compiled`: `compile`, `Programs`, `run_code`: the code of each part of each rule
+//! - `visits`: `visit_list`: the visits of the classes, as lists of rules by number
+//! - `rule_values`: what the parts of a rule give, run one after another
+//! - `step_reads`: how many occurrences a rule reads at a node
+//! - `rule_tables`: rules by class, child and attribute that they define
+//! - `passes`: `PassVisits`: the visits of one pass, made once for all nodes
 #![tactic(auto)]
 
 pub mod compiled;
@@ -16,3 +18,11 @@ pub mod rule_tables;
 pub mod rule_values;
 pub mod step_reads;
 pub mod visits;
+
+pub use compiled::{Code, Part, Programs, compile, has_code};
+pub use passes::{PassVisits, RuleTarget, rule_targets};
+pub use rule_code::{Instruction, Reads};
+pub use rule_tables::{RuleTables, class_attributes};
+pub use rule_values::{Runner, StepPlace, parts_give_the_rule, step_place};
+pub use step_reads::read_count;
+pub use visits::{RuleIndex, VisitOp, visit_list};

@@ -88,7 +88,7 @@ impl BitMatrix {
 
 // Adds the entries of walks, by one pivot after another (Warshall's algorithm).
 fn close_rows(rows: &mut [BitRow])
-    requires { length rows.old ≤ 2048 }
+    requires size { length rows.old ≤ 2048 }
     ensures size { length rows.new ≡ length rows.old }
     ensures closed { (a b : ℕ) → (entry rows.new a b ≡ true) ↔ Leads rows.old a b }
 {
@@ -115,8 +115,8 @@ fn close_over(rows: &mut [BitRow], pivot: usize)
 
 // Adds the other's numbers, where the row has this one.
 fn join_where(row: &mut BitRow, number: u32, other: &BitRow)
-    requires { number < 2048 }
-    ensures { row.new
+    requires number { number < 2048 }
+    ensures joined { row.new
         ≡ (if set.contains row.old number then set.union row.old other.now else row.old) }
 {
     if row.has(number) {

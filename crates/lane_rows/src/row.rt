@@ -87,7 +87,7 @@ impl BitRow {
     }
 
     fn lanes(&self) -> u64x32
-        ensures { row_of result ≡ self.now }
+        ensures row { row_of result ≡ self.now }
     {
         u64x32::from_array(self.words)
     }

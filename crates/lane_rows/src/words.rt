@@ -9,19 +9,19 @@ use std::simd::prelude::*;
 pub(crate) const WORDS: usize = 32;
 
 pub(crate) fn union(words: u64x32, other: u64x32) -> u64x32
-    ensures { row_of result ≡ set.union (row_of words) (row_of other) }
+    ensures joined { row_of result ≡ set.union (row_of words) (row_of other) }
 {
     words | other
 }
 
 pub(crate) fn minus(words: u64x32, other: u64x32) -> u64x32
-    ensures { row_of result ≡ set.difference (row_of words) (row_of other) }
+    ensures left { row_of result ≡ set.difference (row_of words) (row_of other) }
 {
     words & !other
 }
 
 pub(crate) fn count(words: u64x32) -> u32
-    ensures { result ≡ set.len (row_of words) }
+    ensures numbers { result ≡ set.len (row_of words) }
 {
     words.count_ones().reduce_sum() as u32
 }

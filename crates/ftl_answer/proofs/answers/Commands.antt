@@ -27,10 +27,10 @@ use Rattle.ftl_answer.specs.refusals.PageLines.{page_line, too_long_line, words_
 use Rattle.ftl_answer.specs.answers.Answer.{Answer, refused}
 use Rattle.ftl_answer.specs.answers.Answers.{HasOneAnswer, answered, boxes_of, command_in, document_text, obeyed, rules_alone}
 use Rattle.ftl_answer.specs.answers.Answers.{shown_answer, shown_by, solved, summary_of, text_or_none, whole_page, with_rules}
-use Rattle.ftl_answer.specs.answers.Stages.{HasOne, Is, Outcome, Stage, Then, ends, hands_on, or_told}
+use Rattle.ftl_answer.specs.answers.Stages.{Is, Outcome, Stage, Then, ends, hands_on, result_outcome}
 use Rattle.ftl_answer.specs.answers.Texts.{grammar, page, schedule, tree}
 use Rattle.ftl_answer.proofs.answers.DocumentBytes.{document_utf8}
-use Rattle.ftl_answer.proofs.answers.Ones.{end_is_no_value, is_one, same_end, same_value, then_one}
+use Rattle.ftl_answer.proofs.answers.Ones.{HasOne, end_is_no_value, is_one, same_end, same_value, then_one}
 use Rattle.ftl_answer.proofs.answers.Rules.{IsHanded, grammar_handed, grammar_one, handed_law, schedule_one, schedule_ordered}
 use Rattle.ftl_answer.proofs.answers.TreesRead.{tree_fits, tree_one}
 
@@ -56,7 +56,7 @@ text_utf8 p all = by p.document all
     by (Some text) h = h
 
 of_result : (need : Need) (bytes : List ℕ) (p : Page) → length bytes ≤ 67108864 → (r : Result Page PageFault)
-    → page_of bytes need ≡ r → hands_on p ≡ or_told (λ fault. refused 4 (page_line fault)) r → IsRead p
+    → page_of bytes need ≡ r → hands_on p ≡ result_outcome (λ fault. refused 4 (page_line fault)) r → IsRead p
 of_result need bytes p few (Ok q) e is =
     let same : p ≡ q = same_value p q is in
     let read : page_of bytes need ≡ Ok p = e ∙ ap Ok (sym same) in
@@ -66,7 +66,7 @@ of_result need bytes p few (Err fault) e is = absurd (end_is_no_value (refused 4
 
 by_length : (need : Need) (bytes : List ℕ) (p : Page) (b : Bool) → nat_lt 67108864 (length bytes) ≡ b
     → hands_on p ≡ (if b then ends (refused 4 too_long_line)
-    else or_told (λ fault. refused 4 (page_line fault)) (page_of bytes need)) → IsRead p
+    else result_outcome (λ fault. refused 4 (page_line fault)) (page_of bytes need)) → IsRead p
 by_length need bytes p true e is = absurd (end_is_no_value (refused 4 too_long_line) p (sym is))
 by_length need bytes p false e is = of_result need bytes p (ltb-false 67108864 (length bytes) e) (page_of bytes need) refl is
 
@@ -118,7 +118,7 @@ obeyed_one (command.Run how) bytes = solved_one bytes boxes_of
 obeyed_one command.Check bytes = rules_one rules_alone bytes _ (λ c s p read law ordered. is_one _)
 obeyed_one command.Schedule bytes = rules_one rules_alone bytes _ (λ c s p read law ordered. is_one _)
 obeyed_one (command.Sample pieces name how) bytes =
-    then_one (Is (or_told (λ fault. refused 2 words_line) (sample_page_of name pieces)))
+    then_one (Is (result_outcome (λ fault. refused 2 words_line) (sample_page_of name pieces)))
     (λ text. solved text (summary_of name)) (is_one _) (λ text is. solved_one text (summary_of name))
 
 answered_one : (words : List (List ℕ)) (bytes : List ℕ) → HasOne (answered words bytes)

@@ -1,7 +1,12 @@
 -- Stages of one outcome, alone and one after the other.
 use Rattle.std.proofs.Common.{◌≡◌, ◌≢◌, inl, inr, refl, sym, ap, subst, ◌∙◌, Option, Some, None, Result, Ok, Err}
 use Rattle.ftl_answer.specs.answers.Answer.{Answer}
-use Rattle.ftl_answer.specs.answers.Stages.{HasOne, Is, Outcome, Stage, Then, Told, ends, hands_on, unless}
+use Rattle.ftl_answer.specs.answers.Stages.{Is, Outcome, Stage, Then, ResultStage, ends, hands_on, unless}
+
+-- a stage has one outcome
+pub record HasOne {X : Type 0} (stage : Stage X) : Type 0 where
+  pub some : (outcome : Outcome X) × stage outcome
+  pub any_two : (one other : Outcome X) → stage one → stage other → one ≡ other
 
 -- the end, at an outcome of this type
 abbrev ended : (X : Type 0) → Answer → Outcome X
@@ -55,14 +60,14 @@ then_one {X = X} {Y = Y} first second one next = record { some = some_of one.som
         q.2
 
 -- so has what a call answers, where it has one answer beside want of memory
-pub told_one : {X E : Type 0} (memory : E) (tell : E → Answer) (Answers : Result X E → Type 0)
+pub result_one : {X E : Type 0} (memory : E) (tell : E → Answer) (Answers : Result X E → Type 0)
     → ((answer : Result X E) × (answer ≢ Err memory) × Answers answer)
     → ((answer other : Result X E) → answer ≢ Err memory → other ≢ Err memory → Answers answer → Answers other → answer ≡ other)
-    → HasOne (Told memory tell Answers)
-told_one {X = X} {E = E} memory tell Answers some two = record { some = some_of some.0 some.1 some.2; any_two = any }
+    → HasOne (ResultStage memory tell Answers)
+result_one {X = X} {E = E} memory tell Answers some two = record { some = some_of some.0 some.1 some.2; any_two = any }
   where
     some_of : (answer : Result X E) → answer ≢ Err memory → Answers answer
-        → (outcome : Outcome X) × Told memory tell Answers outcome
+        → (outcome : Outcome X) × ResultStage memory tell Answers outcome
     some_of (Ok x) other p = (hands_on x, p)
     some_of (Err e) other p = (ends (tell e), (e, (λ is. other (ap Err is)), p, refl))
 
@@ -72,7 +77,7 @@ told_one {X = X} {E = E} memory tell Answers some two = record { some = some_of 
     ok : (x : X) → Ok x ≢ Err memory
     ok x is = cc
 
-    any : (o u : Outcome X) → Told memory tell Answers o → Told memory tell Answers u → o ≡ u
+    any : (o u : Outcome X) → ResultStage memory tell Answers o → ResultStage memory tell Answers u → o ≡ u
     any (hands_on x) (hands_on y) p q =
         let same : Ok x ≡ Ok y = two (Ok x) (Ok y) (ok x) (ok y) p q in ap hands_on cc
     any (hands_on x) (ends b) p q =

@@ -1,5 +1,7 @@
 -- A page has one grammar and one schedule, or one refusal of them.
 use Rattle.std.proofs.Common.{◌≡◌, ◌⊎◌, inl, inr, refl, sym, ap, ◌∙◌, subst, ℕ, List, [], Option, Some, None}
+use Rattle.std.specs.Option.{option_or}
+use Rattle.ftl_model.proofs.lists.FirstAlong.{neither}
 use Rattle.ftl_base.specs.declared.width.Width.{Width}
 use Rattle.ftl_order.specs.orders.Lawful.{IsLawful}
 use Rattle.ftl_order.specs.orders.Ordered.{IsOrdered}
@@ -20,7 +22,6 @@ use Rattle.ftl_schedule.specs.declared.stages.types.Schedule.{Schedule}
 use Rattle.ftl_schedule.specs.declared.names.fault.ScheduleFault.TheVariants as schedules
 use Rattle.ftl_schedule.specs.reading.Read.{Answers}
 use Rattle.ftl_order.specs.faults.FirstFault as orders
-use Rattle.ftl_order.proofs.faults.Along.{neither}
 use Rattle.ftl_order.proofs.faults.Entries.{stands_once}
 use Rattle.ftl_order.proofs.faults.Pairs.{pairs_ordered}
 use Rattle.ftl_order.specs.automatic.Automatic.{IsAutomatic, IsStuck}
@@ -31,10 +32,10 @@ use Rattle.ftl_answer.specs.refusals.GrammarLines.{grammar_line}
 use Rattle.ftl_answer.specs.refusals.ScheduleLines.{schedule_line, stuck_line, verify_line}
 use Rattle.ftl_answer.specs.refusals.TextLines.{syntax_line}
 use Rattle.ftl_answer.specs.answers.Answer.{refused}
-use Rattle.ftl_answer.specs.answers.Stages.{HasOne, Outcome, Then, ends, hands_on}
+use Rattle.ftl_answer.specs.answers.Stages.{Outcome, Then, ends, hands_on}
 use Rattle.ftl_answer.specs.answers.Texts.{automatic_schedule, checked_grammar, grammar, lawful_grammar, ordered_schedule}
 use Rattle.ftl_answer.specs.answers.Texts.{schedule, spelled_grammar, spelled_schedule, tokens}
-use Rattle.ftl_answer.proofs.answers.Ones.{handed, is_one, then_handed, then_one, told_one}
+use Rattle.ftl_answer.proofs.answers.Ones.{HasOne, handed, is_one, then_handed, then_one, result_one}
 use Rattle.ftl_answer.proofs.answers.ScheduleTexts.{one_schedule, some_schedule}
 use Rattle.ftl_answer.proofs.answers.StagesBack.{one_stands, same_schedule, schedule_back}
 
@@ -42,7 +43,7 @@ use Rattle.ftl_answer.proofs.answers.StagesBack.{one_stands, same_schedule, sche
 
 spelled_one : (scanned : Tokenized) → HasOne (spelled_grammar scanned)
 spelled_one scanned =
-    told_one syntax.OutOfMemory (λ fault. refused 5 (syntax_line fault)) (ReadsGrammar scanned)
+    result_one syntax.OutOfMemory (λ fault. refused 5 (syntax_line fault)) (ReadsGrammar scanned)
     (grammars.some_answer scanned) (grammars.any_two_answers scanned)
 
 pub grammar_one : (width : Width) (text : List ℕ) → HasOne (grammar width text)
@@ -105,7 +106,7 @@ module _ (c : CheckedGrammar) (law : IsLawful (meant c)) where
       (λ scanned. Then (spelled_schedule c scanned) (ordered_schedule c)) (is_one _)
       (λ scanned is.
       then_one (spelled_schedule c scanned) (ordered_schedule c)
-      (told_one schedules.OutOfMemory (λ fault. refused 6 (schedule_line fault)) (Answers c.grammar scanned)
+      (result_one schedules.OutOfMemory (λ fault. refused 6 (schedule_line fault)) (Answers c.grammar scanned)
       (some_schedule c.grammar scanned) (one_schedule c.grammar scanned))
       (λ s read. is_one _))
 
@@ -113,13 +114,13 @@ module _ (c : CheckedGrammar) (law : IsLawful (meant c)) where
   fine : (s : order.Schedule) → orders.first_fault (meant c) s ≡ None → IsOrdered (meant c) s
   fine s none =
       let a =
-      neither (orders.first_twice [] (order.entries s)) (orders.or_else (orders.first_missing (meant c) (order.entries s))
-      (orders.first_unordered (meant c) (order.spot_of s))) none in
+      neither (orders.first_twice [] (order.entries s)) (option_or (orders.first_missing (meant c) (order.entries s))
+      (orders.first_unordered (meant c) (order.placing_of s))) none in
       let b =
-      neither (orders.first_missing (meant c) (order.entries s)) (orders.first_unordered (meant c) (order.spot_of s)) a.later in
+      neither (orders.first_missing (meant c) (order.entries s)) (orders.first_unordered (meant c) (order.placing_of s)) a.later in
       record {
         once = stands_once (meant c) s a.first b.first;
-        pairs = pairs_ordered (meant c) (order.spot_of s) law b.later;
+        pairs = pairs_ordered (meant c) (order.placing_of s) law b.later;
       }
 
   pub schedule_ordered : (text : Option (List ℕ)) (s : Schedule) → schedule c text (hands_on s)

@@ -20,26 +20,24 @@ use Rattle.ftl_meaning.specs.lawful.Faultless.{IsFaultless}
 use Rattle.ftl_deps.specs.reads.Meant.{meant}
 use Rattle.ftl_schedule.specs.stages.Stages.{stages_of}
 use Rattle.ftl_schedule.specs.declared.stages.types.Schedule.{Schedule}
-use Rattle.ftl_document.specs.syntax.Sizes.{FieldsAreWithin, NodesAreWithin}
-use Rattle.ftl_document.specs.syntax.Written.{WrittenFields, WrittenNodes, list_field, no_fields, no_nodes, node_and}
-use Rattle.ftl_document.specs.syntax.Written.{node_field, number_field}
 use Rattle.ftl_document.proofs.syntax.NumberLemmas.{document-within}
 use Rattle.ftl_document.specs.faults.FirstFault.{first_node_fault, first_there, instance_count_of, too_many_instances}
-use Rattle.ftl_document.specs.faults.Within.{AreAllWithin, AreWithin, IsWithin}
+use Rattle.ftl_document.specs.faults.Within.{IsWithin}
 use Rattle.ftl_document.specs.declared.faults.fault.DocFault.{DocFault}
 use Rattle.ftl_document.specs.declared.faults.fault.DocFault.TheVariants as document
 use Rattle.ftl_document.proofs.faults.RightTrees.{faultless_is_tree}
 use Rattle.ftl_tree.specs.trees.CheckedTree.{CheckedTree}
 use Rattle.ftl_document.specs.reading.ReadTree.{IsTreeRead, ReadsTree}
+use Rattle.ftl_document.proofs.reading.Widths.{fields_within}
 use Rattle.ftl_document.proofs.reading.ReadOnce.{any_two_trees, some_tree}
 use Rattle.ftl_limits.specs.faults.PlanFaults.{first_fault}
 use Rattle.ftl_answer.specs.refusals.DocumentLines.{document_line}
 use Rattle.ftl_answer.specs.refusals.PlanLines.{plan_line}
 use Rattle.ftl_answer.specs.refusals.TextLines.{token_line}
 use Rattle.ftl_answer.specs.answers.Answer.{refused}
-use Rattle.ftl_answer.specs.answers.Stages.{HasOne, Stage, Then, hands_on}
+use Rattle.ftl_answer.specs.answers.Stages.{Stage, Then, hands_on}
 use Rattle.ftl_answer.specs.answers.Texts.{planned_tree, scanned_as, spelled_tree, status_of, tokenized, tokens, tree, wide}
-use Rattle.ftl_answer.proofs.answers.Ones.{end_is_no_value, handed, is_one, same_value, then_handed, then_one, told_one}
+use Rattle.ftl_answer.proofs.answers.Ones.{HasOne, end_is_no_value, handed, is_one, same_value, then_handed, then_one, result_one}
 
 -- ---- tokens
 
@@ -79,22 +77,6 @@ few_of greatest text scanned are short utf8 =
       numbers = at_most-symbols greatest scanned.text 0 scanned.tokens own;
     }
 
--- ---- widths, as the syntax and as the faults say it
-
-mutual
-  fields_within : (greatest : ℕ) (fields : WrittenFields) → FieldsAreWithin greatest fields → AreWithin greatest fields
-  fields_within greatest no_fields h = tt
-  fields_within greatest (number_field name n later) h = (h.0, fields_within greatest later h.1)
-  fields_within greatest (node_field name class fields later) h =
-      (fields_within greatest fields h.0, fields_within greatest later h.1)
-  fields_within greatest (list_field name nodes later) h =
-      (nodes_within greatest nodes h.0, fields_within greatest later h.1)
-
-  nodes_within : (greatest : ℕ) (nodes : WrittenNodes) → NodesAreWithin greatest nodes → AreAllWithin greatest nodes
-  nodes_within greatest no_nodes h = tt
-  nodes_within greatest (node_and class fields later) h =
-      (fields_within greatest fields h.0, nodes_within greatest later h.1)
-
 -- ---- the tree
 
 module _ (c : CheckedGrammar) (s : Schedule) (text : List ℕ) (short : length text ≤ 67108864) (utf8 : IsUtf8 text) where
@@ -114,7 +96,7 @@ module _ (c : CheckedGrammar) (s : Schedule) (text : List ℕ) (short : length t
       (λ scanned is.
       let w = wide (greatest_of_width c.width) scanned in
       then_one (spelled_tree c w) (λ (t : CheckedTree). planned_tree c s t.tree)
-      (told_one document.OutOfMemory (λ fault. refused 7 (document_line c.grammar fault)) (ReadsTree c w)
+      (result_one document.OutOfMemory (λ fault. refused 7 (document_line c.grammar fault)) (ReadsTree c w)
       (some_tree c w (few_in scanned is).few (few_in scanned is).numbers) (any_two_trees c w))
       (λ t read. is_one _))
 

@@ -11,7 +11,7 @@ use Rattle.ftl_page.specs.declared.commands.command.Command.TheVariants as comma
 use Rattle.ftl_page.proofs.commands.WorkedWords as worked
 use Rattle.ftl_answer.specs.answers.Answer.{Answer, refused}
 use Rattle.ftl_answer.specs.answers.Answers.{IsAnswer, command_in, rules_alone}
-use Rattle.ftl_answer.specs.answers.Stages.{or_told}
+use Rattle.ftl_answer.specs.answers.Stages.{result_outcome}
 
 abbrev bad_words : Answer
 bad_words = refused 2 (codes "refused words")
@@ -32,4 +32,4 @@ no_first_line = cond-true _ _ _ (is_utf8-from_IsUtf8 [] IsUtf8-nil)
 
 pub empty_page : IsAnswer (codes "check" ∷ []) [] no_version
 empty_page =
-    inr (command.Check, sym (ap command_in worked.is_check), inl (no_version, sym (ap (or_told (λ fault. refused 4 (page_line fault))) no_first_line), refl))
+    inr (command.Check, sym (ap command_in worked.is_check), inl (no_version, sym (ap (result_outcome (λ fault. refused 4 (page_line fault))) no_first_line), refl))

@@ -15,7 +15,7 @@ use Rattle.ftl_answer.proofs.answers.Rules.{grammar_handed, handed_law, schedule
 use Rattle.ftl_answer.proofs.answers.TreesRead.{tree_fits}
 use Rattle.ftl_answer.specs.headline.Headline.{HasOneTable, IsAccepted, OneTableOf}
 
-accepted_one : (bytes : List ℕ) → HasOneTable bytes
+pub accepted_one : (bytes : List ℕ) → HasOneTable bytes
 accepted_one bytes c t x =
     let p = x.sections in
     let read = page_read whole_page bytes p x.read in

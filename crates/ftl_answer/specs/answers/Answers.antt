@@ -18,7 +18,7 @@ use Rattle.ftl_schedule.specs.printing.WrittenOf.{written_of}
 use Rattle.ftl_schedule.specs.text.ScheduleText.{schedule_text}
 use Rattle.ftl_answer.specs.refusals.PageLines.{words_line}
 use Rattle.ftl_answer.specs.answers.Answer.{Answer, answer, refused}
-use Rattle.ftl_answer.specs.answers.Stages.{Is, Outcome, Stage, Then, ends, hands_on, or_told}
+use Rattle.ftl_answer.specs.answers.Stages.{Is, Outcome, Stage, Then, ends, hands_on, result_outcome}
 use Rattle.ftl_answer.specs.answers.Summary.{summary}
 use Rattle.ftl_answer.specs.answers.Texts.{grammar, page, schedule, tree}
 
@@ -80,7 +80,7 @@ obeyed command.Check bytes = with_rules rules_alone bytes (λ c s p. Is (ends (a
 obeyed command.Schedule bytes =
     with_rules rules_alone bytes (λ c s p. Is (ends (answer 0 (schedule_text (written_of c.grammar s)))))
 obeyed (command.Sample pieces name how) bytes =
-    Then (Is (or_told (λ fault. refused 2 words_line) (sample_page_of name pieces)))
+    Then (Is (result_outcome (λ fault. refused 2 words_line) (sample_page_of name pieces)))
     (λ text. solved text (summary_of name))
 
 -- the command that the words are

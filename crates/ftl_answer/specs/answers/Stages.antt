@@ -22,20 +22,15 @@ Then first second outcome =
 
 -- what a fault or none comes to
 abbrev pub unless : {X E : Type 0} → (E → Answer) → Option E → X → Outcome X
-unless tell None x = hands_on x
-unless tell (Some fault) x = ends (tell fault)
+unless refusal None x = hands_on x
+unless refusal (Some fault) x = ends (refusal fault)
 
 -- what a result comes to
-abbrev pub or_told : {X E : Type 0} → (E → Answer) → Result X E → Outcome X
-or_told tell (Ok x) = hands_on x
-or_told tell (Err fault) = ends (tell fault)
+abbrev pub result_outcome : {X E : Type 0} → (E → Answer) → Result X E → Outcome X
+result_outcome refusal (Ok x) = hands_on x
+result_outcome refusal (Err fault) = ends (refusal fault)
 
 -- what a call answers, by the results that it may have: its value is handed on, and a fault told, but for want of memory
-abbrev pub Told : {X E : Type 0} → (memory : E) → (E → Answer) → (Result X E → Type 0) → Stage X
-Told memory tell Answers (hands_on x) = Answers (Ok x)
-Told memory tell Answers (ends a) = (fault : _) × (fault ≢ memory) × Answers (Err fault) × (a ≡ tell fault)
-
--- a stage has one outcome
-pub record HasOne {X : Type 0} (stage : Stage X) : Type 0 where
-  pub some : (outcome : Outcome X) × stage outcome
-  pub any_two : (one other : Outcome X) → stage one → stage other → one ≡ other
+abbrev pub ResultStage : {X E : Type 0} → (memory : E) → (E → Answer) → (Result X E → Type 0) → Stage X
+ResultStage memory refusal Answers (hands_on x) = Answers (Ok x)
+ResultStage memory refusal Answers (ends a) = (fault : _) × (fault ≢ memory) × Answers (Err fault) × (a ≡ refusal fault)

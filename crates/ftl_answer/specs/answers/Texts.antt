@@ -35,7 +35,8 @@ use Rattle.ftl_answer.specs.refusals.PlanLines.{plan_line}
 use Rattle.ftl_answer.specs.refusals.ScheduleLines.{schedule_line, stuck_line, verify_line}
 use Rattle.ftl_answer.specs.refusals.TextLines.{syntax_line, token_line}
 use Rattle.ftl_answer.specs.answers.Answer.{refused}
-use Rattle.ftl_answer.specs.answers.Stages.{Is, Outcome, Stage, Then, Told, ends, hands_on, or_told, unless}
+use Rattle.ftl_answer.specs.answers.Stages.{Is, Outcome, Stage, Then, ResultStage, ends, hands_on, result_outcome}
+use Rattle.ftl_answer.specs.answers.Stages.{unless}
 
 -- the status of a refusal in a section
 abbrev pub status_of : Section → ℕ
@@ -50,7 +51,7 @@ status_of section.Edits = 10
 abbrev pub page : Need → (bytes : List ℕ) → Stage Page
 page need bytes =
     Is (if nat_lt 67108864 (length bytes) then ends (refused 4 too_long_line)
-    else or_told (λ fault. refused 4 (page_line fault)) (page_of bytes need))
+    else result_outcome (λ fault. refused 4 (page_line fault)) (page_of bytes need))
 
 -- ---- tokens
 
@@ -72,7 +73,7 @@ tokens which greatest text = Is (scanned_as which text (scan greatest text))
 -- the grammar that the tokens spell
 abbrev pub spelled_grammar : Tokenized → Stage Grammar
 spelled_grammar scanned =
-    Told syntax.OutOfMemory (λ fault. refused 5 (syntax_line fault)) (ReadsGrammar scanned)
+    ResultStage syntax.OutOfMemory (λ fault. refused 5 (syntax_line fault)) (ReadsGrammar scanned)
 
 -- the grammar in this width
 abbrev pub checked_grammar : Width → Grammar → CheckedGrammar
@@ -94,7 +95,7 @@ grammar width text =
 -- the schedule that the tokens spell, by what its names stand for
 abbrev pub spelled_schedule : CheckedGrammar → Tokenized → Stage Schedule
 spelled_schedule c scanned =
-    Told schedules.OutOfMemory (λ fault. refused 6 (schedule_line fault)) (Answers c.grammar scanned)
+    ResultStage schedules.OutOfMemory (λ fault. refused 6 (schedule_line fault)) (Answers c.grammar scanned)
 
 -- it is ordered
 abbrev pub ordered_schedule : CheckedGrammar → Schedule → Stage Schedule
@@ -118,7 +119,7 @@ schedule c (Some text) =
 -- the tree that the tokens mean
 abbrev pub spelled_tree : CheckedGrammar → WideTokenized → Stage CheckedTree
 spelled_tree c scanned =
-    Told document.OutOfMemory (λ fault. refused 7 (document_line c.grammar fault)) (ReadsTree c scanned)
+    ResultStage document.OutOfMemory (λ fault. refused 7 (document_line c.grammar fault)) (ReadsTree c scanned)
 
 -- no stage reads too much
 abbrev pub planned_tree : CheckedGrammar → Schedule → Forest → Stage Forest

@@ -7,7 +7,7 @@ use Rattle.ftl_page.specs.commands.Commands.{command_of}
 use Rattle.ftl_page.specs.declared.commands.command.Command.{Command}
 use Rattle.ftl_page.specs.declared.commands.command.Command.TheVariants as command
 use Rattle.ftl_deps.specs.reads.Meant.{meant}
-use Rattle.ftl_edge.specs.Counts.{Rose, RoseBy, SourceCounts, raised}
+use Rattle.ftl_edge.specs.Counts.{Rose, RoseBy, SourceCounts, raised, source_counts}
 use Rattle.ftl_edge.specs.Sink.{AppendsFront}
 use Rattle.ftl_meaning.specs.faults.Checked.{CheckedGrammar}
 use Rattle.ftl_model.specs.layout.Tree.{Forest}
@@ -63,8 +63,8 @@ abbrev pub OfTheAnswer : (words : List (List ℕ)) → (told : Option (List ℕ)
 OfTheAnswer words told P = OfTheBytes told (λ bytes. (a : Answer) × IsAnswer words bytes a × P bytes a)
 
 -- a write fault, a read fault or want of memory
-abbrev pub IsTrouble : (status : ℕ) → Type 0
-IsTrouble s = (s ≡ 1) ⊎ ((s ≡ 3) ⊎ (s ≡ 9))
+abbrev pub IsFaultOrWant : (status : ℕ) → Type 0
+IsFaultOrWant s = (s ≡ 1) ⊎ ((s ≡ 3) ⊎ (s ≡ 9))
 
 -- the status of an answer is none of these
 pub record IsAnswered (status : ℕ) : Type 0 where
@@ -72,15 +72,15 @@ pub record IsAnswered (status : ℕ) : Type 0 where
   pub no_read_fault : status ≢ 3
   pub no_want : status ≢ 9
 
--- What is told of an answer, by the status that the call ends with, what was written before and after, what is left of
--- the source, and its counts before and after: the status is the answer's, or tells of trouble, and where no count of
+-- How a call ends that has this answer, by its status, what was written before and after, what is left of the source,
+-- and the source's counts before and after: the status is the answer's, or tells of trouble, and where no count of
 -- faults rose, of no other trouble than want of memory. With the answer's status its whole text was appended, and with a
 -- write fault a front of it. Unless the page is too long, a read failed or memory ran out, a source that is read, and
 -- tells what it has left, is read to its end, and as many bytes were taken as are answered. Of a page that is longer than
 -- one may be, all that one may have and one byte more were taken.
-pub record IsTold (s : ℕ) (written after : Option (List ℕ)) (reads : Bool) (told left : Option (List ℕ))
+pub record MatchesAnswer (s : ℕ) (written after : Option (List ℕ)) (reads : Bool) (told left : Option (List ℕ))
     (old new : SourceCounts) (write_rose : Type 0) (bytes : List ℕ) (a : Answer) : Type 0 where
-  pub status : (s ≡ a.status) ⊎ IsTrouble s
+  pub status : (s ≡ a.status) ⊎ IsFaultOrWant s
   pub no_excuse : (write_rose → ⊥) → (Rose old.fault_count new.fault_count → ⊥) → (s ≡ a.status) ⊎ (s ≡ 9)
   pub text : s ≡ a.status → Appends written after a.text
   pub front : s ≡ 1 → AppendsFront written after a.text
@@ -129,3 +129,64 @@ OneTableOf (Some command.Schedule) told = (bytes : List ℕ) → AreTold told by
 OneTableOf (Some (command.Sample pieces name how)) told =
     (text : List ℕ) → sample_page_of name pieces ≡ Ok text → HasOneTable text
 OneTableOf None told = Unit {0}
+
+-- ---- a call, and the four things that are promised of it
+
+-- What is seen of a call: its words, and the status that it ends with; what is left of the source, and the source's
+-- counts, before and after; what was written to the sink, and how often the sink failed, before and after.
+pub record Call : Type 0 where
+  pub words : List (List ℕ)
+  pub status : ℕ
+  pub left_before : Option (List ℕ)
+  pub left_after : Option (List ℕ)
+  pub counts_before : SourceCounts
+  pub counts_after : SourceCounts
+  pub written_before : Option (List ℕ)
+  pub written_after : Option (List ℕ)
+  pub sink_faults_before : ℕ
+  pub sink_faults_after : ℕ
+
+-- the call with this source and this sink, before and after, by what is seen of them
+abbrev pub call_of : {S K : Type 0} → (remaining : S → Option (List ℕ)) → (calls taken fault_count : S → ℕ)
+    → (written : K → Option (List ℕ)) → (sink_faults : K → ℕ) → (words : List (List ℕ)) → (status : ℕ)
+    → (source source_after : S) → (sink sink_after : K) → Call
+call_of remaining calls taken fault_count written sink_faults words status source source_after sink sink_after = record {
+  words = words;
+  status = status;
+  left_before = remaining source;
+  left_after = remaining source_after;
+  counts_before = source_counts (calls source) (taken source) (fault_count source);
+  counts_after = source_counts (calls source_after) (taken source_after) (fault_count source_after);
+  written_before = written sink;
+  written_after = written sink_after;
+  sink_faults_before = sink_faults sink;
+  sink_faults_after = sink_faults sink_after;
+}
+
+-- the sink failed in the call
+abbrev pub SinkFailed : Call → Type 0
+SinkFailed k = Rose k.sink_faults_before k.sink_faults_after
+
+-- the source failed in the call
+abbrev pub SourceFailed : Call → Type 0
+SourceFailed k = Rose k.counts_before.fault_count k.counts_after.fault_count
+
+-- there is an answer, and of it the status, the text and how far was read are as they are said to be
+abbrev pub GivesTheAnswer : Call → Type 0
+GivesTheAnswer k =
+    OfTheAnswer k.words (bytes_answered (words_read k.words) k.left_before)
+    (MatchesAnswer k.status k.written_before k.written_after (words_read k.words) k.left_before k.left_after
+    k.counts_before k.counts_after (SinkFailed k))
+
+-- a fault has its cause
+abbrev pub HasCauses : Call → Type 0
+HasCauses k = FaultsHaveCauses k.status k.written_before k.written_after (SinkFailed k) (SourceFailed k)
+
+-- exactly one table solves the tree of the page, or of the sample
+abbrev pub HasTheTable : Call → Type 0
+HasTheTable k = OneTableOf (command_of k.words) k.left_before
+
+-- the source was read as far as it may be
+abbrev pub ReadsSoFar : Call → Type 0
+ReadsSoFar k =
+    ReadsInput k.status (words_read k.words) k.left_before k.left_after k.counts_before k.counts_after

@@ -23,8 +23,8 @@ ghost use Rattle.ftl_answer.specs.answers.Texts.{lawful_grammar, planned_tree, s
 ghost use Rattle.ftl_answer.specs.answers.Worked.{two_overflows, two_pieces, two_pieces_too_high};
 ghost use Rattle.ftl_answer.specs.answers.Worked.{two_pieces_values};
 
-/// A law: no words, and a word that is no command, are refused whatever the page is; `check` refuses
-/// an empty page.
+/// A law: no words, and a word that is no command, are refused whatever the page is; `check`
+/// refuses an empty page.
 pub fn worked_refusals()
     ensures nothing { IsAnswer [] [] (refused 2 (codes "refused words")) }
     ensures unknown { IsAnswer (codes "fly" ∷ []) [] (refused 2 (codes "refused words")) }
@@ -49,8 +49,8 @@ pub fn worked_stages()
         (codes "refused document: too many reads in stage 2: 67108865"))) }
 {}
 
-/// A law: the summary of a sample of two pieces of `stack`, whose shown values add up to 299, and to
-/// 2770 where each counts by its place; Overflow adds nothing, and still has a place.
+/// A law: the summary of a sample of two pieces of `stack`, whose shown values add up to 299, and
+/// to 2770 where each counts by its place; Overflow adds nothing, and still has a place.
 pub fn worked_summaries()
     ensures two_pieces { summary (codes "stack") stack stack_names two_pieces
         (value_in stack two_pieces two_pieces_values)

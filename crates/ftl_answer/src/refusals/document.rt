@@ -8,9 +8,9 @@ use crate::refusals::pieces::{
     field_then, number_and_names, number_then, numbered, numbered_large,
 };
 use crate::refusals::text::at_byte;
-use ftl_checked::grammars::Checked;
-use ftl_document::faults::DocFault;
-use ftl_page::sections::Section;
+use ftl_checked::Checked;
+use ftl_document::DocFault;
+use ftl_page::Section;
 use std::alloc::AllocError;
 
 /// Adds the line of the first fault of a document of this grammar.

@@ -7,7 +7,7 @@ ghost use Rattle.ftl_answer.specs.refusals.Names.{read_text, rule_text};
 
 use crate::refusals::names::{around_rule, read};
 use crate::refusals::pieces::{around, named_number, two};
-use ftl_checked::grammars::{GrammarFault, ReadName, RuleName, What};
+use ftl_checked::{GrammarFault, ReadName, RuleName, What};
 use std::alloc::AllocError;
 
 /// Adds the line of a grammar's first fault.

@@ -7,9 +7,9 @@ ghost use Rattle.ftl_answer.specs.refusals.Names.{rule_text, rule_text_at, secti
 ghost use Rattle.ftl_answer.specs.refusals.ScheduleLines.{spaced_text};
 
 use crate::refusals::pieces::text;
-use ftl_checked::grammars::{Checked, ReadName, RuleName};
-use ftl_page::sections::Section;
-use ftl_tokens::scanner::Name;
+use ftl_checked::{Checked, ReadName, RuleName};
+use ftl_page::Section;
+use ftl_tokens::Name;
 use std::alloc::{AllocError, Global};
 
 pub(crate) fn section_name(section: Section) -> &'static str
@@ -173,7 +173,8 @@ pub(crate) fn two_rules_at(
 ) -> Result<(), AllocError>
     ensures added { OnOk result (out.new.items ≡ out.old.items
         ++ (texts.entry.0.now ++ (rule_text_at checked.now.grammar rules.0
-        ++ (texts.entry.1.now ++ (rule_text_at checked.now.grammar rules.1 ++ texts.entry.2.now))))) }
+        ++ (texts.entry.1.now ++ (rule_text_at checked.now.grammar rules.1
+        ++ texts.entry.2.now))))) }
 {
     around_rule_at(alloc, out, checked, texts.0, rules.0, texts.1)?;
     rule_at(alloc, out, checked, rules.1)?;

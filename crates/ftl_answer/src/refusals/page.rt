@@ -6,7 +6,7 @@ ghost use Rattle.ftl_answer.specs.refusals.PageLines.{page_line};
 
 use crate::refusals::names::section_name;
 use crate::refusals::pieces::{named_number, numbered, text, two};
-use ftl_page::sections::{PageFault, Section};
+use ftl_page::{PageFault, Section};
 use std::alloc::AllocError;
 
 /// Adds the line of a page's first fault.

@@ -113,7 +113,8 @@ pub(crate) fn number_and_names(
     names: (&str, &str, &str, &str),
 ) -> Result<(), AllocError>
     ensures added { OnOk result (out.new.items ≡ out.old.items ++ (before.now ++ (decimal count
-        ++ (names.entry.0.now ++ (names.entry.1.now ++ (names.entry.2.now ++ names.entry.3.now)))))) }
+        ++ (names.entry.0.now ++ (names.entry.1.now
+        ++ (names.entry.2.now ++ names.entry.3.now)))))) }
 {
     number_then(out, before, count, names.0, names.1)?;
     two(out, names.2, names.3)

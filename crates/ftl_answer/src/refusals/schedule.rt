@@ -8,10 +8,10 @@ ghost use Rattle.ftl_answer.specs.refusals.ScheduleLines.{schedule_line, stuck_l
 use crate::refusals::names::{around_attribute, dotted_after, two_rules_at, with_attributes};
 use crate::refusals::pieces::{numbered, two_numbers};
 use crate::refusals::text::at_byte;
-use ftl_checked::grammars::Checked;
-use ftl_order::faults::VerifyFault;
-use ftl_page::sections::Section;
-use ftl_schedule::names::ScheduleFault;
+use ftl_checked::Checked;
+use ftl_order::VerifyFault;
+use ftl_page::Section;
+use ftl_schedule::ScheduleFault;
 use std::alloc::{AllocError, Global};
 
 /// Adds the line of the first fault of a schedule as it is read.

@@ -5,9 +5,9 @@ ghost use Rattle.ftl_answer.specs.refusals.TextLines.{at_byte, refused, syntax_l
 
 use crate::refusals::names::section_name;
 use crate::refusals::pieces::{number, text};
-use ftl_grammar::reading::SyntaxFault;
-use ftl_page::sections::Section;
-use ftl_tokens::scanner::TokenFault;
+use ftl_grammar::SyntaxFault;
+use ftl_page::Section;
+use ftl_tokens::TokenFault;
 use std::alloc::AllocError;
 
 /// Adds the line of the first fault of the tokens of a section.

@@ -12,8 +12,7 @@ ghost use Rattle.ftl_answer.specs.answers.Summary.{shown_values};
 ghost use Rattle.ftl_answer.specs.summary.Summed.{AreSumsOf, AreWithin, values_of};
 
 use crate::summary::sums::{Sums, no_sums, with_word};
-use ftl_tree::boxes::{shown_by, shown_rows, word_at};
-use ftl_tree::trees::Tree;
+use ftl_tree::{Tree, shown_by, shown_rows, word_at};
 use std::alloc::{AllocError, Global};
 
 /// The sums of all values that a tree shows.

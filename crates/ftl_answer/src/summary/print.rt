@@ -11,7 +11,7 @@ ghost use Rattle.ftl_answer.specs.summary.Summed.{counts_text, summary_line, sum
 
 use crate::summary::adding::sums_of;
 use crate::summary::sums::Sums;
-use ftl_tree::trees::Tree;
+use ftl_tree::Tree;
 use itoa::Buffer;
 use std::alloc::{AllocError, Global};
 

@@ -6,7 +6,7 @@ ghost use Rattle.ftl_tree.specs.boxes.WordValues.{value_of_word};
 ghost use Rattle.ftl_answer.specs.summary.Summed.{AreSumsOf, AreWithin};
 
 use crate::summary::arithmetic::{plus, weighted};
-use ftl_tree::boxes::number_of_word;
+use ftl_tree::number_of_word;
 
 /// How many values there are, how many of them are Overflow, and the sums of the others: once each,
 /// and by the weights of their places.

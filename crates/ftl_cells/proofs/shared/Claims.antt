@@ -5,7 +5,7 @@ use native.Mathlib.Decide.{ℕ_discrete}
 use Rattle.ftl_cells.specs.shared.Count.{Counts}
 use Rattle.ftl_cells.specs.shared.Work.{Meaning, cell_total, kind_at, item_total, target_of, solved_word, IsStepOfItem, IsLawfulWork}
 use Rattle.ftl_cells.specs.shared.State.{live, Sends}
-use Rattle.ftl_cells.specs.shared.Kept.{Stage, Looks, Works, HasEnded, HasItem, CellHolds, IsHalfFilled, HasDelivered, Owes, IsUndone, AreReleased, IsKept}
+use Rattle.ftl_cells.specs.shared.Kept.{Stage, Looks, IsWorkingAt, HasEnded, HasItem, CellHolds, IsHalfFilled, HasDelivered, Owes, IsUndone, AreReleased, IsKept}
 use Rattle.ftl_cells.specs.declared.shared.place.HandPlace.TheVariants.{Looked, Working}
 use Rattle.ftl_cells.proofs.shared.Counting.{same_count}
 use Rattle.ftl_cells.proofs.shared.Moves.{Same, Puts, Turns, sends_has, works_has, looks_in_range, has_in_range, after_turn, old, new, range_after, half_same, delivered_same, owes_same, undone_same, released_same, held_state}
@@ -64,11 +64,11 @@ module _ (m : Meaning) (law : IsLawfulWork m) (s t : Stage) (h i : ℕ)
             (omega arith))
             (λ ne. k.full x n st (sym (states.there x st.item ne) ∙ e) (sym (target_same x n st) ∙ z));
         claimed = λ x l e. dite (ℕ_discrete x i)
-            (λ eq. (h, 0, subst (λ p. Works p x 0) (sym turn.is) (sym eq, refl)))
+            (λ eq. (h, 0, subst (λ p. IsWorkingAt p x 0) (sym turn.is) (sym eq, refl)))
             (λ ne. let c = k.claimed x l (sym (states.there x l ne) ∙ e) in (
               c.0,
               c.1,
-              new s t h (live (Looked i)) (live (Working i 0 0)) turn (λ p. Works p x c.1)
+              new s t h (live (Looked i)) (live (Working i 0 0)) turn (λ p. IsWorkingAt p x c.1)
                   (λ w. w) c.0 c.2,
             ));
         working = λ g x n w. ⊎_elim
@@ -78,7 +78,7 @@ module _ (m : Meaning) (law : IsLawfulWork m) (s t : Stage) (h i : ℕ)
             let ne : x ≢ i = λ e. let c : s.state x ≡ 1 = o.state in let d : s.state x ≡ s.state i = ap s.state e in
             omega (arith, free) in
             half_same m s t x n (states.there x l ne) (λ y c. target_same x y (record { item = l; step = c })) o)
-            (after_turn s t h (live (Looked i)) (live (Working i 0 0)) turn (λ p. Works p x n) g w);
+            (after_turn s t h (live (Looked i)) (live (Working i 0 0)) turn (λ p. IsWorkingAt p x n) g w);
         sending = λ g x n w. let o = sends_old g x n w in let a : s.state x ≡ 2 = k.sending g x n o in
             let l : x < item_total m = has_in_range m (s.place g) x (sends_has (s.place g) x n o) (k.in_range g) in
             let ne : x ≢ i = λ e. let d : s.state x ≡ s.state i = ap s.state e in omega (arith, free) in

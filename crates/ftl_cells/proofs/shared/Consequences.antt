@@ -7,7 +7,7 @@ use native.Mathlib.Decide.{ℕ_discrete}
 use lib.ListN.{get_elem?}
 use Rattle.ftl_cells.specs.shared.Work.{Meaning, cell_total, kind_at, item_total, next_at, step_total, target_of, read_total, read_of, solved_word, IsLawfulWork}
 use Rattle.ftl_cells.specs.shared.State.{live, HandState, Steps, finds_ready, finds_waiting, claims, misses, reads, fills, marks, sends, finishes, ends, finds_left, Makes, steps, splits, joins, end_word, cell_word, state_word, count_word, last_word_of}
-use Rattle.ftl_cells.specs.shared.Kept.{hand_at, stage_now, Works, HasEnded, IsInRange, IsHalfFilled, IsKeptBy}
+use Rattle.ftl_cells.specs.shared.Kept.{hand_at, stage_now, IsWorkingAt, HasEnded, IsInRange, IsHalfFilled, IsKeptBy}
 use Rattle.ftl_cells.specs.declared.shared.place.HandPlace.TheVariants.{Working}
 use Rattle.ftl_cells.proofs.shared.KeptSteps.{range_of}
 use Rattle.ftl_cells.proofs.shared.Found.{read_is, all_filled, last_holds}
@@ -17,7 +17,7 @@ pub read_finds : (m : Meaning) (words : List ℕ) (hands : List HandState) (h i 
     → r < read_total m i j
     → get_or words (cell_word (read_of m i j r)) 0 ≡ solved_word m (read_of m i j r)
 read_finds m words hands h i j r law k e b c = read_is m law (stage_now m words hands) k.rule h i j r
-    (subst (λ p. Works p i j) (sym e) (refl, refl)) b c
+    (subst (λ p. IsWorkingAt p i j) (sym e) (refl, refl)) b c
 
 pub fill_finds : (m : Meaning) (words : List ℕ) (hands : List HandState) (h i j r : ℕ) → IsKeptBy m words hands
     → (hand_at hands h).place ≡ live (Working i j r) → j < step_total m i
@@ -25,7 +25,7 @@ pub fill_finds : (m : Meaning) (words : List ℕ) (hands : List HandState) (h i 
 fill_finds m words hands h i j r k e b =
     let rule = k.rule in
     let half : IsHalfFilled m (stage_now m words hands) i j = rule.working h i j
-    (subst (λ p. Works p i j) (sym e) (refl, refl)) in
+    (subst (λ p. IsWorkingAt p i j) (sym e) (refl, refl)) in
     half.rest j (omega arith) b
 
 module _ (m : Meaning) (law : IsLawfulWork m) (words : List ℕ) (hands : List HandState) (k : IsKeptBy m words hands)

@@ -6,7 +6,7 @@ use native.Mathlib.Decide.{ℕ_discrete}
 use Rattle.ftl_cells.specs.shared.Count.{Counts}
 use Rattle.ftl_cells.specs.shared.Work.{Meaning, cell_total, kind_at, item_total, next_total, next_at, target_of, solved_word, IsStepOfItem, IsNext, IsLawfulWork}
 use Rattle.ftl_cells.specs.shared.State.{Place, live, Sends, released_after}
-use Rattle.ftl_cells.specs.shared.Kept.{Stage, Looks, Works, HasEnded, HasItem, CellHolds, HasDelivered, Owes, IsUndone, AreReleased, IsKept}
+use Rattle.ftl_cells.specs.shared.Kept.{Stage, Looks, IsWorkingAt, HasEnded, HasItem, CellHolds, HasDelivered, Owes, IsUndone, AreReleased, IsKept}
 use Rattle.ftl_cells.specs.declared.shared.place.HandPlace.TheVariants.{Idle, Sending}
 use Rattle.ftl_cells.proofs.shared.Counting.{same_count, falls, some_left}
 use Rattle.ftl_cells.proofs.shared.Moves.{Same, Puts, Turns, sends_has, works_has, has_one, sends_one, sends_or_works, looks_in_range, has_in_range, after_turn, before_turn, old, new, range_after, alone_after, half_same, delivered_same, owes_same, undone_same, released_same}
@@ -154,10 +154,10 @@ module _ (m : Meaning) (law : IsLawfulWork m) (s t : Stage) (h i n left : ℕ) (
         claimed = λ x l e. let c = k.claimed x l (sym (states x l) ∙ e) in (
           c.0,
           c.1,
-          new s t h p (live (Sending i (n + 1))) turn (λ q. Works q x c.1)
+          new s t h p (live (Sending i (n + 1))) turn (λ q. IsWorkingAt q x c.1)
               (sends_or_works p i x n c.1 sent) c.0 c.2,
         );
-        working = λ g x c w. let o = old s t h p (live (Sending i (n + 1))) turn (λ q. Works q x c) (λ z. z) g w in
+        working = λ g x c w. let o = old s t h p (live (Sending i (n + 1))) turn (λ q. IsWorkingAt q x c) (λ z. z) g w in
             let l : x < item_total m = has_in_range m (s.place g) x (works_has (s.place g) x c o) (k.in_range g) in
             half_same m s t x c (states x l) (λ y b. target_same x y (record { item = l; step = b }))
             (k.working g x c o);
@@ -264,8 +264,8 @@ module _ (m : Meaning) (law : IsLawfulWork m) (s t : Stage) (h i n left : ℕ) (
         free = λ x c st e. target_same x c st ∙ k.free x c st (sym (states x st.item) ∙ e);
         full = λ x c st e z. k.full x c st (sym (states x st.item) ∙ e) (sym (target_same x c st) ∙ z);
         claimed = λ x l e. let c = k.claimed x l (sym (states x l) ∙ e) in
-            (c.0, c.1, new s t h p (live Idle) turn (λ q. Works q x c.1) (sends_or_works p i x n c.1 sent) c.0 c.2);
-        working = λ g x c w. let o = old s t h p (live Idle) turn (λ q. Works q x c) (λ z. z) g w in
+            (c.0, c.1, new s t h p (live Idle) turn (λ q. IsWorkingAt q x c.1) (sends_or_works p i x n c.1 sent) c.0 c.2);
+        working = λ g x c w. let o = old s t h p (live Idle) turn (λ q. IsWorkingAt q x c) (λ z. z) g w in
             let l : x < item_total m = has_in_range m (s.place g) x (works_has (s.place g) x c o) (k.in_range g) in
             half_same m s t x c (states x l) (λ y b. target_same x y (record { item = l; step = b }))
             (k.working g x c o);

@@ -4,7 +4,7 @@ use Rattle.ftl_model.specs.layout.Values.{Value}
 use Rattle.ftl_cells.specs.shared.Work.{Meaning}
 use Rattle.ftl_cells.specs.shared.State.{Place, live, spent, HandState}
 use Rattle.ftl_cells.specs.shared.Calls.{CanRead, CanFill, ReadSteps, FillSteps}
-use Rattle.ftl_cells.specs.shared.Interleavings.{IsStepOf}
+use Rattle.ftl_cells.specs.shared.Interleavings.{IsNextState}
 use Rattle.ftl_cells.specs.shared.Filling.{ReadsOrFills, Fills, stays, goes_on}
 use Rattle.ftl_cells.specs.declared.shared.place.HandPlace.TheVariants.{Idle, Looked, Working, Filled, Sending, Ended}
 
@@ -28,11 +28,11 @@ fill_is_one m v (live (Sending item sent)) x w c e = absurd c
 fill_is_one m v (live Ended) x w c e = absurd c
 fill_is_one m v spent x w c e = absurd c
 
-pub reads_one : (m : Meaning) (v w : HandState) (n : ℕ) → CanRead m v.place → IsStepOf v w → ReadSteps v v.place n w
+pub reads_one : (m : Meaning) (v w : HandState) (n : ℕ) → CanRead m v.place → IsNextState v w → ReadSteps v v.place n w
     → Fills v w
 reads_one m v w n can one step = goes_on stays one (read_is_one m v v.place n w can step)
 
-pub fills_one : (m : Meaning) (v w : HandState) (x : Value) → CanFill m v.place x → IsStepOf v w
+pub fills_one : (m : Meaning) (v w : HandState) (x : Value) → CanFill m v.place x → IsNextState v w
     → FillSteps v v.place w → Fills v w
 fills_one m v w x can one step = goes_on stays one (fill_is_one m v v.place x w can step)
 

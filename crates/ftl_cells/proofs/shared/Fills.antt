@@ -5,7 +5,7 @@ use native.Mathlib.Decide.{ℕ_discrete}
 use Rattle.ftl_cells.specs.shared.Count.{Counts}
 use Rattle.ftl_cells.specs.shared.Work.{Meaning, cell_total, kind_at, item_total, step_total, target_of, solution_at, solved_word, IsStepOfItem, IsLawfulWork}
 use Rattle.ftl_cells.specs.shared.State.{live, Sends}
-use Rattle.ftl_cells.specs.shared.Kept.{Stage, Looks, Works, HasEnded, HasItem, CellHolds, IsHalfFilled, Owes, IsUndone, AreReleased, IsKept}
+use Rattle.ftl_cells.specs.shared.Kept.{Stage, Looks, IsWorkingAt, HasEnded, HasItem, CellHolds, IsHalfFilled, Owes, IsUndone, AreReleased, IsKept}
 use Rattle.ftl_cells.specs.declared.shared.place.HandPlace.TheVariants.{Working}
 use Rattle.ftl_cells.proofs.shared.Counting.{same_count}
 use Rattle.ftl_cells.proofs.shared.Words.{word_of_value_pos}
@@ -13,8 +13,8 @@ use Rattle.ftl_cells.proofs.shared.Moves.{Same, Puts, Turns, sends_has, works_ha
 
 module _ (m : Meaning) (law : IsLawfulWork m) (s t : Stage) (h i j r : ℕ)
     (turn : Turns s t h (live (Working i j r)) (live (Working i (j + 1) 0))) (k : IsKept m s) where
-  works : Works (s.place h) i j
-  works = subst (λ x. Works x i j) (sym turn.was) (refl, refl)
+  works : IsWorkingAt (s.place h) i j
+  works = subst (λ x. IsWorkingAt x i j) (sym turn.was) (refl, refl)
 
   claimed : s.state i ≡ 1
   claimed = step_of m s k h i j works
@@ -23,7 +23,7 @@ module _ (m : Meaning) (law : IsLawfulWork m) (s t : Stage) (h i j r : ℕ)
   known = has_in_range m (s.place h) i (works_has (s.place h) i j works) (k.in_range h)
 
   -- only the hand that steps works on the item
-  apart : (g x n : ℕ) → g ≢ h → Works (s.place g) x n → x ≢ i
+  apart : (g x n : ℕ) → g ≢ h → IsWorkingAt (s.place g) x n → x ≢ i
   apart g x n ne w e = ne
       (k.alone g h i (subst (HasItem (s.place g)) e (works_has (s.place g) x n w)) (works_has (s.place h) i j works))
 
@@ -76,13 +76,13 @@ module _ (m : Meaning) (law : IsLawfulWork m) (s t : Stage) (h i j r : ℕ)
             (λ eq. not_empty (ap t.cell (sym eq) ∙ z))
             (λ ne. k.full x n st (sym (states x st.item) ∙ e) (sym (target_same x n st ne) ∙ z));
         claimed = λ x l e. dite (ℕ_discrete x i)
-            (λ eq. (h, j + 1, subst (λ p. Works p x (j + 1)) (sym turn.is) (sym eq, refl)))
+            (λ eq. (h, j + 1, subst (λ p. IsWorkingAt p x (j + 1)) (sym turn.is) (sym eq, refl)))
             (λ ne. let c = k.claimed x l (sym (states x l) ∙ e) in (
               c.0,
               c.1,
               ⊎_elim (λ a. absurd (ne (sym a.1.0))) (λ b. b.1)
                   (before_turn s t h (live (Working i j r)) (live (Working i (j + 1) 0)) turn
-                  (λ p. Works p x c.1) c.0 c.2),
+                  (λ p. IsWorkingAt p x c.1) c.0 c.2),
             ));
         working = λ g x n w. ⊎_elim
             (λ a. subst (λ y. IsHalfFilled m t y n) a.1.0 (subst (λ y. IsHalfFilled m t i y) a.1.1 more))
@@ -92,7 +92,7 @@ module _ (m : Meaning) (law : IsLawfulWork m) (s t : Stage) (h i j r : ℕ)
             (λ y c. let st : IsStepOfItem m x y = record { item = l; step = c } in target_same x y st
             (λ eq. apart g x n b.0 b.1 (law.target_once x y i j st here eq).0))
             (k.working g x n b.1))
-            (after_turn s t h (live (Working i j r)) (live (Working i (j + 1) 0)) turn (λ p. Works p x n) g w);
+            (after_turn s t h (live (Working i j r)) (live (Working i (j + 1) 0)) turn (λ p. IsWorkingAt p x n) g w);
         sending = λ g x n w. let o = sends_old g x n w in
             states x (has_in_range m (s.place g) x (sends_has (s.place g) x n o) (k.in_range g)) ∙ k.sending g x n o;
         alone = alone_after s t h (live (Working i j r)) (live (Working i (j + 1) 0)) turn (λ x w. w) k.alone;

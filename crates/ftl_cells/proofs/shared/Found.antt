@@ -4,7 +4,7 @@ use mathlib.Core.Logic.{dite}
 use native.Mathlib.Decide.{ℕ_discrete}
 use Rattle.ftl_cells.specs.shared.Work.{Meaning, cell_total, kind_at, item_total, step_total, target_of, read_total, read_of, solved_word, IsStepOfItem, IsNext, IsOwn, IsHandedOn, IsLawfulWork}
 use Rattle.ftl_cells.specs.shared.State.{Sends, last_word_of}
-use Rattle.ftl_cells.specs.shared.Kept.{Stage, Works, CellHolds, IsHalfFilled, Owes, IsUndone, IsKept}
+use Rattle.ftl_cells.specs.shared.Kept.{Stage, IsWorkingAt, CellHolds, IsHalfFilled, Owes, IsUndone, IsKept}
 use Rattle.ftl_cells.specs.declared.shared.kind.CellKind.{CellKind}
 use Rattle.ftl_cells.specs.declared.shared.kind.CellKind.TheVariants.{Given, Target, Later}
 use Rattle.ftl_cells.proofs.shared.Counting.{none_left}
@@ -29,7 +29,7 @@ module _ (m : Meaning) (law : IsLawfulWork m) (s : Stage) (k : IsKept m s) where
       (record { next = next; waits = λ d. no d.state })))
 
   -- a cell that a hand reads holds the solution's word
-  pub read_is : (h i j r : ℕ) → Works (s.place h) i j → j < step_total m i → r < read_total m i j
+  pub read_is : (h i j r : ℕ) → IsWorkingAt (s.place h) i j → j < step_total m i → r < read_total m i j
       → s.cell (read_of m i j r) ≡ solved_word m (read_of m i j r)
   read_is h i j r w b c =
       let l : i < item_total m = has_in_range m (s.place h) i (works_has (s.place h) i j w) (k.in_range h) in

@@ -10,7 +10,7 @@ use Rattle.atomic_table.proofs.Lists.{set_else}
 use Rattle.ftl_cells.specs.shared.Count.{Counts}
 use Rattle.ftl_cells.specs.shared.Work.{Meaning, cell_total, kind_at, item_total, next_at, target_of, solved_word, IsStepOfItem, IsNext, IsLawfulWork}
 use Rattle.ftl_cells.specs.shared.State.{split, Place, live, spent, HandState, newcomer, first_name, next_name, given_up, after, after_join, released_after, Sends, IsFree, Steps, finds_ready, finds_waiting, claims, misses, reads, fills, marks, sends, finishes, ends, finds_left, Makes, steps, splits, joins, IsOpening, first_word_of, Reached, begins, goes_on, end_word, cell_word, state_word, count_word, word_total}
-use Rattle.ftl_cells.specs.shared.Kept.{Stage, hand_at, stage_now, Looks, Works, HasEnded, HasItem, IsInRange, CellHolds, Owes, IsUndone, AreReleased, IsKeptBy}
+use Rattle.ftl_cells.specs.shared.Kept.{Stage, hand_at, stage_now, Looks, IsWorkingAt, HasEnded, HasItem, IsInRange, CellHolds, Owes, IsUndone, AreReleased, IsKeptBy}
 use Rattle.ftl_cells.specs.declared.shared.kind.CellKind.{CellKind}
 use Rattle.ftl_cells.specs.declared.shared.kind.CellKind.TheVariants.{Given, Target, Later}
 use Rattle.ftl_cells.specs.declared.shared.place.HandPlace.TheVariants.{Idle, Looked, Working, Filled, Sending, Ended}
@@ -368,7 +368,7 @@ kept_opening m law words o =
             (o.cells (target_of m i j) (law.target_in_range i j st));
         full = λ i j st z. let y : get_or words (state_word m i) 0 ≡ 0 = o.states i st.item in absurd (omega arith);
         claimed = λ i l z. let y : get_or words (state_word m i) 0 ≡ 0 = o.states i l in absurd (omega arith);
-        working = λ h i j w. absurd (none (λ p. Works p i j) (λ x. x) (λ x. x) h w);
+        working = λ h i j w. absurd (none (λ p. IsWorkingAt p i j) (λ x. x) (λ x. x) h w);
         sending = λ h i n w. absurd (none (λ p. Sends p i n) (λ x. x) (λ x. x) h w);
         alone = λ h g i a b. absurd (none (λ p. HasItem p i) (λ x. x) (λ x. x) h a);
         counters = λ i l. subst (Counts (Owes m (stage_now m words (newcomer m first_name ∷ [])) i) i)

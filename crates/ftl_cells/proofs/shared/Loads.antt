@@ -2,22 +2,23 @@
 use Rattle.std.proofs.Common.{◌≡◌, ℕ, subst, refl, sym, List}
 use Rattle.ftl_cells.specs.shared.Work.{Meaning}
 use Rattle.ftl_cells.specs.shared.State.{Place, Sends}
-use Rattle.ftl_cells.specs.shared.Kept.{Stage, Looks, Works, HasEnded, HasItem, IsInRange, Owes, IsUndone, AreReleased, IsKept}
+use Rattle.ftl_cells.specs.shared.Kept.{Stage, Looks, IsWorkingAt, HasEnded, HasItem, IsInRange, Owes, IsUndone}
+use Rattle.ftl_cells.specs.shared.Kept.{AreReleased, IsKept}
 use Rattle.ftl_cells.proofs.shared.Counting.{same_count}
 use Rattle.ftl_cells.proofs.shared.Moves.{half_same, delivered_same, owes_same, undone_same, released_same}
 
 -- two places that have one item at one step, or none
 pub record Alike (p q : Place) : Type 0 where
-  pub works : (i j : ℕ) → Works q i j → Works p i j
-  pub works_back : (i j : ℕ) → Works p i j → Works q i j
+  pub works : (i j : ℕ) → IsWorkingAt q i j → IsWorkingAt p i j
+  pub works_back : (i j : ℕ) → IsWorkingAt p i j → IsWorkingAt q i j
   pub sends : (i k : ℕ) → Sends q i k → Sends p i k
   pub sends_back : (i k : ℕ) → Sends p i k → Sends q i k
   pub has : (i : ℕ) → HasItem q i → HasItem p i
 
 pub alike_self : (p q : Place) → q ≡ p → Alike p q
 alike_self p q e = record {
-  works = λ i j. subst (λ x. Works x i j) e;
-  works_back = λ i j. subst (λ x. Works x i j) (sym e);
+  works = λ i j. subst (λ x. IsWorkingAt x i j) e;
+  works_back = λ i j. subst (λ x. IsWorkingAt x i j) (sym e);
   sends = λ i j. subst (λ x. Sends x i j) e;
   sends_back = λ i j. subst (λ x. Sends x i j) (sym e);
   has = λ i. subst (λ x. HasItem x i) e;

@@ -5,15 +5,15 @@ use native.Mathlib.Decide.{ℕ_discrete}
 use Rattle.ftl_cells.specs.shared.Count.{Counts}
 use Rattle.ftl_cells.specs.shared.Work.{Meaning, cell_total, kind_at, item_total, step_total, target_of, solved_word, IsStepOfItem, IsNext, IsLawfulWork}
 use Rattle.ftl_cells.specs.shared.State.{live, Sends}
-use Rattle.ftl_cells.specs.shared.Kept.{Stage, Looks, Works, HasEnded, HasItem, CellHolds, IsHalfFilled, HasDelivered, Owes, IsUndone, AreReleased, IsKept}
+use Rattle.ftl_cells.specs.shared.Kept.{Stage, Looks, IsWorkingAt, HasEnded, HasItem, CellHolds, IsHalfFilled, HasDelivered, Owes, IsUndone, AreReleased, IsKept}
 use Rattle.ftl_cells.specs.declared.shared.place.HandPlace.TheVariants.{Working, Filled}
 use Rattle.ftl_cells.proofs.shared.Counting.{same_count}
 use Rattle.ftl_cells.proofs.shared.Moves.{Same, Puts, Turns, sends_has, works_has, looks_in_range, has_in_range, after_turn, before_turn, old, new, range_after, alone_after, half_same, delivered_same, owes_same, undone_same, released_same, step_of}
 
 module _ (m : Meaning) (law : IsLawfulWork m) (s t : Stage) (h i j r : ℕ)
     (turn : Turns s t h (live (Working i j r)) (live (Filled i))) (k : IsKept m s) where
-  works : Works (s.place h) i j
-  works = subst (λ x. Works x i j) (sym turn.was) (refl, refl)
+  works : IsWorkingAt (s.place h) i j
+  works = subst (λ x. IsWorkingAt x i j) (sym turn.was) (refl, refl)
 
   -- the item is claimed before
   pub mark_finds_claimed : s.state i ≡ 1
@@ -67,7 +67,7 @@ module _ (m : Meaning) (law : IsLawfulWork m) (s t : Stage) (h i j r : ℕ)
               c.0,
               c.1,
               ⊎_elim (λ a. absurd (ne (sym a.1.0))) (λ b. b.1)
-                  (before_turn s t h (live (Working i j r)) (live (Filled i)) turn (λ p. Works p x c.1) c.0 c.2),
+                  (before_turn s t h (live (Working i j r)) (live (Filled i)) turn (λ p. IsWorkingAt p x c.1) c.0 c.2),
             ));
         working = λ g x n w. ⊎_elim (λ a. absurd a.1)
             (λ b. let l : x < item_total m = has_in_range m (s.place g) x (works_has (s.place g) x n b.1)
@@ -77,7 +77,7 @@ module _ (m : Meaning) (law : IsLawfulWork m) (s t : Stage) (h i j r : ℕ)
             (works_has (s.place h) i j works)) in
             half_same m s t x n (states.there x l ne) (λ y c. target_same x y (record { item = l; step = c }))
             (k.working g x n b.1))
-            (after_turn s t h (live (Working i j r)) (live (Filled i)) turn (λ p. Works p x n) g w);
+            (after_turn s t h (live (Working i j r)) (live (Filled i)) turn (λ p. IsWorkingAt p x n) g w);
         sending = λ g x n w. dite (ℕ_discrete x i)
             (λ e. ap t.state e ∙ states.here)
             (λ ne. let o = sends_old g x n ne w in

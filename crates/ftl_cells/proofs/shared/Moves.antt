@@ -4,7 +4,7 @@ use mathlib.Core.Logic.{dite}
 use native.Mathlib.Decide.{ℕ_discrete}
 use Rattle.ftl_cells.specs.shared.Work.{Meaning, item_total, step_total, target_of}
 use Rattle.ftl_cells.specs.shared.State.{Place, live, spent, Sends}
-use Rattle.ftl_cells.specs.shared.Kept.{Stage, Looks, Works, HasItem, IsInRange, IsHalfFilled, HasDelivered, Owes, IsUndone, AreReleased, IsKept}
+use Rattle.ftl_cells.specs.shared.Kept.{Stage, Looks, IsWorkingAt, HasItem, IsInRange, IsHalfFilled, HasDelivered, Owes, IsUndone, AreReleased, IsKept}
 use Rattle.ftl_cells.specs.declared.shared.place.HandPlace.TheVariants.{Idle, Looked, Working, Filled, Sending, Ended}
 
 -- below the bound, the second function is the first
@@ -32,7 +32,7 @@ sends_has (live (Sending item n)) i k w = w.0
 sends_has (live Ended) i k w = w
 sends_has spent i k w = w
 
-pub works_has : (p : Place) (i j : ℕ) → Works p i j → HasItem p i
+pub works_has : (p : Place) (i j : ℕ) → IsWorkingAt p i j → HasItem p i
 works_has (live Idle) i k w = w
 works_has (live (Looked item)) i k w = w
 works_has (live (Working item j r)) i k w = w.0
@@ -59,7 +59,7 @@ sends_one (live (Sending item n)) x y k l a b = omega arith
 sends_one (live Ended) x y k l a b = absurd a
 sends_one spent x y k l a b = absurd a
 
-pub sends_or_works : (p : Place) (x y k j : ℕ) → Sends p x k → Works p y j → ⊥
+pub sends_or_works : (p : Place) (x y k j : ℕ) → Sends p x k → IsWorkingAt p y j → ⊥
 sends_or_works (live Idle) x y k j a b = a
 sends_or_works (live (Looked item)) x y k j a b = a
 sends_or_works (live (Working item n r)) x y k j a b = a
@@ -68,7 +68,7 @@ sends_or_works (live (Sending item n)) x y k j a b = b
 sends_or_works (live Ended) x y k j a b = a
 sends_or_works spent x y k j a b = a
 
-pub has_case : (p : Place) (i : ℕ) → HasItem p i → ((j : ℕ) × Works p i j) ⊎ ((k : ℕ) × Sends p i k)
+pub has_case : (p : Place) (i : ℕ) → HasItem p i → ((j : ℕ) × IsWorkingAt p i j) ⊎ ((k : ℕ) × Sends p i k)
 has_case (live Idle) i w = absurd w
 has_case (live (Looked item)) i w = absurd w
 has_case (live (Working item j r)) i w = inl (j, (w, refl))
@@ -169,5 +169,5 @@ module _ (m : Meaning) (s : Stage) (k : IsKept m s) where
       (has_case (s.place h) i w)
 
   -- where the item is 0 to a step's target, no other item has it
-  pub step_of : (h i j : ℕ) → Works (s.place h) i j → s.state i ≡ 1
+  pub step_of : (h i j : ℕ) → IsWorkingAt (s.place h) i j → s.state i ≡ 1
   step_of h i j w = let half = k.working h i j w in half.state

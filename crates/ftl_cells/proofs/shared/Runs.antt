@@ -8,9 +8,9 @@ use native.Mathlib.Decide.{ℕ_discrete}
 use lib.ListN.{get_elem?}
 use Rattle.ftl_cells.specs.shared.Work.{Meaning, cell_total, kind_at, item_total, solved_word, IsLawfulWork}
 use Rattle.ftl_cells.specs.shared.State.{Place, live, spent, HandState, newcomer, next_name, given_up, after, after_join, released_after, split, IsFree, Steps, finds_ready, finds_waiting, claims, misses, reads, fills, marks, sends, finishes, ends, finds_left, Makes, steps, splits, joins, goes_on, end_word, cell_word, state_word, claim, last_word_of}
-use Rattle.ftl_cells.specs.shared.Kept.{hand_at, Looks, Works, HasEnded, IsInRange, IsKeptBy}
+use Rattle.ftl_cells.specs.shared.Kept.{hand_at, Looks, IsWorkingAt, HasEnded, IsInRange, IsKeptBy}
 use Rattle.ftl_cells.specs.shared.Calls.{ClaimSteps, SendsOn}
-use Rattle.ftl_cells.specs.shared.Interleavings.{LeadsTo, stays, goes_further, IsStepOf, AreReleasedOnce, WinsClaim}
+use Rattle.ftl_cells.specs.shared.Interleavings.{LeadsTo, stays, goes_further, IsNextState, AreReleasedOnce, WinsClaim}
 use Rattle.ftl_cells.specs.declared.shared.answer.Claim.TheVariants.{Mine}
 use Rattle.ftl_cells.specs.declared.shared.place.HandPlace.TheVariants.{Idle, Looked, Working, Filled, Sending, Ended}
 use Rattle.ftl_cells.proofs.shared.KeptSteps.{elem_is, elem_below, snoc_here, snoc_other, range_of, released_of, kept, kept_after}
@@ -48,7 +48,7 @@ module _ (m : Meaning) (law : IsLawfulWork m) (words : List ℕ) (hands : List H
     (i : ℕ) where
   -- by a step of the hand itself
   own_step : (g : ℕ) (v w : HandState) (next : List ℕ) → get_elem? hands g ≡ some v → Steps m words v next w
-      → v.place ≡ live (Looked i) → Works w.place i 0 → Won m words next i
+      → v.place ≡ live (Looked i) → IsWorkingAt w.place i 0 → Won m words next i
   own_step g v w next at (finds_ready n e b z) looked works = absurd works
   own_step g v w next at (finds_waiting n e b z) looked works = absurd works
   own_step g v w next at (claims n e z) looked works =
@@ -74,18 +74,18 @@ module _ (m : Meaning) (law : IsLawfulWork m) (words : List ℕ) (hands : List H
 
   module _ (h : ℕ) (looked : (hand_at hands h).place ≡ live (Looked i)) where
     -- another hand's step leaves the place
-    rests : Works (hand_at hands h).place i 0 → ⊥
-    rests w = subst (λ p. Works p i 0) looked w
+    rests : IsWorkingAt (hand_at hands h).place i 0 → ⊥
+    rests w = subst (λ p. IsWorkingAt p i 0) looked w
 
     -- where one hand has this state now, and is not Working
-    one_other : (g : ℕ) (v w : HandState) → get_elem? hands g ≡ some v → (Works w.place i 0 → ⊥)
-        → Works (hand_at (set hands g w) h).place i 0 → ⊥
+    one_other : (g : ℕ) (v w : HandState) → get_elem? hands g ≡ some v → (IsWorkingAt w.place i 0 → ⊥)
+        → IsWorkingAt (hand_at (set hands g w) h).place i 0 → ⊥
     one_other g v w at never works = dite (ℕ_discrete h g)
-        (λ e. never (subst (λ y. Works y.place i 0)
+        (λ e. never (subst (λ y. IsWorkingAt y.place i 0)
         (ap (hand_at (set hands g w)) e ∙ get_or-set_same hands g w given_up (elem_below hands g v at)) works))
-        (λ ne. rests (subst (λ y. Works y.place i 0) (get_or-set_other hands g h w given_up ne) works))
+        (λ ne. rests (subst (λ y. IsWorkingAt y.place i 0) (get_or-set_other hands g h w given_up ne) works))
 
-    free_works : (p : Place) → IsFree p → Works p i 0 → ⊥
+    free_works : (p : Place) → IsFree p → IsWorkingAt p i 0 → ⊥
     free_works (live Idle) f w = w
     free_works (live Ended) f w = w
     free_works (live (Looked item)) f w = w
@@ -96,31 +96,31 @@ module _ (m : Meaning) (law : IsLawfulWork m) (words : List ℕ) (hands : List H
 
     -- by any step
     pub won : (next : List ℕ) (more : List HandState) → Makes m words hands next more
-        → Works (hand_at more h).place i 0 → Won m words next i
+        → IsWorkingAt (hand_at more h).place i 0 → Won m words next i
     won next more (steps g v w after at step) works = dite (ℕ_discrete h g)
         (λ e. own_step g v w next at step
         (ap (λ y. y.place) (sym (elem_is hands g v given_up at) ∙ ap (hand_at hands) (sym e)) ∙ looked)
-        (subst (λ y. Works y.place i 0)
+        (subst (λ y. IsWorkingAt y.place i 0)
         (ap (hand_at (set hands g w)) e ∙ get_or-set_same hands g w given_up (elem_below hands g v at)) works))
-        (λ ne. absurd (rests (subst (λ y. Works y.place i 0) (get_or-set_other hands g h w given_up ne) works)))
+        (λ ne. absurd (rests (subst (λ y. IsWorkingAt y.place i 0) (get_or-set_other hands g h w given_up ne) works)))
     won next more (splits g v at e) works =
         let one : HandState = after v v.place split end_word None in
         let few : List HandState = set hands g (after v v.place split end_word None) in
         absurd (dite (ℕ_discrete h (length few))
-        (λ q. subst (λ y. Works y.place i 0)
+        (λ q. subst (λ y. IsWorkingAt y.place i 0)
         (ap (hand_at (few ++ newcomer m (next_name v) ∷ [])) q ∙ snoc_here few (newcomer m (next_name v)) given_up)
         works)
         (λ ne. one_other g v one at (λ w. free_works v.place (subst IsFree (sym e) tt) w)
-        (subst (λ y. Works y.place i 0) (snoc_other few (newcomer m (next_name v)) given_up h ne) works)))
+        (subst (λ y. IsWorkingAt y.place i 0) (snoc_other few (newcomer m (next_name v)) given_up h ne) works)))
     won next more (joins g other v w apart at there f b) works =
         let one : HandState = after_join v w in
         let few : List HandState = set hands g (after_join v w) in
         let l : other < length few = omega (arith, length-set hands g one, elem_below hands other w there) in
         absurd (dite (ℕ_discrete h other)
-        (λ q. subst (λ y. Works y.place i 0)
+        (λ q. subst (λ y. IsWorkingAt y.place i 0)
         (ap (hand_at (set few other given_up)) q ∙ get_or-set_same few other given_up given_up l) works)
         (λ ne. one_other g v one at (λ w. free_works v.place f w)
-        (subst (λ y. Works y.place i 0) (get_or-set_other few other h given_up given_up ne) works)))
+        (subst (λ y. IsWorkingAt y.place i 0) (get_or-set_other few other h given_up given_up ne) works)))
 
 -- a won claim of an item is the last
 pub won_once : (m : Meaning) → IsLawfulWork m → (first next later last : List ℕ) (all more many most : List HandState)
@@ -128,7 +128,7 @@ pub won_once : (m : Meaning) → IsLawfulWork m → (first next later last : Lis
     → WinsClaim m later many g i last most
     → ⊥
 won_once m law first next later last all more many most h g i k one run other =
-    let works : (p : Place) → p ≡ live (Working i 0 0) → Works p i 0 = λ p e. subst (λ y. Works y i 0) (sym e)
+    let works : (p : Place) → p ≡ live (Working i 0 0) → IsWorkingAt p i 0 = λ p e. subst (λ y. IsWorkingAt y i 0) (sym e)
     (refl, refl) in
     let a : Won m first next i = won m law first all k i h one.looked next more one.made
     (works (hand_at more h).place one.mine) in
@@ -139,13 +139,13 @@ won_once m law first next later last all more many most h g i k one run other =
     claimed_later m law next more later many k' run i a.known a.claimed b.free
 
 -- what a step leaves in the list of released items
-pub released_once : (v w : HandState) → IsLawfulWork v.of → IsStepOf v w → AreReleasedOnce v.of w.released
+pub released_once : (v w : HandState) → IsLawfulWork v.of → IsNextState v w → AreReleasedOnce v.of w.released
 released_once v w law step =
     let k = kept v.of law step.next step.more (goes_on step.reached step.made) in
     let r = released_of v.of law step.next step.more k step.hand w step.after in
     record { known = r.known; preceded = r.preceded; once = r.once }
 
-released_new : (v w : HandState) (item k : ℕ) → IsLawfulWork v.of → IsStepOf v w → w.released ≡ v.released ++ item ∷ []
+released_new : (v w : HandState) (item k : ℕ) → IsLawfulWork v.of → IsNextState v w → w.released ≡ v.released ++ item ∷ []
     → k < length v.released → get_or v.released k 0 ≢ item
 released_new v w item k law step e b z =
     let r = released_once v w law step in
@@ -159,7 +159,7 @@ released_new v w item k law step e b z =
     (there ∙ z ∙ sym here) in
     omega arith
 
-pub released_last : (v w : HandState) (item sent next k : ℕ) → IsLawfulWork v.of → IsStepOf v w
+pub released_last : (v w : HandState) (item sent next k : ℕ) → IsLawfulWork v.of → IsNextState v w
     → SendsOn v item sent next true w → k < length v.released
     → get_or v.released k 0 ≢ next
 released_last v w item sent next k law step done b =
@@ -169,7 +169,7 @@ released_last v w item sent next k law step done b =
     released_new v w next k law step e b
 
 -- a claim that answers Mine wins
-pub mine_wins : (v w : HandState) (item : ℕ) (step : IsStepOf v w) → v.place ≡ live (Looked item)
+pub mine_wins : (v w : HandState) (item : ℕ) (step : IsNextState v w) → v.place ≡ live (Looked item)
     → ClaimSteps v v.place Mine w
     → WinsClaim v.of step.words step.hands step.hand item step.next step.more
 mine_wins v w item step looked mine =
@@ -182,7 +182,7 @@ mine_wins v w item step looked mine =
     }
 
 -- what a hand that is Ended saw
-module _ (v w : HandState) (step : IsStepOf v w) (law : IsLawfulWork v.of) (ended : HasEnded w.place) where
+module _ (v w : HandState) (step : IsNextState v w) (law : IsLawfulWork v.of) (ended : HasEnded w.place) where
   after_it : IsKeptBy v.of step.next step.more
   after_it = kept v.of law step.next step.more (goes_on step.reached step.made)
 

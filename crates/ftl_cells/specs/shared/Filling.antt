@@ -2,7 +2,7 @@
 use Rattle.std.specs.Prelude.{◌≡◌, ℕ, ◌+◌, ◌⊎◌, Some}
 use Rattle.ftl_cells.specs.shared.Work.{Meaning, step_total, target_of, read_of}
 use Rattle.ftl_cells.specs.shared.State.{Place, live, HandState, after, load_cell, store_cell, cell_word}
-use Rattle.ftl_cells.specs.shared.Interleavings.{IsStepOf}
+use Rattle.ftl_cells.specs.shared.Interleavings.{IsNextState}
 use Rattle.ftl_cells.specs.declared.shared.place.HandPlace.TheVariants.{Working}
 
 -- the place after one more read
@@ -26,7 +26,7 @@ ReadsOrFills v p w = ⊥
 -- a hand comes from one state to another by reads and fills alone, each one step of it
 pub data Fills (v : HandState) : HandState → Type 0 where
   stays : Fills v v
-  goes_on : {w x : HandState} → Fills v w → IsStepOf w x → ReadsOrFills w w.place x → Fills v x
+  goes_on : {w x : HandState} → Fills v w → IsNextState w x → ReadsOrFills w w.place x → Fills v x
 
 -- two such ways, one after the other, are one
 pub fills_further : {v w x : HandState} → Fills v w → Fills w x → Fills v x

@@ -16,7 +16,7 @@ pub data LeadsTo (m : Meaning) (words : List ℕ) (hands : List HandState) : Lis
 
 -- one step takes a hand from one state to another: there is a state of the words and all hands that steps lead to, in
 -- which a hand is at the first, and a step from there after which this hand is at the second
-pub record IsStepOf (v w : HandState) : Type 0 where
+pub record IsNextState (v w : HandState) : Type 0 where
   pub words : List ℕ
   pub hands : List HandState
   pub next : List ℕ

@@ -38,9 +38,9 @@ Looks (live (Looked item)) i = item ≡ i
 Looks p i = ⊥
 
 -- the place is Working this item, at this step
-abbrev pub Works : Place → ℕ → ℕ → Type 0
-Works (live (Working item step reads)) i j = (item ≡ i) × (step ≡ j)
-Works p i j = ⊥
+abbrev pub IsWorkingAt : Place → ℕ → ℕ → Type 0
+IsWorkingAt (live (Working item step reads)) i j = (item ≡ i) × (step ≡ j)
+IsWorkingAt p i j = ⊥
 
 -- the place is Ended
 abbrev pub HasEnded : Place → Type 0
@@ -71,7 +71,7 @@ CellHolds Later n word = n ≡ 0
 
 -- some hand is Working the item
 abbrev pub IsClaimed : Stage → ℕ → Type 0
-IsClaimed s i = (h : ℕ) × (j : ℕ) × Works (s.place h) i j
+IsClaimed s i = (h : ℕ) × (j : ℕ) × IsWorkingAt (s.place h) i j
 
 -- of an item that a hand is Working at this step, just the targets of the steps before are filled
 pub record IsHalfFilled (m : Meaning) (s : Stage) (i j : ℕ) : Type 0 where
@@ -112,7 +112,7 @@ pub record IsKept (m : Meaning) (s : Stage) : Type 0 where
   pub free : (i j : ℕ) → IsStepOfItem m i j → s.state i ≡ 0 → s.cell (target_of m i j) ≡ 0
   pub full : (i j : ℕ) → IsStepOfItem m i j → s.state i ≡ 2 → s.cell (target_of m i j) ≢ 0
   pub claimed : (i : ℕ) → i < item_total m → s.state i ≡ 1 → IsClaimed s i
-  pub working : (h i j : ℕ) → Works (s.place h) i j → IsHalfFilled m s i j
+  pub working : (h i j : ℕ) → IsWorkingAt (s.place h) i j → IsHalfFilled m s i j
   -- a hand is Filled or Sending an item only where it is filled, and no two hands have one item
   pub sending : (h i k : ℕ) → Sends (s.place h) i k → s.state i ≡ 2
   pub alone : (h g i : ℕ) → HasItem (s.place h) i → HasItem (s.place g) i → h ≡ g

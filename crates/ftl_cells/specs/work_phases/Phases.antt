@@ -20,8 +20,8 @@ ComesBefore (Range a) Last = Unit {0}
 ComesBefore Last y = ⊥
 
 -- the cell is in the range of this number
-abbrev pub IsInRange : (size range cell : ℕ) → Type 0
-IsInRange size b c = (b * size ≤ c) × (c < (b + 1) * size)
+abbrev pub IsCellOfRange : (size range cell : ℕ) → Type 0
+IsCellOfRange size b c = (b * size ≤ c) × (c < (b + 1) * size)
 
 -- A work can take these phases. Each item has one; the ranges have all cells; an item hands on to items of its own phase
 -- or of later ones; and what the items of a range fill and read lies in it.
@@ -30,6 +30,6 @@ pub record CanTake (m : Meaning) (t : Phases) : Type 0 where
   pub known : (i b : ℕ) → phase_at t i ≡ Range b → b < t.ranges
   pub cover : cell_total m ≤ t.ranges * t.size
   pub handing : (p i : ℕ) → IsNext m p i → (phase_at t p ≡ phase_at t i) ⊎ ComesBefore (phase_at t p) (phase_at t i)
-  pub within : (i j b : ℕ) → IsStepOfItem m i j → phase_at t i ≡ Range b → IsInRange t.size b (target_of m i j)
+  pub within : (i j b : ℕ) → IsStepOfItem m i j → phase_at t i ≡ Range b → IsCellOfRange t.size b (target_of m i j)
   pub reads : (i j r b : ℕ) → IsStepOfItem m i j → r < read_total m i j → phase_at t i ≡ Range b
-      → IsInRange t.size b (read_of m i j r)
+      → IsCellOfRange t.size b (read_of m i j r)

@@ -7,16 +7,17 @@ ghost use Rattle.ftl_cells.specs.shared.Work.{target_of, read_total, read_of, so
 ghost use Rattle.ftl_cells.specs.shared.State.{live, Sends, IsFree, newcomer, next_name, after};
 ghost use Rattle.ftl_cells.specs.shared.State.{after_join, split, end_word};
 ghost use Rattle.ftl_cells.specs.shared.Table.{IsSeatOf};
-ghost use Rattle.ftl_cells.specs.shared.Told.{LookTold, ClaimTold, ReadTold, FillTold, MarkTold};
-ghost use Rattle.ftl_cells.specs.shared.Told.{SendTold};
-ghost use Rattle.ftl_cells.specs.shared.Told.{FinishTold, LeftTold};
-ghost use Rattle.ftl_cells.specs.shared.Interleavings.{IsStepOf};
+ghost use Rattle.ftl_cells.specs.shared.Effects.{LookEffect, ClaimEffect, ReadEffect, FillEffect};
+ghost use Rattle.ftl_cells.specs.shared.Effects.{MarkEffect};
+ghost use Rattle.ftl_cells.specs.shared.Effects.{SendEffect};
+ghost use Rattle.ftl_cells.specs.shared.Effects.{FinishEffect, LeftEffect};
+ghost use Rattle.ftl_cells.specs.shared.Interleavings.{IsNextState};
 ghost use Rattle.ftl_cells.specs.declared.shared.place.HandPlace.TheVariants.{Idle, Looked};
 ghost use Rattle.ftl_cells.specs.declared.shared.place.HandPlace.TheVariants.{Working};
 ghost use Rattle.std.specs.Prelude.{None};
 
 use crate::shared::cells::Cells;
-use crate::shared::hand::Told;
+use crate::shared::hand::SeatView;
 use crate::shared::rule::{
     ClaimPlay, FillPlay, FinishPlay, JoinPlay, LeftPlay, LookPlay, MarkPlay, ReadPlay, SendPlay,
     SplitPlay,
@@ -25,26 +26,26 @@ use crate::shared::work::Meant;
 use atomic_table::Seat;
 
 impl<W: Meant> Cells<W> {
-    pub(crate) fn load_counter(&self, seat: &mut Seat<u8, Told>, item: u32) -> u64
+    pub(crate) fn load_counter(&self, seat: &mut Seat<u8, SeatView>, item: u32) -> u64
         requires seat { IsSeatOf (W.meaning self.now.1) self.now.0 seat.old }
         requires idle { seat.old.me.0.place ≡ live Idle }
         requires item { item < item_total (W.meaning self.now.1) }
         ensures table { seat.new.table_id ≡ seat.old.table_id }
-        ensures reached { IsStepOf seat.old.me.0 seat.new.me.0 }
-        ensures told { LookTold seat.old.me item result seat.new.me }
+        ensures reached { IsNextState seat.old.me.0 seat.new.me.0 }
+        ensures effect { LookEffect seat.old.me item result seat.new.me }
     {
         self.table
             .shared
             .load::<LookPlay>(seat, self.counters + item as usize)
     }
 
-    pub(crate) fn claim_state(&self, seat: &mut Seat<u8, Told>, item: u32) -> u64
+    pub(crate) fn claim_state(&self, seat: &mut Seat<u8, SeatView>, item: u32) -> u64
         requires seat { IsSeatOf (W.meaning self.now.1) self.now.0 seat.old }
         requires looked { seat.old.me.0.place ≡ live (Looked item) }
         requires item { item < item_total (W.meaning self.now.1) }
         ensures table { seat.new.table_id ≡ seat.old.table_id }
-        ensures reached { IsStepOf seat.old.me.0 seat.new.me.0 }
-        ensures told { ClaimTold seat.old.me item result seat.new.me }
+        ensures reached { IsNextState seat.old.me.0 seat.new.me.0 }
+        ensures effect { ClaimEffect seat.old.me item result seat.new.me }
     {
         let shared = &self.table.shared;
         let at = self.states + item as usize;
@@ -54,7 +55,7 @@ impl<W: Meant> Cells<W> {
     /// Loads the cell of a read. Where the hand stands is for the contract alone.
     pub(crate) fn load_cell(
         &self,
-        seat: &mut Seat<u8, Told>,
+        seat: &mut Seat<u8, SeatView>,
         _item: u32,
         _step: u32,
         _k: u32,
@@ -66,8 +67,8 @@ impl<W: Meant> Cells<W> {
         requires place { _k < read_total (W.meaning self.now.1) _item _step }
         requires cell { cell ≡ read_of (W.meaning self.now.1) _item _step _k }
         ensures table { seat.new.table_id ≡ seat.old.table_id }
-        ensures reached { IsStepOf seat.old.me.0 seat.new.me.0 }
-        ensures told { ReadTold seat.old.me _item _step _k result seat.new.me }
+        ensures reached { IsNextState seat.old.me.0 seat.new.me.0 }
+        ensures effect { ReadEffect seat.old.me _item _step _k result seat.new.me }
         ensures counted { read_total (W.meaning self.now.1) _item _step < 2 ^ 32 }
     {
         self.table.shared.load::<ReadPlay>(seat, 1 + cell as usize)
@@ -76,7 +77,7 @@ impl<W: Meant> Cells<W> {
     /// Stores the word in the target of a step. Where the hand stands is for the contract alone.
     pub(crate) fn store_cell(
         &self,
-        seat: &mut Seat<u8, Told>,
+        seat: &mut Seat<u8, SeatView>,
         _item: u32,
         _step: u32,
         cell: u32,
@@ -90,8 +91,8 @@ impl<W: Meant> Cells<W> {
         requires word { word
             ≡ solved_word (W.meaning self.now.1) (target_of (W.meaning self.now.1) _item _step) }
         ensures table { seat.new.table_id ≡ seat.old.table_id }
-        ensures reached { IsStepOf seat.old.me.0 seat.new.me.0 }
-        ensures told { FillTold seat.old.me _item _step seat.new.me }
+        ensures reached { IsNextState seat.old.me.0 seat.new.me.0 }
+        ensures effect { FillEffect seat.old.me _item _step seat.new.me }
         ensures counted { step_total (W.meaning self.now.1) _item < 2 ^ 32 }
     {
         self.table
@@ -99,14 +100,14 @@ impl<W: Meant> Cells<W> {
             .store::<FillPlay>(seat, 1 + cell as usize, word);
     }
 
-    pub(crate) fn mark_state(&self, seat: &mut Seat<u8, Told>, item: u32)
+    pub(crate) fn mark_state(&self, seat: &mut Seat<u8, SeatView>, item: u32)
         requires seat { IsSeatOf (W.meaning self.now.1) self.now.0 seat.old }
         requires working { seat.old.me.0.place
             ≡ live (Working item (step_total (W.meaning self.now.1) item) 0) }
         requires item { item < item_total (W.meaning self.now.1) }
         ensures table { seat.new.table_id ≡ seat.old.table_id }
-        ensures reached { IsStepOf seat.old.me.0 seat.new.me.0 }
-        ensures told { MarkTold seat.old.me item seat.new.me }
+        ensures reached { IsNextState seat.old.me.0 seat.new.me.0 }
+        ensures effect { MarkEffect seat.old.me item seat.new.me }
     {
         self.table
             .shared
@@ -114,43 +115,43 @@ impl<W: Meant> Cells<W> {
     }
 
     /// Takes one from the counter of the next item at this place, and says how many are left.
-    pub(crate) fn send(&self, seat: &mut Seat<u8, Told>, item: u32, sent: u32, next: u32) -> u64
+    pub(crate) fn send(&self, seat: &mut Seat<u8, SeatView>, item: u32, sent: u32, next: u32) -> u64
         requires seat { IsSeatOf (W.meaning self.now.1) self.now.0 seat.old }
         requires item { item < item_total (W.meaning self.now.1) }
         requires sending { Sends seat.old.me.0.place item sent }
         requires place { sent < next_total (W.meaning self.now.1) item }
         requires next { next ≡ next_at (W.meaning self.now.1) item sent }
         ensures table { seat.new.table_id ≡ seat.old.table_id }
-        ensures reached { IsStepOf seat.old.me.0 seat.new.me.0 }
-        ensures told { SendTold seat.old.me item sent result seat.new.me }
+        ensures reached { IsNextState seat.old.me.0 seat.new.me.0 }
+        ensures effect { SendEffect seat.old.me item sent result seat.new.me }
     {
         self.table
             .shared
             .fetch_sub::<SendPlay>(seat, self.counters + next as usize, 1)
     }
 
-    pub(crate) fn finish(&self, seat: &mut Seat<u8, Told>, item: u32, sent: u32)
+    pub(crate) fn finish(&self, seat: &mut Seat<u8, SeatView>, item: u32, sent: u32)
         requires seat { IsSeatOf (W.meaning self.now.1) self.now.0 seat.old }
         requires sending { Sends seat.old.me.0.place item sent }
         requires done { sent ≡ next_total (W.meaning self.now.1) item }
         ensures table { seat.new.table_id ≡ seat.old.table_id }
-        ensures reached { IsStepOf seat.old.me.0 seat.new.me.0 }
-        ensures told { (n : ℕ) × FinishTold seat.old.me n seat.new.me }
+        ensures reached { IsNextState seat.old.me.0 seat.new.me.0 }
+        ensures effect { (n : ℕ) × FinishEffect seat.old.me n seat.new.me }
     {
         self.table.shared.fetch_sub::<FinishPlay>(seat, 0, 1);
     }
 
-    pub(crate) fn load_end(&self, seat: &mut Seat<u8, Told>) -> u64
+    pub(crate) fn load_end(&self, seat: &mut Seat<u8, SeatView>) -> u64
         requires seat { IsSeatOf (W.meaning self.now.1) self.now.0 seat.old }
         requires idle { seat.old.me.0.place ≡ live Idle }
         ensures table { seat.new.table_id ≡ seat.old.table_id }
-        ensures reached { IsStepOf seat.old.me.0 seat.new.me.0 }
-        ensures told { LeftTold seat.old.me result seat.new.me }
+        ensures reached { IsNextState seat.old.me.0 seat.new.me.0 }
+        ensures effect { LeftEffect seat.old.me result seat.new.me }
     {
         self.table.shared.load::<LeftPlay>(seat, 0)
     }
 
-    pub(crate) fn split(&self, seat: &mut Seat<u8, Told>) -> Seat<u8, Told>
+    pub(crate) fn split(&self, seat: &mut Seat<u8, SeatView>) -> Seat<u8, SeatView>
         requires seat { IsSeatOf (W.meaning self.now.1) self.now.0 seat.old }
         requires idle { seat.old.me.0.place ≡ live Idle }
         ensures table { seat.new.table_id ≡ seat.old.table_id }
@@ -162,7 +163,7 @@ impl<W: Meant> Cells<W> {
         self.table.shared.split_seat::<SplitPlay>(seat)
     }
 
-    pub(crate) fn join(&self, seat: &mut Seat<u8, Told>, other: Seat<u8, Told>)
+    pub(crate) fn join(&self, seat: &mut Seat<u8, SeatView>, other: Seat<u8, SeatView>)
         requires seat { IsSeatOf (W.meaning self.now.1) self.now.0 seat.old }
         requires other { other.table_id ≡ self.now.0 }
         requires empty { other.me.1 ≡ [] }

@@ -1,6 +1,6 @@
 ghost use Rattle.std.specs.Prelude.{◌≡◌};
 
-use crate::shared::hand::Told;
+use crate::shared::hand::SeatView;
 use crate::shared::rule::Law;
 use crate::shared::work::Meant;
 use atomic_table::Table;
@@ -11,7 +11,7 @@ use std::marker::Model;
 /// items and their counters.
 #[derive(Drop)]
 pub struct Cells<W: Meant> {
-    pub(crate) table: Table<u8, Told, W, Law, Global>,
+    pub(crate) table: Table<u8, SeatView, W, Law, Global>,
     pub(crate) work: W,
     /// The row that the table was made from, which `close` gives back.
     pub(crate) row: Vec<u64>,

@@ -8,9 +8,9 @@ use std::marker::Model;
 
 /// What contracts say of a hand: its place, its last step, how many steps it made, and what it
 /// released. It has no bytes.
-pub(crate) struct Told {}
+pub(crate) struct SeatView {}
 
-impl Model for Told {
+impl Model for SeatView {
     ghost use Rattle.ftl_cells.specs.shared.State.{HandState, newcomer, first_name};
     ghost use Rattle.ftl_cells.specs.shared.Work.{no_work};
 
@@ -23,7 +23,7 @@ impl Model for Told {
 #[derive(Drop)]
 pub struct Hand {
     pub(crate) place: HandPlace,
-    pub(crate) seat: Seat<u8, Told>,
+    pub(crate) seat: Seat<u8, SeatView>,
 }
 
 impl Model for Hand {

@@ -14,7 +14,7 @@ ghost use Rattle.ftl_cells.specs.shared.Calls.{ClaimSteps, SendsOn};
 ghost use Rattle.ftl_cells.specs.declared.shared.place.HandPlace.TheVariants.{Looked};
 ghost use Rattle.ftl_cells.specs.declared.shared.answer.Claim.TheVariants.{Mine};
 ghost use Rattle.ftl_cells.specs.shared.Interleavings.{LeadsTo, WinsClaim, ReadsFindValues};
-ghost use Rattle.ftl_cells.specs.shared.Interleavings.{IsStepOf};
+ghost use Rattle.ftl_cells.specs.shared.Interleavings.{IsNextState};
 ghost use Rattle.ftl_cells.specs.shared.Interleavings.{AreReleasedOnce, IsThere};
 ghost use Rattle.ftl_cells.specs.shared.Interleavings.{FillsFindEmpty, ClaimsStay, AllFilled};
 ghost use Rattle.ftl_cells.specs.shared.Interleavings.{HoldSolution};
@@ -77,7 +77,8 @@ pub fn claims_win_once()
 
 /// The step of a claim that answers `Mine` wins the claim of its item.
 pub fn mine_wins_the_claim()
-    ensures wins { (v w : HandState) (item : ℕ) (step : IsStepOf v w) → v.place ≡ live (Looked item)
+    ensures wins { (v w : HandState) (item : ℕ) (step : IsNextState v w)
+        → v.place ≡ live (Looked item)
         → ClaimSteps v v.place Mine w
         → WinsClaim v.of step.words step.hands step.hand item step.next step.more }
 {}
@@ -100,18 +101,20 @@ pub fn ended_means_the_end()
 
 /// Where a step leaves its hand Ended, each item is filled then, and the cells hold the solution.
 pub fn ended_hands_saw_all()
-    ensures items { (v w : HandState) (step : IsStepOf v w) → IsLawfulWork v.of → HasEnded w.place
+    ensures items { (v w : HandState) (step : IsNextState v w) → IsLawfulWork v.of
+        → HasEnded w.place
         → AllFilled v.of step.next }
-    ensures cells { (v w : HandState) (step : IsStepOf v w) → IsLawfulWork v.of → HasEnded w.place
+    ensures cells { (v w : HandState) (step : IsNextState v w) → IsLawfulWork v.of
+        → HasEnded w.place
         → HoldSolution v.of step.next }
 {}
 
 /// After a step, the list of items that the hand released names none twice. So where a delivery is
 /// the last that an item waits for, the hand had not released it before.
 pub fn items_are_released_once()
-    ensures once { (v w : HandState) → IsLawfulWork v.of → IsStepOf v w
+    ensures once { (v w : HandState) → IsLawfulWork v.of → IsNextState v w
         → AreReleasedOnce v.of w.released }
-    ensures last { (v w : HandState) (item sent next k : ℕ) → IsLawfulWork v.of → IsStepOf v w
+    ensures last { (v w : HandState) (item sent next k : ℕ) → IsLawfulWork v.of → IsNextState v w
         → SendsOn v item sent next true w → k < length v.released
         → slice_index v.released k ≢ next }
 {}

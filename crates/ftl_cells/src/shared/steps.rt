@@ -11,7 +11,7 @@ ghost use Rattle.ftl_cells.specs.shared.Calls.{IsNextRead, IsNextTarget};
 ghost use Rattle.ftl_cells.specs.shared.Calls.{LookSteps, ClaimSteps, ReadAnswers, ReadSteps};
 ghost use Rattle.ftl_cells.specs.shared.Calls.{FillSteps};
 ghost use Rattle.ftl_cells.specs.shared.Calls.{MarkSteps, DeliverSteps, LeftSteps};
-ghost use Rattle.ftl_cells.specs.shared.Interleavings.{IsStepOf};
+ghost use Rattle.ftl_cells.specs.shared.Interleavings.{IsNextState};
 ghost use Rattle.ftl_cells.specs.declared.shared.place.HandPlace.TheVariants.{Idle, Looked};
 ghost use Rattle.ftl_cells.specs.declared.shared.place.HandPlace.TheVariants.{Working};
 
@@ -29,7 +29,7 @@ impl<W: Work> Cells<W> {
         requires idle { hand.old.state.place ≡ live Idle }
         requires item { item < item_total (W.meaning self.now.1) }
         ensures table { hand.new.table ≡ hand.old.table }
-        ensures reached { IsStepOf hand.old.state hand.new.state }
+        ensures reached { IsNextState hand.old.state hand.new.state }
         ensures step { LookSteps hand.old.state item result hand.new.state }
     {
         match self.load_counter(&mut hand.seat, item) {
@@ -46,7 +46,7 @@ impl<W: Work> Cells<W> {
         requires made { IsMadeBy (W.meaning self.now.1) self.now.0 hand.old }
         requires looked { CanClaim hand.old.state.place }
         ensures table { hand.new.table ≡ hand.old.table }
-        ensures reached { IsStepOf hand.old.state hand.new.state }
+        ensures reached { IsNextState hand.old.state hand.new.state }
         ensures step { ClaimSteps hand.old.state hand.old.state.place result hand.new.state }
     {
         let HandPlace::Looked { item } = hand.place else {
@@ -73,7 +73,7 @@ impl<W: Work> Cells<W> {
         requires made { IsMadeBy (W.meaning self.now.1) self.now.0 hand.old }
         requires working { CanRead (W.meaning self.now.1) hand.old.state.place }
         ensures table { hand.new.table ≡ hand.old.table }
-        ensures reached { IsStepOf hand.old.state hand.new.state }
+        ensures reached { IsNextState hand.old.state hand.new.state }
         ensures value { ReadAnswers (W.meaning self.now.1) hand.old.state.place result }
         ensures step { ReadSteps hand.old.state hand.old.state.place (word_of_value result)
             hand.new.state }
@@ -90,7 +90,7 @@ impl<W: Work> Cells<W> {
         requires made { IsMadeBy (W.meaning self.now.1) self.now.0 hand.old }
         requires working { CanFill (W.meaning self.now.1) hand.old.state.place val }
         ensures table { hand.new.table ≡ hand.old.table }
-        ensures reached { IsStepOf hand.old.state hand.new.state }
+        ensures reached { IsNextState hand.old.state hand.new.state }
         ensures step { FillSteps hand.old.state hand.old.state.place hand.new.state }
     {
         let HandPlace::Working { item, step, .. } = hand.place else {
@@ -105,7 +105,7 @@ impl<W: Work> Cells<W> {
         requires made { IsMadeBy (W.meaning self.now.1) self.now.0 hand.old }
         requires working { CanMark (W.meaning self.now.1) hand.old.state.place }
         ensures table { hand.new.table ≡ hand.old.table }
-        ensures reached { IsStepOf hand.old.state hand.new.state }
+        ensures reached { IsNextState hand.old.state hand.new.state }
         ensures step { MarkSteps hand.old.state hand.old.state.place hand.new.state }
     {
         let HandPlace::Working { item, .. } = hand.place else {
@@ -121,7 +121,7 @@ impl<W: Work> Cells<W> {
         requires made { IsMadeBy (W.meaning self.now.1) self.now.0 hand.old }
         requires filled { CanDeliver hand.old.state.place }
         ensures table { hand.new.table ≡ hand.old.table }
-        ensures reached { IsStepOf hand.old.state hand.new.state }
+        ensures reached { IsNextState hand.old.state hand.new.state }
         ensures step { DeliverSteps hand.old.state hand.old.state.place result hand.new.state }
     {
         let (item, sent) = match hand.place {
@@ -151,7 +151,7 @@ impl<W: Work> Cells<W> {
         requires made { IsMadeBy (W.meaning self.now.1) self.now.0 hand.old }
         requires idle { hand.old.state.place ≡ live Idle }
         ensures table { hand.new.table ≡ hand.old.table }
-        ensures reached { IsStepOf hand.old.state hand.new.state }
+        ensures reached { IsNextState hand.old.state hand.new.state }
         ensures step { LeftSteps hand.old.state result hand.new.state }
     {
         let left = self.load_end(&mut hand.seat);
@@ -199,7 +199,7 @@ impl<W: Meant> Cells<W> {
         requires working { CanRead (W.meaning self.now.1) hand.old.state.place }
         requires cell { IsNextRead (W.meaning self.now.1) hand.old.state.place cell }
         ensures table { hand.new.table ≡ hand.old.table }
-        ensures reached { IsStepOf hand.old.state hand.new.state }
+        ensures reached { IsNextState hand.old.state hand.new.state }
         ensures value { ReadAnswers (W.meaning self.now.1) hand.old.state.place result }
         ensures step { ReadSteps hand.old.state hand.old.state.place (word_of_value result)
             hand.new.state }
@@ -222,7 +222,7 @@ impl<W: Meant> Cells<W> {
         requires working { CanFill (W.meaning self.now.1) hand.old.state.place val }
         requires cell { IsNextTarget (W.meaning self.now.1) hand.old.state.place cell }
         ensures table { hand.new.table ≡ hand.old.table }
-        ensures reached { IsStepOf hand.old.state hand.new.state }
+        ensures reached { IsNextState hand.old.state hand.new.state }
         ensures step { FillSteps hand.old.state hand.old.state.place hand.new.state }
     {
         let HandPlace::Working { item, step, .. } = hand.place else {

@@ -1,4 +1,4 @@
--- What is told of all rules, class by class.
+-- What is known of all rules, class by class.
 use Rattle.std.proofs.Common.{◌≡◌, ℕ, ◌+◌, ◌<◌, List, [], ◌∷◌, ◌++◌, length, map, flat_map, drop, get_or, Option, Some, None, refl, sym, ◌∙◌, ap, ap₂, subst, add-one, append_assoc}
 use Rattle.std.proofs.lemmas.List.{get_or-map, length-map, map-append}
 use Rattle.ftl_grammar.specs.declared.syntax.rules.Class.{Class}
@@ -12,7 +12,7 @@ use Rattle.ftl_checked.specs.declared.declarations.flat.FlatRule.{FlatRule}
 use Rattle.ftl_meaning.specs.faults.Allowed.{Leaf, Position}
 use Rattle.ftl_meaning.specs.faults.Checked.{all_rules, rule_info}
 use Rattle.ftl_meaning.specs.faults.FirstFault.{class_fault, first_there, missing_rule, rule_faults}
-use Rattle.ftl_checked.specs.grammars.Needs.{infos_of, reads_of_class}
+use Rattle.ftl_checked.specs.grammars.MissingRules.{infos_of, reads_of_class}
 use Rattle.ftl_checked.specs.grammars.ReadNumbers.{rule_leaves}
 use Rattle.ftl_meaning.specs.faults.Numbering.{class_at, numbered}
 use Rattle.ftl_meaning.proofs.faults.Counting.{left_is}
@@ -20,9 +20,9 @@ use Rattle.ftl_meaning.proofs.faults.FirstLists.{there_append}
 use Rattle.ftl_meaning.proofs.faults.FirstNumbered.{placed_first_passes, placed_first_stops, numbered_first_ends}
 
 module _ {X : Type 0} (tell : ℕ × Rule → X) where
-  -- what is told of the rules of a class
-  abbrev told_of : ℕ × Class → List X
-  told_of k = map (λ (r : Rule). tell (k.0, r)) k.1.rules
+  -- what is known of the rules of a class
+  abbrev infos_by : ℕ × Class → List X
+  infos_by k = map (λ (r : Rule). tell (k.0, r)) k.1.rules
 
   -- the rules of one class
   of_class : (k : ℕ) (rs : List Rule)
@@ -32,27 +32,27 @@ module _ {X : Type 0} (tell : ℕ × Rule → X) where
 
   -- those of all
   of_classes : (ks : List (ℕ × Class))
-      → map tell (flat_map (λ k. map (λ r. (k.0, r)) k.1.rules) ks) ≡ flat_map told_of ks
+      → map tell (flat_map (λ k. map (λ r. (k.0, r)) k.1.rules) ks) ≡ flat_map infos_by ks
   of_classes [] = refl
   of_classes (k ∷ ks) =
       map-append tell (map (λ r. (k.0, r)) k.1.rules) (flat_map (λ k. map (λ r. (k.0, r)) k.1.rules) ks)
       ∙ ap₂ (λ a b. a ++ b) (of_class k.0 k.1.rules) (of_classes ks)
 
   -- one class more
-  told_more : (g : Grammar) (told : List X) (k : ℕ) → k < length g.classes
-      → (told ++ told_of (k, class_at g k)) ++ flat_map told_of (numbered (k + 1) (drop (k + 1) g.classes))
-      ≡ told ++ flat_map told_of (numbered k (drop k g.classes))
-  told_more g told k within =
-      append_assoc told (told_of (k, class_at g k)) (flat_map told_of (numbered (k + 1) (drop (k + 1) g.classes)))
-      ∙ ap (λ n. told ++ (told_of (k, class_at g k) ++ flat_map told_of (numbered n (drop (k + 1) g.classes)))) (add-one k)
-      ∙ ap (λ xs. told ++ flat_map told_of (numbered k xs)) (sym (left_is g.classes k (trees.class [] [] [] [] []) within))
+  infos_by_more : (g : Grammar) (told : List X) (k : ℕ) → k < length g.classes
+      → (told ++ infos_by (k, class_at g k)) ++ flat_map infos_by (numbered (k + 1) (drop (k + 1) g.classes))
+      ≡ told ++ flat_map infos_by (numbered k (drop k g.classes))
+  infos_by_more g told k within =
+      append_assoc told (infos_by (k, class_at g k)) (flat_map infos_by (numbered (k + 1) (drop (k + 1) g.classes)))
+      ∙ ap (λ n. told ++ (infos_by (k, class_at g k) ++ flat_map infos_by (numbered n (drop (k + 1) g.classes)))) (add-one k)
+      ∙ ap (λ xs. told ++ flat_map infos_by (numbered k xs)) (sym (left_is g.classes k (trees.class [] [] [] [] []) within))
 
   -- none are left
-  told_end : (n : ℕ) (xs : List Class) → flat_map told_of (numbered n (drop (length xs) xs)) ≡ []
-  told_end n [] = refl
-  told_end n (x ∷ xs) = told_end n xs
+  infos_by_end : (n : ℕ) (xs : List Class) → flat_map infos_by (numbered n (drop (length xs) xs)) ≡ []
+  infos_by_end n [] = refl
+  infos_by_end n (x ∷ xs) = infos_by_end n xs
 
--- what is told of all rules is what is told class by class
+-- what is known of all rules is what is known class by class
 pub infos_are : (g : Grammar) → map (rule_info g) (all_rules g) ≡ flat_map (infos_of g) (numbered 0 g.classes)
 infos_are g = of_classes (rule_info g) (numbered 0 g.classes)
 
@@ -60,11 +60,11 @@ infos_are g = of_classes (rule_info g) (numbered 0 g.classes)
 pub infos_more : (g : Grammar) (told : List RuleInfo) (k : ℕ) → k < length g.classes
     → (told ++ infos_of g (k, class_at g k)) ++ flat_map (infos_of g) (numbered (k + 1) (drop (k + 1) g.classes))
     ≡ told ++ flat_map (infos_of g) (numbered k (drop k g.classes))
-infos_more g told k within = told_more (rule_info g) g told k within
+infos_more g told k within = infos_by_more (rule_info g) g told k within
 
 -- none are left
 pub infos_end : (g : Grammar) (n : ℕ) (xs : List Class) → flat_map (infos_of g) (numbered n (drop (length xs) xs)) ≡ []
-infos_end g n xs = told_end (rule_info g) n xs
+infos_end g n xs = infos_by_end (rule_info g) n xs
 
 -- the same of what they read
 pub reads_are : (g : Grammar) → map (rule_leaves g) (all_rules g) ≡ flat_map (reads_of_class g) (numbered 0 g.classes)
@@ -74,11 +74,11 @@ pub reads_more : (g : Grammar) (read : List (List (Position × List Leaf))) (k :
     → (read ++ reads_of_class g (k, class_at g k))
     ++ flat_map (reads_of_class g) (numbered (k + 1) (drop (k + 1) g.classes))
     ≡ read ++ flat_map (reads_of_class g) (numbered k (drop k g.classes))
-reads_more g read k within = told_more (rule_leaves g) g read k within
+reads_more g read k within = infos_by_more (rule_leaves g) g read k within
 
 pub reads_end : (g : Grammar) (n : ℕ) (xs : List Class)
     → flat_map (reads_of_class g) (numbered n (drop (length xs) xs)) ≡ []
-reads_end g n xs = told_end (rule_leaves g) n xs
+reads_end g n xs = infos_by_end (rule_leaves g) n xs
 
 -- how many classes are flattened
 pub flat_long : (flat : List (List FlatRule)) (xs : List Class) → rules_in flat ≡ rules_of_each xs
@@ -107,3 +107,6 @@ class_fault_is g k =
 
 -- the steps of a loop over all classes
 pub ruleset class_steps = (placed_first_passes, placed_first_stops, numbered_first_ends, infos_more, infos_end, reads_more, reads_end, flat_long, flat_at)
+
+-- what all classes tell of their rules
+pub ruleset all_steps = (infos_are, reads_are)

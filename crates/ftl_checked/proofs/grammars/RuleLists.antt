@@ -45,7 +45,7 @@ module _ (g : Grammar) (k : ℕ) (xs : List Rule) (i : ℕ) (x : Rule) (left : d
       ∙ ap (λ o. earlier ++ (option_to_list o ++ slots_of g k (drop (i + 1) xs))) (sym is)
       ∙ ap (λ rs. earlier ++ slots_of g k rs) (sym left)
 
-  -- and what is told of it
+  -- and what is known of it
   pub info_more : (told : List RuleInfo) (s : Slot) → slot_of g k x.target ≡ Some s
       → (told ++ info_by k (Some s) ∷ []) ++ map (λ (r : Rule). info_by k (slot_of g k r.target)) (drop (i + 1) xs)
       ≡ told ++ map (λ (r : Rule). info_by k (slot_of g k r.target)) (drop i xs)

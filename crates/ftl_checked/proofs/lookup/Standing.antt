@@ -10,7 +10,8 @@ use Rattle.ftl_grammar.specs.declared.syntax.rules.Interface.{Interface}
 use Rattle.ftl_grammar.specs.declared.syntax.rules.Grammar.{Grammar}
 use Rattle.ftl_grammar.specs.declared.syntax.rules.Rule.{Rule}
 use Rattle.ftl_grammar.specs.syntax.Trees as trees
-use Rattle.ftl_meaning.specs.faults.Checked.{Declared, all_attributes, all_rules, attribute_at, declared, info_by, rule_info, rule_told}
+use Rattle.ftl_meaning.specs.faults.Checked.{Declared, all_attributes, all_rules, attribute_at, declared, info_by}
+use Rattle.ftl_meaning.specs.faults.Checked.{rule_info, rule_info_at}
 use Rattle.ftl_meaning.specs.faults.FirstFault.{rule_name}
 use Rattle.ftl_meaning.specs.faults.RuleNames.{rule_name_at}
 use Rattle.ftl_meaning.specs.declared.faults.info.RuleInfo.{RuleInfo}
@@ -239,11 +240,11 @@ pub record IsRuleOf (g : Grammar) (class : ℕ) (r : ℕ) (d : Rule) : Type 0 wh
       (get_or (class_at g class).rules (r - length (flat_map (λ (k : Class). k.rules) (take class g.classes))) d).target
       ≡ rule_name_at g r
 
--- what is told of a rule has its class
-told_class : (k : ℕ) (slot : Option Slot) → (info_by k slot).class ≡ k
-told_class k (Some (own_slot a)) = refl
-told_class k (Some (kid_slot c a)) = refl
-told_class k None = refl
+-- what is known of a rule has its class
+info_class : (k : ℕ) (slot : Option Slot) → (info_by k slot).class ≡ k
+info_class k (Some (own_slot a)) = refl
+info_class k (Some (kid_slot c a)) = refl
+info_class k None = refl
 
 abbrev with_class : ℕ → Rule → ℕ × Rule
 with_class k r = (k, r)
@@ -251,16 +252,16 @@ with_class k r = (k, r)
 abbrev no_name : RuleName
 no_name = record { class = []; child = None; attr = [] }
 
-pub rule_is_of : (g : Grammar) (d : Rule) (r k : ℕ) → r < length (all_rules g) → k ≡ (rule_told g r).class
+pub rule_is_of : (g : Grammar) (d : Rule) (r k : ℕ) → r < length (all_rules g) → k ≡ (rule_info_at g r).class
     → IsRuleOf g k r d
 rule_is_of g d r k within named =
     let at = stands (λ (k : Class). k.rules) with_class no_class d (0, d) 0 g.classes r within in
     let is = is_of (λ (k : Class). k.rules) with_class no_class d g.classes r (get_or (all_rules g) r (0, d)) at in
-    let told : rule_told g r ≡ rule_info g (get_or (all_rules g) r (0, d)) =
+    let told : rule_info_at g r ≡ rule_info g (get_or (all_rules g) r (0, d)) =
     get_or-map (rule_info g) (all_rules g) r (0, d) (info_by 0 None) within in
-    let class : (rule_told g r).class ≡ at.list =
+    let class : (rule_info_at g r).class ≡ at.list =
     ap (λ (i : RuleInfo). i.class) (told ∙ ap (rule_info g) is)
-    ∙ told_class at.list (slot_of g at.list (get_or (class_at g at.list).rules at.place d).target) in
+    ∙ info_class at.list (slot_of g at.list (get_or (class_at g at.list).rules at.place d).target) in
     let counts = at.counts in
     let placed = at.placed in
     let place : r - length (flat_map (λ (k : Class). k.rules) (take at.list g.classes)) ≡ at.place = omega arith in

@@ -47,8 +47,8 @@ abbrev pub rule_leaves : Grammar → ℕ × Rule → List (Position × List Leaf
 rule_leaves g r = map (part_leaves g r.0) (rule_parts g r.0 r.1)
 
 -- the same of the rule of this number; past the end nothing
-abbrev pub leaves_told : Grammar → (rule : ℕ) → List (Position × List Leaf)
-leaves_told g n = slice_index_or (map (rule_leaves g) (all_rules g)) n []
+abbrev pub rule_leaves_at : Grammar → (rule : ℕ) → List (Position × List Leaf)
+rule_leaves_at g n = slice_index_or (map (rule_leaves g) (all_rules g)) n []
 
 -- what an expression reads as code has it
 abbrev pub leaves_in : PartReads → Position × List Leaf

@@ -4,9 +4,9 @@ ghost use Rattle.ftl_meaning.specs.formulas.Expressions.{formula_of};
 ghost use Rattle.ftl_meaning.specs.formulas.Formula.{reads_of};
 ghost use Rattle.ftl_checked.specs.declarations.FlatRules.{body_in, rule_in};
 
-use ftl_grammar::syntax::{Body, Expr, Rule, Target};
-use ftl_meaning::postfix_code::{ReadRef, reads};
-use ftl_tokens::scanner::Name;
+use ftl_grammar::{Body, Expr, Rule, Target};
+use ftl_meaning::{ReadRef, reads};
+use ftl_tokens::Name;
 use std::alloc::{AllocError, Global};
 use std::marker::Model;
 

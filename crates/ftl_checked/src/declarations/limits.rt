@@ -14,9 +14,8 @@ ghost use Rattle.ftl_meaning.specs.declared.faults.fault.What.TheVariants as wha
 
 use crate::declarations::flat::{FlatBody, FlatExpr, FlatRule, flat_rule};
 use crate::lookup::shared;
-use ftl_grammar::syntax::{Class, Grammar, Interface, Rule};
-use ftl_meaning::faults::{GrammarFault, What};
-use ftl_meaning::postfix_code::{ReadKind, ReadRef};
+use ftl_grammar::{Class, Grammar, Interface, Rule};
+use ftl_meaning::{GrammarFault, ReadKind, ReadRef, What};
 use sqlite_items::Items;
 use std::alloc::Global;
 

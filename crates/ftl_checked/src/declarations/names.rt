@@ -24,9 +24,9 @@ use crate::lookup::{
     stands_before,
 };
 use crate::names::NameTable;
-use ftl_grammar::syntax::{AttrDecl, Child, Class, Grammar};
-use ftl_meaning::faults::GrammarFault;
-use ftl_tokens::scanner::Name;
+use ftl_grammar::{AttrDecl, Child, Class, Grammar};
+use ftl_meaning::GrammarFault;
+use ftl_tokens::Name;
 use sqlite_items::Items;
 use std::alloc::Global;
 

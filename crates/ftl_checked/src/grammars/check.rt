@@ -12,12 +12,12 @@ ghost use Rattle.ftl_meaning.specs.declared.faults.fault.GrammarFault.TheVariant
 
 use crate::declarations::{limits_hold, names_stand};
 use crate::grammars::checked::Checked;
-use crate::grammars::class_checks::all_told;
-use crate::grammars::rules::Told;
+use crate::grammars::class_checks::checked_rules;
+use crate::grammars::rules::CheckedRules;
 use crate::lookup::{Tables, attr_infos, build_tables, interface_number};
 use ftl_base::Width;
-use ftl_grammar::syntax::Grammar;
-use ftl_meaning::faults::GrammarFault;
+use ftl_grammar::Grammar;
+use ftl_meaning::GrammarFault;
 use std::alloc::Global;
 
 /// A lawful grammar with its numbers, or the first fault of the grammar.
@@ -26,14 +26,14 @@ pub fn check_grammar(alloc: Global, grammar: Grammar, width: Width) -> Result<Ch
     requires kinds { HasKinds grammar }
     ensures exact { Gives OutOfMemory (λ c. c) result (checked_as grammar width) }
 {
-    let (tables, told) = conditions(alloc, &grammar)?;
+    let (tables, rules) = conditions(alloc, &grammar)?;
     let attrs = attr_infos(alloc, &grammar)?;
     let root = interface_number(&grammar, &tables.names, &grammar.root);
-    Ok(Checked::new(grammar, width, tables, attrs, told, root))
+    Ok(Checked::new(grammar, width, tables, attrs, rules, root))
 }
 
 /// Looks at all conditions in order.
-fn conditions(alloc: Global, grammar: &Grammar) -> Result<(Tables, Told), GrammarFault>
+fn conditions(alloc: Global, grammar: &Grammar) -> Result<(Tables, CheckedRules), GrammarFault>
     requires small { HasSmallCounts grammar.now }
     ensures finds { FindsInfos (first_fault grammar.now) result }
     ensures tables { IfOk result (λ r. r.0 ≡ tables_of grammar.now) }
@@ -45,6 +45,6 @@ fn conditions(alloc: Global, grammar: &Grammar) -> Result<(Tables, Told), Gramma
     let flat = limits_hold(alloc, grammar)?;
     let tables = build_tables(alloc, grammar)?;
     names_stand(alloc, grammar, &tables)?;
-    let told = all_told(alloc, grammar, &tables, flat.as_slice())?;
-    Ok((tables, told))
+    let rules = checked_rules(alloc, grammar, &tables, flat.as_slice())?;
+    Ok((tables, rules))
 }

@@ -5,12 +5,12 @@ ghost use Rattle.ftl_meaning.specs.faults.Allowed.{leaf_of};
 ghost use Rattle.ftl_meaning.specs.faults.Checked.{all_attributes, all_rules, attribute_at};
 ghost use Rattle.ftl_meaning.specs.faults.Checked.{attribute_info, attribute_named};
 ghost use Rattle.ftl_meaning.specs.faults.Checked.{child_info, class_named, field_named};
-ghost use Rattle.ftl_meaning.specs.faults.Checked.{owner_name_of, rule_told};
+ghost use Rattle.ftl_meaning.specs.faults.Checked.{owner_name_of, rule_info_at};
 ghost use Rattle.ftl_meaning.specs.faults.Counts.{HasSmallCounts};
 ghost use Rattle.ftl_meaning.specs.faults.FirstFault.{first_fault};
 ghost use Rattle.ftl_meaning.specs.faults.Kinds.{HasKinds};
 ghost use Rattle.ftl_checked.specs.grammars.Positions.{IsWithin, position_of};
-ghost use Rattle.ftl_checked.specs.grammars.ReadNumbers.{leaf_in, leaves_in, leaves_told};
+ghost use Rattle.ftl_checked.specs.grammars.ReadNumbers.{leaf_in, leaves_in, rule_leaves_at};
 ghost use Rattle.ftl_checked.specs.grammars.Kept.{IsKept};
 ghost use Rattle.ftl_meaning.specs.faults.Numbering.{class_at, child_at, interface_number};
 ghost use Rattle.ftl_meaning.specs.faults.Numbering.{interface_of};
@@ -19,15 +19,14 @@ ghost use Rattle.ftl_checked.specs.lookup.Tables.{tables_of};
 
 use crate::grammars::numbered_read::{NumberedRead, PartReads, number_of};
 use crate::grammars::reading::At;
-use crate::grammars::rules::Told;
+use crate::grammars::rules::CheckedRules;
 use crate::lookup::{
     Tables, attr_name, attribute_in, child_of, class_table, field_in, owner_name, rule_name,
 };
 use ftl_base::Width;
-use ftl_grammar::syntax::Grammar;
-use ftl_meaning::faults::{AttrInfo, ChildInfo, Field, RuleInfo, RuleName};
-use ftl_meaning::postfix_code::ReadRef;
-use ftl_tokens::scanner::Name;
+use ftl_grammar::Grammar;
+use ftl_meaning::{AttrInfo, ChildInfo, Field, ReadRef, RuleInfo, RuleName};
+use ftl_tokens::Name;
 use sqlite_items::Items;
 use std::alloc::{AllocError, Global};
 use std::marker::Model;
@@ -65,10 +64,10 @@ impl Checked {
         width: Width,
         tables: Tables,
         attrs: Items<AttrInfo>,
-        told: Told,
+        rules: CheckedRules,
         root: u32,
     ) -> Checked
-        requires kept { IsKept grammar tables attrs told.infos told.reads root }
+        requires kept { IsKept grammar tables attrs rules.infos rules.reads root }
         ensures grammar { result.grammar ≡ grammar }
         ensures width { result.width ≡ width }
     {
@@ -77,8 +76,8 @@ impl Checked {
             width,
             tables,
             attrs,
-            rules: told.infos,
-            reads: told.reads,
+            rules: rules.infos,
+            reads: rules.reads,
             root,
         }
     }
@@ -195,7 +194,7 @@ impl Checked {
 
     pub fn rule(&self, rule: u32) -> RuleInfo
         requires within { rule < length (all_rules self.now.grammar) }
-        ensures info { result ≡ rule_told self.now.grammar rule }
+        ensures info { result ≡ rule_info_at self.now.grammar rule }
     {
         self.rules.as_slice()[rule as usize]
     }
@@ -203,7 +202,7 @@ impl Checked {
     /// What a rule reads, part by part in the order of the text.
     pub fn rule_reads(&self, rule: u32) -> &[PartReads]
         requires within { rule < length (all_rules self.now.grammar) }
-        ensures reads { map leaves_in result.now ≡ leaves_told self.now.grammar rule }
+        ensures reads { map leaves_in result.now ≡ rule_leaves_at self.now.grammar rule }
     {
         self.reads.as_slice()[rule as usize].as_slice()
     }

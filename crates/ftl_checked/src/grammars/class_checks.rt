@@ -5,28 +5,28 @@ ghost use Rattle.ftl_meaning.specs.faults.Checked.{all_rules, rule_info};
 ghost use Rattle.ftl_meaning.specs.faults.Counts.{HasSmallCounts};
 ghost use Rattle.ftl_meaning.specs.faults.Finds.{Finds, FindsInfos};
 ghost use Rattle.ftl_meaning.specs.faults.FirstFault.{class_fault, first_of};
-ghost use Rattle.ftl_checked.specs.grammars.Needs.{infos_of, reads_of_class};
+ghost use Rattle.ftl_checked.specs.grammars.MissingRules.{infos_of, reads_of_class};
 ghost use Rattle.ftl_checked.specs.grammars.ReadNumbers.{leaves_in, rule_leaves};
 ghost use Rattle.ftl_meaning.specs.faults.Numbering.{class_at, numbered};
 ghost use Rattle.ftl_checked.specs.lookup.Tables.{tables_of};
 
 use crate::declarations::FlatRule;
-use crate::grammars::needs::missing;
-use crate::grammars::rules::{Told, class_rules};
+use crate::grammars::missing_rules::missing;
+use crate::grammars::rules::{CheckedRules, class_rules};
 use crate::lookup::Tables;
-use ftl_grammar::syntax::Grammar;
-use ftl_meaning::faults::GrammarFault;
+use ftl_grammar::Grammar;
+use ftl_meaning::GrammarFault;
 use sqlite_items::Items;
 use std::alloc::Global;
 
-/// Looks at all classes in order, and tells of all rules.
-#[tactic(auto, using(crate::proofs::grammars::RuleInfos::infos_are, crate::proofs::grammars::RuleInfos::reads_are))]
-pub(crate) fn all_told(
+/// Looks at all classes in order, and says what is known of all rules.
+#[tactic(auto, using(crate::proofs::grammars::RuleInfos::all_steps))]
+pub(crate) fn checked_rules(
     alloc: Global,
     grammar: &Grammar,
     tables: &Tables,
     flat: &[Items<FlatRule<'_>>],
-) -> Result<Told, GrammarFault>
+) -> Result<CheckedRules, GrammarFault>
     requires small { HasSmallCounts grammar.now }
     requires tables { tables.now ≡ tables_of grammar.now }
     requires flat { rules_in flat.now ≡ rules_of_each grammar.now.classes }
@@ -37,12 +37,12 @@ pub(crate) fn all_told(
     ensures reads { IfOk result (λ t. map (map leaves_in) t.reads
         ≡ map (rule_leaves grammar.now) (all_rules grammar.now)) }
 {
-    let mut told = Told {
+    let mut so_far = CheckedRules {
         infos: Items::new(alloc),
         reads: Items::new(alloc),
     };
-    all_classes(alloc, grammar, tables, flat, &mut told)?;
-    Ok(told)
+    all_classes(alloc, grammar, tables, flat, &mut so_far)?;
+    Ok(so_far)
 }
 
 #[tactic(auto, using(crate::proofs::grammars::RuleInfos::class_steps))]
@@ -51,22 +51,22 @@ fn all_classes(
     grammar: &Grammar,
     tables: &Tables,
     flat: &[Items<FlatRule<'_>>],
-    told: &mut Told,
+    so_far: &mut CheckedRules,
 ) -> Result<(), GrammarFault>
     requires small { HasSmallCounts grammar.now }
     requires tables { tables.now ≡ tables_of grammar.now }
     requires flat { rules_in flat.now ≡ rules_of_each grammar.now.classes }
     ensures finds { Finds (first_of (λ k. class_fault grammar.now k.0)
         (numbered 0 grammar.now.classes)) result }
-    ensures infos { OnOk result (told.new.infos ≡ told.old.infos
+    ensures infos { OnOk result (so_far.new.infos ≡ so_far.old.infos
         ++ flat_map (infos_of grammar.now) (numbered 0 grammar.now.classes)) }
-    ensures reads { OnOk result (map (map leaves_in) told.new.reads
-        ≡ map (map leaves_in) told.old.reads
+    ensures reads { OnOk result (map (map leaves_in) so_far.new.reads
+        ≡ map (map leaves_in) so_far.old.reads
         ++ flat_map (reads_of_class grammar.now) (numbered 0 grammar.now.classes)) }
 {
     for number in 0..grammar.classes.len() as u32 {
         let rules = flat[number as usize].as_slice();
-        one_class(alloc, grammar, tables, number, rules, told)?;
+        one_class(alloc, grammar, tables, number, rules, so_far)?;
     }
     Ok(())
 }
@@ -78,19 +78,19 @@ fn one_class(
     tables: &Tables,
     number: u32,
     rules: &[FlatRule<'_>],
-    told: &mut Told,
+    so_far: &mut CheckedRules,
 ) -> Result<(), GrammarFault>
     requires small { HasSmallCounts grammar.now }
     requires tables { tables.now ≡ tables_of grammar.now }
     requires within { number < length grammar.now.classes }
     requires rules { map rule_in rules.now ≡ (class_at grammar.now number).rules }
     ensures finds { Finds (class_fault grammar.now number) result }
-    ensures infos { OnOk result (told.new.infos ≡ told.old.infos
+    ensures infos { OnOk result (so_far.new.infos ≡ so_far.old.infos
         ++ infos_of grammar.now (number, class_at grammar.now number)) }
-    ensures reads { OnOk result (map (map leaves_in) told.new.reads
-        ≡ map (map leaves_in) told.old.reads
+    ensures reads { OnOk result (map (map leaves_in) so_far.new.reads
+        ≡ map (map leaves_in) so_far.old.reads
         ++ reads_of_class grammar.now (number, class_at grammar.now number)) }
 {
-    let ruled = class_rules(alloc, grammar, tables, number, rules, told)?;
+    let ruled = class_rules(alloc, grammar, tables, number, rules, so_far)?;
     missing(grammar, tables, number, &ruled)
 }

@@ -18,7 +18,7 @@ use crate::declarations::{FlatBody, FlatExpr};
 use crate::grammars::reading::At;
 use crate::grammars::slots::RuleSlot;
 use crate::lookup::{Tables, child, child_of, class, class_attr, inherits, shared_attr};
-use ftl_grammar::syntax::{AttrKind, Grammar, Target};
+use ftl_grammar::{AttrKind, Grammar, Target};
 
 /// An expression of a rule, with its position.
 #[derive(Drop)]

@@ -7,7 +7,7 @@ mod check;
 mod checked;
 mod class_checks;
 mod forms;
-mod needs;
+mod missing_rules;
 mod numbered_read;
 mod reading;
 mod rules;
@@ -15,7 +15,8 @@ mod slots;
 
 pub use check::check_grammar;
 pub use checked::Checked;
-pub use ftl_meaning::faults::{AttrInfo, ChildInfo, Field, GrammarFault, RuleInfo, RuleName, What};
-pub use ftl_meaning::formulas::ReadName;
+pub use ftl_meaning::{
+    AttrInfo, ChildInfo, Field, GrammarFault, ReadName, RuleInfo, RuleName, What,
+};
 pub use numbered_read::{NumberedRead, PartReads};
 pub use reading::At;

@@ -13,8 +13,8 @@ ghost use Rattle.ftl_checked.specs.lookup.Tables.{tables_of};
 
 use crate::grammars::reading::{At, reads_acc, reads_last};
 use crate::lookup::{Tables, child, child_of, class_attr, shared_attr};
-use ftl_grammar::syntax::Grammar;
-use ftl_meaning::postfix_code::{ReadKind, ReadRef};
+use ftl_grammar::Grammar;
+use ftl_meaning::{ReadKind, ReadRef};
 use sqlite_items::Items;
 
 /// What a name in a rule stands for: the child, if there is one, and the attribute.

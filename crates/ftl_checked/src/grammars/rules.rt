@@ -26,27 +26,26 @@ use crate::grammars::forms::{Part, RuleForm, form, slot};
 use crate::grammars::numbered_read::{NumberedRead, PartReads, number_of};
 use crate::grammars::slots::{RuleSlot, Ruled};
 use crate::lookup::{Tables, name_of};
-use ftl_grammar::syntax::{Grammar, Target};
-use ftl_meaning::faults::{GrammarFault, RuleInfo};
-use ftl_meaning::postfix_code::ReadRef;
+use ftl_grammar::{Grammar, Target};
+use ftl_meaning::{GrammarFault, ReadRef, RuleInfo};
 use sqlite_items::Items;
 use std::alloc::Global;
 
-/// What is told of rules, and what they read, in the order of their numbers.
+/// What is known of rules, and what they read, in the order of their numbers.
 #[derive(Drop)]
-pub struct Told {
+pub struct CheckedRules {
     pub infos: Items<RuleInfo>,
     pub reads: Items<Items<PartReads>>,
 }
 
-/// Looks at the rules of a class, and adds to `told` what is told of each and what it reads.
+/// Looks at the rules of a class, and adds to `so_far` what is known of each and what it reads.
 pub(crate) fn class_rules(
     alloc: Global,
     grammar: &Grammar,
     tables: &Tables,
     number: u32,
     rules: &[FlatRule<'_>],
-    told: &mut Told,
+    so_far: &mut CheckedRules,
 ) -> Result<Ruled, GrammarFault>
     requires small { HasSmallCounts grammar.now }
     requires tables { tables.now ≡ tables_of grammar.now }
@@ -56,19 +55,19 @@ pub(crate) fn class_rules(
         (class_at grammar.now number).rules)) result }
     ensures slots { IfOk result (λ r. r
         ≡ slots_of grammar.now number (class_at grammar.now number).rules) }
-    ensures infos { IfOk result (λ r. told.new.infos ≡ told.old.infos
+    ensures infos { IfOk result (λ r. so_far.new.infos ≡ so_far.old.infos
         ++ map (λ r. info_by number (slot_of grammar.now number r.target))
         (class_at grammar.now number).rules) }
-    ensures reads { IfOk result (λ r. map (map leaves_in) told.new.reads
-        ≡ map (map leaves_in) told.old.reads
+    ensures reads { IfOk result (λ r. map (map leaves_in) so_far.new.reads
+        ≡ map (map leaves_in) so_far.old.reads
         ++ map (λ r. rule_leaves grammar.now (number, r)) (class_at grammar.now number).rules) }
 {
     let mut ruled = Ruled::new(alloc);
     for rule in rules {
         let (slot, reads) = one_rule(alloc, grammar, tables, number, rule, &ruled)?;
         ruled.add(slot)?;
-        told.infos.push(info_of(number, slot))?;
-        told.reads.push(reads)?;
+        so_far.infos.push(info_of(number, slot))?;
+        so_far.reads.push(reads)?;
     }
     Ok(ruled)
 }

@@ -4,7 +4,7 @@ ghost use Rattle.std.specs.Option.{option_map_or};
 ghost use Rattle.ftl_meaning.specs.faults.Numbering.{is_among};
 
 use crate::names::NameTable;
-use ftl_tokens::scanner::Name;
+use ftl_tokens::Name;
 use sqlite_items::Items;
 use std::alloc::{AllocError, Global};
 

@@ -1,15 +1,15 @@
-//! What is told of attributes, in the order of their numbers.
+//! What is known of attributes, in the order of their numbers.
 ghost use Rattle.std.specs.Prelude.{◌≡◌, ◌++◌, ◌<◌, length, map, flat_map, IfOk, OnOk};
 ghost use Rattle.ftl_meaning.specs.faults.Checked.{all_attributes, attribute_info};
 ghost use Rattle.ftl_meaning.specs.faults.Counts.{HasSmallCounts};
 ghost use Rattle.ftl_meaning.specs.faults.Numbering.{class_at, interface_at, numbered};
-ghost use Rattle.ftl_checked.specs.lookup.Told.{own_told, shared_told};
+ghost use Rattle.ftl_checked.specs.lookup.OwnerInfos.{own_infos, shared_infos};
 
 use crate::lookup::among::{copies, is_in};
 use crate::lookup::find::{class, interface};
 use crate::names::NameTable;
-use ftl_grammar::syntax::Grammar;
-use ftl_meaning::faults::AttrInfo;
+use ftl_grammar::Grammar;
+use ftl_meaning::AttrInfo;
 use sqlite_items::Items;
 use std::alloc::{AllocError, Global};
 
@@ -33,7 +33,7 @@ fn all_shared(
 ) -> Result<(), AllocError>
     requires small { HasSmallCounts grammar.now }
     ensures infos { OnOk result (infos.new ≡ infos.old
-        ++ flat_map (shared_told grammar.now) (numbered 0 grammar.now.interfaces)) }
+        ++ flat_map (shared_infos grammar.now) (numbered 0 grammar.now.interfaces)) }
 {
     for number in 0..grammar.interfaces.len() as u32 {
         one_shared(alloc, grammar, number, infos)?;
@@ -41,7 +41,7 @@ fn all_shared(
     Ok(())
 }
 
-#[tactic(auto, unfolding(crate::specs::lookup::Told::shared_told))]
+#[tactic(auto, unfolding(crate::specs::lookup::OwnerInfos::shared_infos))]
 fn one_shared(
     alloc: Global,
     grammar: &Grammar,
@@ -51,7 +51,7 @@ fn one_shared(
     requires small { HasSmallCounts grammar.now }
     requires within { number < length grammar.now.interfaces }
     ensures infos { OnOk result (infos.new ≡ infos.old
-        ++ shared_told grammar.now (number, interface_at grammar.now number)) }
+        ++ shared_infos grammar.now (number, interface_at grammar.now number)) }
 {
     let found = interface(grammar, number);
     let shown = NameTable::new(alloc, copies(alloc, found.shown.as_slice())?)?;
@@ -70,7 +70,7 @@ fn one_shared(
 fn all_own(grammar: &Grammar, infos: &mut Items<AttrInfo>) -> Result<(), AllocError>
     requires small { HasSmallCounts grammar.now }
     ensures infos { OnOk result (infos.new ≡ infos.old
-        ++ flat_map (own_told grammar.now) (numbered 0 grammar.now.classes)) }
+        ++ flat_map (own_infos grammar.now) (numbered 0 grammar.now.classes)) }
 {
     for number in 0..grammar.classes.len() as u32 {
         one_own(grammar, number, infos)?;
@@ -78,11 +78,11 @@ fn all_own(grammar: &Grammar, infos: &mut Items<AttrInfo>) -> Result<(), AllocEr
     Ok(())
 }
 
-#[tactic(auto, unfolding(crate::specs::lookup::Told::own_told))]
+#[tactic(auto, unfolding(crate::specs::lookup::OwnerInfos::own_infos))]
 fn one_own(grammar: &Grammar, number: u32, infos: &mut Items<AttrInfo>) -> Result<(), AllocError>
     requires within { number < length grammar.now.classes }
     ensures infos { OnOk result (infos.new ≡ infos.old
-        ++ own_told grammar.now (number, class_at grammar.now number)) }
+        ++ own_infos grammar.now (number, class_at grammar.now number)) }
 {
     for attr in class(grammar, number).attrs.as_slice() {
         infos.push(AttrInfo {

@@ -6,8 +6,8 @@ ghost use Rattle.ftl_checked.specs.lookup.Tables.{tables_of};
 
 use crate::lookup::find::{child, class_attr};
 use crate::lookup::tables::Tables;
-use ftl_grammar::syntax::{AttrKind, Grammar};
-use ftl_meaning::faults::Field;
+use ftl_grammar::{AttrKind, Grammar};
+use ftl_meaning::Field;
 
 /// The input or child of this name.
 pub fn field_in(grammar: &Grammar, tables: &Tables, class: u32, name: &str) -> Option<Field>

@@ -12,8 +12,8 @@ ghost use Rattle.ftl_checked.specs.lookup.Tables.{interface_entry, class_entry, 
 
 use crate::lookup::tables::{ClassTable, InterfaceTable, Tables};
 use crate::names::NameTable;
-use ftl_grammar::syntax::{AttrDecl, AttrKind, Class, Grammar, Interface};
-use ftl_meaning::faults::ChildInfo;
+use ftl_grammar::{AttrDecl, AttrKind, Class, Grammar, Interface};
+use ftl_meaning::ChildInfo;
 
 /// An attribute that was found by name.
 #[derive(Clone, Copy)]
@@ -142,7 +142,7 @@ pub fn child(grammar: &Grammar, tables: &Tables, number: u32, name: &str) -> Opt
     }
 }
 
-/// What is told of a child.
+/// What is known of a child.
 pub fn child_of(grammar: &Grammar, tables: &Tables, number: u32, child: u32) -> ChildInfo
     requires tables { tables.now ≡ tables_of grammar.now }
     requires within { number < length grammar.now.classes }

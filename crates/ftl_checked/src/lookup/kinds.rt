@@ -2,7 +2,7 @@
 ghost use Rattle.std.specs.Prelude.{◌≡◌};
 ghost use Rattle.ftl_meaning.specs.faults.RuleForms.{is_inherited};
 
-use ftl_grammar::syntax::AttrKind;
+use ftl_grammar::AttrKind;
 
 pub fn inherits(kind: AttrKind) -> bool
     ensures inherited { result ≡ is_inherited kind }

@@ -1,5 +1,5 @@
 //! Look-ups in a grammar, by name and by number. Goes in: a grammar as it is written. Comes out:
-//! tables beside it, in which a name is found without a scan of the declarations, and what is told
+//! tables beside it, in which a name is found without a scan of the declarations, and what is known
 //! of attributes, children and rules. `specs/lookup/Tables.antt` says what the tables of a grammar
 //! are.
 

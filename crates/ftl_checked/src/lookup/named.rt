@@ -1,7 +1,7 @@
 //! The names of attributes and rules, by number.
 ghost use Rattle.std.specs.Prelude.{◌≡◌, ◌<◌, ◌≤◌, true, false, length, flat_map, take, IfOk};
 ghost use Rattle.ftl_meaning.specs.faults.Checked.{all_attributes, all_rules, attribute_at};
-ghost use Rattle.ftl_meaning.specs.faults.Checked.{attribute_info, owner_name_of, rule_told};
+ghost use Rattle.ftl_meaning.specs.faults.Checked.{attribute_info, owner_name_of, rule_info_at};
 ghost use Rattle.ftl_meaning.specs.faults.Counts.{IsSmall};
 ghost use Rattle.ftl_meaning.specs.faults.FirstFault.{rule_name};
 ghost use Rattle.ftl_meaning.specs.faults.Numbering.{class_at};
@@ -10,12 +10,12 @@ ghost use Rattle.ftl_checked.specs.lookup.Tables.{tables_of};
 
 use crate::lookup::find::{class, class_table, interface, interface_table};
 use crate::lookup::tables::Tables;
-use ftl_grammar::syntax::{Class, Grammar, Target};
-use ftl_meaning::faults::{AttrInfo, RuleName};
-use ftl_tokens::scanner::Name;
+use ftl_grammar::{Class, Grammar, Target};
+use ftl_meaning::{AttrInfo, RuleName};
+use ftl_tokens::Name;
 use std::alloc::{AllocError, Global};
 
-/// The name of an attribute of which this is told.
+/// The name of an attribute of which this is known.
 pub fn attr_name<'a>(grammar: &'a Grammar, tables: &Tables, info: AttrInfo, attr: u32) -> &'a Name
     requires tables { tables.now ≡ tables_of grammar.now }
     requires within { attr < length (all_attributes grammar.now) }
@@ -55,7 +55,7 @@ fn own_name<'a>(grammar: &'a Grammar, tables: &Tables, owner: u32, attr: u32) ->
     &attrs[(attr - start) as usize].name
 }
 
-/// The name of the interface or class that declares an attribute of which this is told.
+/// The name of the interface or class that declares an attribute of which this is known.
 pub fn owner_name(grammar: &Grammar, info: AttrInfo, attr: u32) -> &Name
     requires within { attr < length (all_attributes grammar.now) }
     requires info { info ≡ attribute_info grammar.now (attribute_at grammar.now attr) }
@@ -76,7 +76,7 @@ pub fn rule_name(
     rule: u32,
 ) -> Result<RuleName, AllocError>
     requires within { rule < length (all_rules grammar.now) }
-    requires class { number ≡ (rule_told grammar.now rule).class }
+    requires class { number ≡ (rule_info_at grammar.now rule).class }
     requires small { IsSmall (length (flat_map (λ k. k.rules) grammar.now.classes)) }
     ensures name { IfOk result (λ r. r ≡ rule_name_at grammar.now rule) }
 {

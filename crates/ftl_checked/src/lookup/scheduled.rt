@@ -8,7 +8,7 @@ ghost use Rattle.ftl_checked.specs.lookup.Tables.{tables_of};
 
 use crate::lookup::find::{own_attr, shared_attr};
 use crate::lookup::tables::{Tables, interface_named};
-use ftl_grammar::syntax::{AttrKind, Grammar};
+use ftl_grammar::{AttrKind, Grammar};
 
 /// The computed attribute of this name that the interface or class of this name declares.
 pub fn attribute_in(grammar: &Grammar, tables: &Tables, owner: &str, attr: &str) -> Option<u32>

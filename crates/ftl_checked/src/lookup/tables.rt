@@ -12,9 +12,9 @@ ghost use Rattle.ftl_checked.specs.lookup.Tables.{interface_entry, interface_tab
 ghost use Rattle.ftl_checked.specs.lookup.Tables.{class_table, tables_of};
 
 use crate::names::NameTable;
-use ftl_grammar::syntax::{AttrDecl, Child, Class, Grammar, Interface};
-use ftl_meaning::faults::ChildInfo;
-use ftl_tokens::scanner::Name;
+use ftl_grammar::{AttrDecl, Child, Class, Grammar, Interface};
+use ftl_meaning::ChildInfo;
+use ftl_tokens::Name;
 use sqlite_items::Items;
 use std::alloc::{AllocError, Global};
 

@@ -3,7 +3,7 @@ ghost use Rattle.std.specs.List.{position};
 ghost use Rattle.ftl_checked.specs.names.Table.{FindsAll};
 ghost use Rattle.std.specs.Str.{bytes_eq};
 
-use ftl_tokens::scanner::Name;
+use ftl_tokens::Name;
 use sqlite_items::Items;
 use std::alloc::{AllocError, Global};
 use std::collections::HashMap;

@@ -15,13 +15,13 @@ use Rattle.ftl_order.specs.orders.Lawful.{IsLawful, class_of_rule}
 use Rattle.ftl_order.proofs.orders.Kids.{class_known, kid_counted, root_there}
 use Rattle.ftl_order.specs.steps.Steps.{IsKidFor, IsStepOf, rule_at}
 use Rattle.ftl_order.specs.declared.steps.step.Step.{Step}
-use Rattle.ftl_visit.specs.visits.Visits.{inherited_rule, inherited_rules, local_rule, locals, rule_in, rules_by_key, rules_for, synthesized_rule, synthesized_rules}
+use Rattle.ftl_visit.specs.visits.Visits.{inherited_rule, inherited_rules, local_rule, locals, rule_in, rules_by_key, operations_for, synthesized_rule, synthesized_rules}
 use Rattle.ftl_visit.specs.declared.visits.visit_op.VisitOp.{VisitOp}
 use Rattle.ftl_visit.specs.declared.visits.visit_op.VisitOp.TheVariants.{Rule}
 use Rattle.ftl_cursors.specs.visit_steps.VisitLaws.{rules_run}
 use Rattle.ftl_cursors.proofs.visit_steps.Runs.{ops_are_rules}
 use Rattle.ftl_cursors.specs.inorder.InorderSteps.{inorder_steps, step_of, steps_below, steps_of_ops}
-use Rattle.ftl_cursors.specs.inorder.ListedRules.{is_kept}
+use Rattle.ftl_cursors.proofs.inorder.ListedRules.{is_kept}
 use Rattle.ftl_cursors.proofs.inorder.RunRules.{run, runs_inherited, runs_locals, runs_synthesized}
 
 -- what holds of the entries of two lists holds of the entries of both
@@ -61,29 +61,29 @@ module _ (g : AttributeGrammar) (law : IsLawful g) where
 
     -- the operations for single attributes are among those by key
     among_key : (piece : Sort → ℕ → List VisitOp)
-        → ((so : Sort) (a : ℕ) (op : VisitOp) → Contains (piece so a) op → Contains (rules_for g class so a) op)
+        → ((so : Sort) (a : ℕ) (op : VisitOp) → Contains (piece so a) op → Contains (operations_for g class so a) op)
         → (op : VisitOp) → Contains (flat_map (λ a. piece (g.sort a) a) attributes) op
         → Contains (rules_by_key g class attributes) op
     among_key piece inside op there =
         let i = in_flat_map (λ a. piece (g.sort a) a) attributes op there in
-        flat_map_has (λ a. rules_for g class (g.sort a) a) attributes i.0 op i.1 (inside (g.sort i.0) i.0 op i.2)
+        flat_map_has (λ a. operations_for g class (g.sort a) a) attributes i.0 op i.1 (inside (g.sort i.0) i.0 op i.2)
 
     local_inside : (so : Sort) (a : ℕ) (op : VisitOp) → Contains (local_rule g class so a) op
-        → Contains (rules_for g class so a) op
+        → Contains (operations_for g class so a) op
     local_inside input a op h = h
     local_inside inherited a op h = absurd (nothing_in op h)
     local_inside synthesized a op h = absurd (nothing_in op h)
     local_inside local a op h = h
 
     synthesized_inside : (so : Sort) (a : ℕ) (op : VisitOp) → Contains (synthesized_rule g class so a) op
-        → Contains (rules_for g class so a) op
+        → Contains (operations_for g class so a) op
     synthesized_inside input a op h = h
     synthesized_inside inherited a op h = absurd (nothing_in op h)
     synthesized_inside synthesized a op h = h
     synthesized_inside local a op h = absurd (nothing_in op h)
 
     inherited_inside : (c : ℕ) → c < g.child_count class → (so : Sort) (a : ℕ) (op : VisitOp)
-        → Contains (inherited_rule g class c so a) op → Contains (rules_for g class so a) op
+        → Contains (inherited_rule g class c so a) op → Contains (operations_for g class so a) op
     inherited_inside c declared input a op h = h
     inherited_inside c declared synthesized a op h = absurd (nothing_in op h)
     inherited_inside c declared local a op h = absurd (nothing_in op h)

@@ -11,10 +11,10 @@ use Rattle.ftl_model.proofs.layout.Numbering.{Left, at-left, left_all, left_belo
 use Rattle.ftl_model.proofs.layout.Standing.{node_at-number_of}
 use Rattle.ftl_order.specs.orders.Lawful.{IsLawful}
 use Rattle.ftl_order.specs.orders.Ordered.{IsOrdered}
-use Rattle.ftl_order.specs.orders.Schedule.{Placing, Schedule, Spot, pass_at, spot_of}
+use Rattle.ftl_order.specs.orders.Schedule.{Placing, Schedule, SchedulePlace, pass_at, placing_of}
 use Rattle.ftl_order.specs.orders.Sequence.{sequence, sequence_at, sequence_below, steps_at}
 use Rattle.ftl_order.proofs.orders.Kids.{kid_counted, root_there}
-use Rattle.ftl_items.specs.stage_items.Items.{spot_at}
+use Rattle.ftl_items.specs.stage_items.Items.{pass_place}
 use Rattle.ftl_order.specs.steps.Steps.{rule_at, target_of, target_of_rule}
 use Rattle.ftl_order.specs.declared.steps.step.Step.{Step}
 use Rattle.ftl_visit.specs.visits.Visits.{inherited_rules, locals, synthesized_rules}
@@ -40,10 +40,10 @@ module _ (g : AttributeGrammar) (law : IsLawful g) (s : Schedule) (ordered : IsO
   attributes = (pass_at s stage pass).attributes
 
   abbrev place : Placing
-  place = spot_of s
+  place = placing_of s
 
-  abbrev here : Spot
-  here = spot_at stage pass
+  abbrev here : SchedulePlace
+  here = pass_place stage pass
 
   abbrev instances_of : List Step → List Instance
   instances_of xs = map (target_of g t) xs

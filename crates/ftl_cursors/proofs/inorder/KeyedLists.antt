@@ -11,15 +11,16 @@ use Rattle.ftl_model.proofs.lists.Sorted.{distinct-sorted, none_falls-sorted}
 use Rattle.ftl_model.specs.layout.AttributeGrammar.{AttributeGrammar, Sort, attributes_of, inherited, input, local, synthesized}
 use Rattle.ftl_order.specs.orders.Lawful.{IsLawful, OfClass, class_owner, interface_owner}
 use Rattle.ftl_order.specs.orders.Ordered.{IsOrdered}
-use Rattle.ftl_order.specs.orders.Schedule.{IsOnePass, Placing, Schedule, Spot, entries, pass_at, spot_of, stage_of}
+use Rattle.ftl_order.specs.orders.Schedule.{IsOnePass, Placing, Schedule, SchedulePlace, entries, pass_at, placing_of}
+use Rattle.ftl_order.specs.orders.Schedule.{stage_of}
 use Rattle.ftl_order.specs.orders.Sequence.{is_in_pass, is_same_sort, keyed}
 use Rattle.ftl_order.proofs.orders.Owners.{attribute_known, class_distinct}
 use Rattle.ftl_order.proofs.orders.SequenceAddresses.{is_keyed, same_sort}
 use Rattle.ftl_order.proofs.orders.SequenceHas.{keyed_has}
-use Rattle.ftl_items.specs.stage_items.Items.{spot_at}
+use Rattle.ftl_items.specs.stage_items.Items.{pass_place}
 use Rattle.ftl_items.proofs.stage_items.Passes.{listed_at, many, stage_here}
 use Rattle.ftl_items.proofs.stage_items.Pieces.{counted_here, counted_more, in_counted}
-use Rattle.ftl_cursors.specs.inorder.ListedRules.{is_kept}
+use Rattle.ftl_cursors.proofs.inorder.ListedRules.{is_kept}
 
 -- two tests that follow of each other are one
 pub one_test : (p q : Bool) → (p ≡ true → q ≡ true) → (q ≡ true → p ≡ true) → p ≡ q
@@ -126,10 +127,10 @@ module _ (g : AttributeGrammar) (law : IsLawful g) (s : Schedule) (ordered : IsO
   attributes = (pass_at s m n).attributes
 
   abbrev place : Placing
-  place = spot_of s
+  place = placing_of s
 
-  abbrev here : Spot
-  here = spot_at m n
+  abbrev here : SchedulePlace
+  here = pass_place m n
 
   module _ (sort : Sort) (computed : sort ≢ input) (class : ℕ) (known : class < g.class_count) where
     once : (a : ℕ) → g.sort a ≡ sort → OfClass g class a → many a (entries s) ≡ 1

@@ -14,12 +14,12 @@ use Rattle.ftl_order.specs.orders.Sequence.{is_same_sort}
 use Rattle.ftl_order.specs.dependencies.Writers.{is_of_class}
 use Rattle.ftl_order.proofs.dependencies.Places.{none_passes}
 use Rattle.ftl_items.specs.stage_items.Visits as items
-use Rattle.ftl_visit.specs.visits.Visits.{inherited_rule, inherited_rules, local_rule, locals, rule_in, rule_number, rules_for, synthesized_rule, synthesized_rules}
+use Rattle.ftl_visit.specs.visits.Visits.{inherited_rule, inherited_rules, local_rule, locals, rule_in, rule_number, operations_for, synthesized_rule, synthesized_rules}
 use Rattle.ftl_visit.specs.declared.visits.visit_op.VisitOp.{VisitOp}
 use Rattle.ftl_visit.specs.declared.visits.visit_op.VisitOp.TheVariants.{Rule}
 use Rattle.ftl_cursors.specs.visit_steps.VisitLaws.{rules_run}
 use Rattle.ftl_cursors.proofs.visit_steps.Runs.{runs_by_key}
-use Rattle.ftl_cursors.specs.inorder.ListedRules.{is_kept}
+use Rattle.ftl_cursors.proofs.inorder.ListedRules.{is_kept}
 
 -- the rule of each attribute of a kind, where it is among some
 abbrev pub rule_for : (kept : Bool) → RuleName → List RuleName
@@ -52,10 +52,10 @@ module _ (g : AttributeGrammar) where
     as_rule_for false w = refl
 
     -- those of one attribute are those that a topdown visit of it alone runs
-    alone : (a : ℕ) (so : Sort) → g.sort a ≡ so → run (rules_for g class so a) ≡ items.rules_for g class so a
+    alone : (a : ℕ) (so : Sort) → g.sort a ≡ so → run (operations_for g class so a) ≡ items.rules_for g class so a
     alone a so is =
-        ap (λ w. run (rules_for g class w a)) (sym is)
-        ∙ ap run (sym (append-nil (rules_for g class (g.sort a) a)))
+        ap (λ w. run (operations_for g class w a)) (sym is)
+        ∙ ap run (sym (append-nil (operations_for g class (g.sort a) a)))
         ∙ runs_by_key g law class known (a ∷ [])
         ∙ append-nil (items.rules_for g class (g.sort a) a)
         ∙ ap (λ w. items.rules_for g class w a) is

@@ -13,18 +13,19 @@ use Rattle.ftl_model.specs.layout.TreeOf.{IsTreeOf}
 use Rattle.ftl_model.proofs.layout.Fits.{kid_stands}
 use Rattle.ftl_order.specs.orders.Lawful.{IsLawful}
 use Rattle.ftl_order.specs.orders.Ordered.{IsOrdered}
-use Rattle.ftl_order.specs.orders.Schedule.{Placing, Schedule, Spot, pass_at, spot_of}
+use Rattle.ftl_order.specs.orders.Schedule.{Placing, Schedule, SchedulePlace, pass_at, placing_of}
 use Rattle.ftl_order.specs.orders.Sequence.{is_same_sort, sequence_at, steps_at}
 use Rattle.ftl_order.proofs.orders.Kids.{class_known, kid_exists}
-use Rattle.ftl_items.specs.stage_items.Items.{spot_at}
+use Rattle.ftl_items.specs.stage_items.Items.{pass_place}
 use Rattle.ftl_order.specs.steps.Steps.{target_of_rule}
 use Rattle.ftl_visit.specs.visits.Visits.{children, inherited_rules, locals, synthesized_rules}
 use Rattle.ftl_cursors.specs.inorder.InorderVisits.{block_at, done_at, targets}
 use Rattle.ftl_cursors.specs.inorder.KidSequences.{child_sequence, children_sequence, kid_sequence}
-use Rattle.ftl_cursors.specs.inorder.ListedRules.{is_kept}
+use Rattle.ftl_cursors.proofs.inorder.ListedRules.{is_kept}
 use Rattle.ftl_cursors.proofs.inorder.KeyedLists.{keyed_is, one_test}
 use Rattle.ftl_cursors.proofs.inorder.RunRules.{runs_inherited, runs_locals, runs_synthesized}
-use Rattle.ftl_cursors.proofs.inorder.SequenceKids.{goes_kid_by_kid, same_pieces}
+use Rattle.ftl_cursors.proofs.inorder.Pieces.{same_pieces}
+use Rattle.ftl_cursors.proofs.inorder.SequenceKids.{goes_kid_by_kid}
 
 map-map : {X Y Z : Type 0} (f : Y → Z) (h : X → Y) (xs : List X) → map f (map h xs) ≡ map (λ x. f (h x)) xs
 map-map f h [] = refl
@@ -64,10 +65,10 @@ module _ (g : AttributeGrammar) (law : IsLawful g) where
     attributes = (pass_at s stage pass).attributes
 
     abbrev place : Placing
-    place = spot_of s
+    place = placing_of s
 
-    abbrev here : Spot
-    here = spot_at stage pass
+    abbrev here : SchedulePlace
+    here = pass_place stage pass
 
     module _ (p : Path) (there : Has t p) where
       abbrev class : ℕ

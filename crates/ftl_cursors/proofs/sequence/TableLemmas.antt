@@ -13,7 +13,7 @@ use Rattle.ftl_cursors.specs.sequence.Places.{AreTables, grammar_of, node_of, tr
 use Rattle.ftl_cursors.specs.declared.sequence.block_places.BlockPlaces.{BlockPlaces}
 use Rattle.ftl_cursors.specs.declared.sequence.place.Tables.{Tables}
 use Rattle.ftl_cursors.proofs.sequence.BlockLemmas.{HasBlock, block_placed}
-use Rattle.ftl_cursors.proofs.sequence.Near.{class_within, visit_in, visits_count}
+use Rattle.ftl_cursors.proofs.sequence.CursorMoves.{class_within, visit_in, visits_count}
 
 module _ (x : Tables) (are : AreTables x) (fits : IsTreeOf (grammar_of x) (tree_of x)) (node : ℕ)
     (within : node < size (tree_of x)) (n : ℕ) (is : n ≡ class_at (tree_of x) (node_of x node)) where

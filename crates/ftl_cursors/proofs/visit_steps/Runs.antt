@@ -1,10 +1,9 @@
 -- What the operations of a visit run.
-use Rattle.std.proofs.Common.{◌≡◌, ℕ, ◌<◌, ◌==◌, ◌&&◌, Bool, true, false, if◌then◌else◌, List, [], ◌∷◌, ◌++◌, flat_map, filter, map, get_or, length, Contains, Option, Some, None, refl, sym, ◌∙◌, ap, ap₂, subst, inl, inr, ⊎_elim, arith, eqb-true, eq-eqb}
-use Rattle.std.specs.List.{position, range_with_len}
+use Rattle.std.proofs.Common.{◌≡◌, ℕ, ◌<◌, true, false, if◌then◌else◌, List, [], ◌∷◌, ◌++◌, flat_map, filter, map, get_or, Contains, Option, Some, None, refl, sym, ◌∙◌, ap, ap₂, subst, inl, inr, ⊎_elim, arith}
 use Rattle.std.specs.Option.{option_map, option_to_list}
-use Rattle.std.proofs.lemmas.Bool.{and_parts, false≢true}
+use Rattle.std.proofs.lemmas.Bool.{false≢true}
 use Rattle.std.proofs.lemmas.Grind.{flat_map-append}
-use Rattle.std.proofs.lemmas.List.Elements.{Contains-append_cases, Contains-get_or}
+use Rattle.std.proofs.lemmas.List.Elements.{Contains-get_or}
 use Rattle.std.proofs.lemmas.List.Quantifiers.{position-Some}
 use Rattle.ftl_model.specs.lists.Lists.{is_listed}
 use Rattle.ftl_model.proofs.lists.Elements.{here_in, in_cases, in_flat_map, in_range_from, later_in, nothing_in}
@@ -12,34 +11,13 @@ use Rattle.ftl_model.proofs.lists.Listed.{is_there, listed}
 use Rattle.ftl_model.specs.layout.AttributeGrammar.{AttributeGrammar, RuleName, Sort, attributes_of, for_child, for_self, inherited, input, local, synthesized}
 use Rattle.ftl_order.specs.orders.Lawful.{IsLawful, IsOwnSort}
 use Rattle.ftl_order.specs.dependencies.Writers.{is_of_class}
+use Rattle.ftl_order.proofs.dependencies.ClassRules.{kid_is, kid_passes, own_is, own_passes}
 use Rattle.ftl_order.proofs.dependencies.Places.{none_passes}
 use Rattle.ftl_items.specs.stage_items.Visits as items
-use Rattle.ftl_visit.specs.visits.Visits.{children, rule_in, rule_number, rules_by_key, rules_for}
+use Rattle.ftl_visit.specs.visits.Visits.{children, rule_in, rule_number, rules_by_key, operations_for}
 use Rattle.ftl_visit.specs.declared.visits.visit_op.VisitOp.{VisitOp}
-use Rattle.ftl_visit.specs.declared.visits.visit_op.VisitOp.TheVariants.{Rule, Begin, Visit}
+use Rattle.ftl_visit.specs.declared.visits.visit_op.VisitOp.TheVariants.{Rule}
 use Rattle.ftl_cursors.specs.visit_steps.VisitLaws.{IsRuleOp, rules_run}
-
-same_test : (a : ℕ) → (a == a) ≡ true
-same_test a = eq-eqb a a refl
-
-own_is : (k a : ℕ) (w : RuleName) → is_of_class k None a w ≡ true → w ≡ for_self k a
-own_is k a (for_self l b) h =
-    let p = and_parts (k == l) (a == b) h in
-    sym (ap₂ for_self (eqb-true k l p.0) (eqb-true a b p.1))
-own_is k a (for_child l d b) h = absurd (false≢true h)
-
-kid_is : (k c a : ℕ) (w : RuleName) → is_of_class k (Some c) a w ≡ true → w ≡ for_child k c a
-kid_is k c a (for_self l b) h = absurd (false≢true h)
-kid_is k c a (for_child l d b) h =
-    let p = and_parts (k == l) (c == d && a == b) h in
-    let q = and_parts (c == d) (a == b) p.1 in
-    sym (ap (λ n. for_child n c a) (eqb-true k l p.0) ∙ ap₂ (for_child l) (eqb-true c d q.0) (eqb-true a b q.1))
-
-own_passes : (k a : ℕ) → is_of_class k None a (for_self k a) ≡ true
-own_passes k a = ap₂ (λ x y. x && y) (same_test k) (same_test a)
-
-kid_passes : (k c a : ℕ) → is_of_class k (Some c) a (for_child k c a) ≡ true
-kid_passes k c a = ap₂ (λ x y. x && y) (same_test k) (ap₂ (λ x y. x && y) (same_test c) (same_test a))
 
 module _ (g : AttributeGrammar) (law : IsLawful g) (class : ℕ) (known : class < g.class_count) where
   abbrev run : List VisitOp → List RuleName
@@ -140,7 +118,7 @@ module _ (g : AttributeGrammar) (law : IsLawful g) (class : ℕ) (known : class 
   in_children c h = (let e = (in_range_from 0 (g.child_count class) c h).1 in omega (arith, e))
 
   runs_for : (sort : Sort) (a : ℕ) → g.sort a ≡ sort
-      → run (rules_for g class sort a) ≡ items.rules_for g class sort a
+      → run (operations_for g class sort a) ≡ items.rules_for g class sort a
   runs_for input a is = refl
   runs_for inherited a is = runs_kids a is (children g class) in_children
   runs_for synthesized a is = runs_own a (inl is)
@@ -151,10 +129,10 @@ module _ (g : AttributeGrammar) (law : IsLawful g) (class : ℕ) (known : class 
       → run (rules_by_key g class attributes) ≡ items.rules_by_key g attributes class
   runs_by_key [] = refl
   runs_by_key (a ∷ attributes) =
-      flat_map-append (rules_run g) (rules_for g class (g.sort a) a) (rules_by_key g class attributes)
+      flat_map-append (rules_run g) (operations_for g class (g.sort a) a) (rules_by_key g class attributes)
       ∙ ap₂ (λ xs ys. xs ++ ys) (runs_for (g.sort a) a refl) (runs_by_key attributes)
 
-  op_for : (sort : Sort) (a : ℕ) (op : VisitOp) → Contains (rules_for g class sort a) op → IsRuleOp g op
+  op_for : (sort : Sort) (a : ℕ) (op : VisitOp) → Contains (operations_for g class sort a) op → IsRuleOp g op
   op_for input a op h = absurd (nothing_in op h)
   op_for inherited a op h =
       let i = in_flat_map (λ c. rule_in g class (Some c) a) (children g class) op h in
@@ -166,5 +144,5 @@ module _ (g : AttributeGrammar) (law : IsLawful g) (class : ℕ) (known : class 
   pub ops_are_rules : (attributes : List ℕ) (op : VisitOp) → Contains (rules_by_key g class attributes) op
       → IsRuleOp g op
   ops_are_rules attributes op h =
-      let i = in_flat_map (λ a. rules_for g class (g.sort a) a) attributes op h in
+      let i = in_flat_map (λ a. operations_for g class (g.sort a) a) attributes op h in
       op_for (g.sort i.0) i.0 op i.2

@@ -9,9 +9,9 @@ use Rattle.ftl_model.specs.layout.Tree.{Forest, below_of, none, tree}
 use Rattle.ftl_model.specs.layout.TreeOf.{IsTreeOf}
 use Rattle.ftl_order.specs.orders.Lawful.{IsLawful}
 use Rattle.ftl_order.specs.orders.Ordered.{IsOrdered}
-use Rattle.ftl_order.specs.orders.Schedule.{Schedule, pass_at, spot_of}
+use Rattle.ftl_order.specs.orders.Schedule.{Schedule, pass_at, placing_of}
 use Rattle.ftl_order.specs.orders.Sequence.{sequence}
-use Rattle.ftl_items.specs.stage_items.Items.{spot_at}
+use Rattle.ftl_items.specs.stage_items.Items.{pass_place}
 use Rattle.ftl_order.specs.steps.Steps.{IsStepOf, target_of}
 use Rattle.ftl_order.specs.declared.steps.step.Step.{Step}
 use Rattle.ftl_visit.specs.visits.Visits.{children, inherited_rules, locals, synthesized_rules}
@@ -58,7 +58,7 @@ StepsComputeTheSequence =
     (g : AttributeGrammar) (s : Schedule) (t : Forest) → IsLawful g → IsOrdered g s → IsTreeOf g t
     → (stage pass : ℕ)
     → map (target_of g t) (inorder_steps g t (pass_at s stage pass).attributes top)
-    ≡ sequence g (spot_of s) (spot_at stage pass) t
+    ≡ sequence g (placing_of s) (pass_place stage pass) t
 
 -- and are steps of the tree
 abbrev pub StepsAreOfTheTree : Type 0

@@ -8,9 +8,9 @@ use Rattle.ftl_model.specs.layout.Tree.{Forest}
 use Rattle.ftl_model.specs.layout.TreeOf.{IsTreeOf}
 use Rattle.ftl_order.specs.orders.Lawful.{IsLawful}
 use Rattle.ftl_order.specs.orders.Ordered.{IsOrdered}
-use Rattle.ftl_order.specs.orders.Schedule.{Schedule, pass_at, spot_of}
+use Rattle.ftl_order.specs.orders.Schedule.{Schedule, pass_at, placing_of}
 use Rattle.ftl_order.specs.orders.Sequence.{sequence_at}
-use Rattle.ftl_items.specs.stage_items.Items.{spot_at}
+use Rattle.ftl_items.specs.stage_items.Items.{pass_place}
 use Rattle.ftl_order.specs.steps.Steps.{target_of_rule}
 use Rattle.ftl_visit.specs.visits.Visits.{children, inherited_rules, locals, synthesized_rules}
 use Rattle.ftl_visit.specs.declared.visits.visit_op.VisitOp.{VisitOp}
@@ -43,5 +43,5 @@ abbrev pub VisitsAreTheSequence : Type 0
 VisitsAreTheSequence =
     (g : AttributeGrammar) (s : Schedule) (t : Forest) → IsLawful g → IsOrdered g s → IsTreeOf g t
     → (stage pass : ℕ) (p : Path) → Has t p
-    → sequence_at g (spot_of s) (spot_at stage pass) t p
-    ≡ done_at g t (pass_at s stage pass).attributes (sequence_at g (spot_of s) (spot_at stage pass) t) p
+    → sequence_at g (placing_of s) (pass_place stage pass) t p
+    ≡ done_at g t (pass_at s stage pass).attributes (sequence_at g (placing_of s) (pass_place stage pass) t) p

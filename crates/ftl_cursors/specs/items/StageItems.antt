@@ -65,7 +65,7 @@ abbrev pub tops_in : StageItems → (pass : ℕ) → List Path
 tops_in s m = tops (pass_numbered s m).kind (tree_in s.rows.now) s.rows.now.grain
 
 -- an item is that of this number in this pass
-pub record IsPlaceOf (s : StageItems) (number : ℕ) (place : ItemPlace) : Type 0 where
+pub record IsItemPlace (s : StageItems) (number : ℕ) (place : ItemPlace) : Type 0 where
   pub known : place.pass < length s.passes.now
   pub start : start_in s place.pass + place.item ≡ number
   pub within : place.item < length (tops_in s place.pass)

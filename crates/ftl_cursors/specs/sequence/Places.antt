@@ -68,19 +68,19 @@ abbrev pub moves_after : Tables → (node : ℕ) → ℕ
 moves_after x n = moves_up (grammar_of x) (tree_of x) (node_of x n)
 
 -- a place where this is left
-pub record IsPlaceOf (x : Tables) (at : Place) (steps : List Step) (count : ℕ) : Type 0 where
+pub record IsSequencePlace (x : Tables) (at : Place) (steps : List Step) (count : ℕ) : Type 0 where
   pub place : IsPlace x at
   pub left : left x at ≡ steps
   pub moves : moves_at x at ≡ count
 
 -- it is where what comes after a node begins
 abbrev pub IsAfter : Tables → (node : ℕ) → Place → Type 0
-IsAfter x n at = IsPlaceOf x at (rest_after x n) (moves_after x n)
+IsAfter x n at = IsSequencePlace x at (rest_after x n) (moves_after x n)
 
 -- it is at this kid of a child, or behind the child where it has no such kid
 abbrev pub IsAtKid : Tables → (node child kid : ℕ) → Place → Type 0
 IsAtKid x n c k at =
-    IsPlaceOf x at (from_kid (grammar_of x) (tree_of x) x.attrs.now (node_of x n) c k (rest_after x n))
+    IsSequencePlace x at (from_kid (grammar_of x) (tree_of x) x.attrs.now (node_of x n) c k (rest_after x n))
     (moves_from_kid (grammar_of x) (tree_of x) (node_of x n) c k (moves_after x n))
 
 -- it is at the first operation of a kid

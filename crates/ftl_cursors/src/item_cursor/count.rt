@@ -3,7 +3,7 @@ ghost use Rattle.std.specs.Prelude.{◌≡◌, ◌<◌, ◌^◌, length, slice_i
 ghost use Rattle.ftl_cursors.specs.item_cursor.ItemSteps.{no_step, steps_left};
 
 use crate::item_cursor::cursor::ItemCursor;
-use ftl_order::steps::Step;
+use ftl_order::Step;
 
 /// How many steps are left; goes through them.
 pub fn step_count(steps: ItemCursor<'_>) -> u32

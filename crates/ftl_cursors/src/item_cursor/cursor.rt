@@ -4,7 +4,7 @@ ghost use Rattle.ftl_cursors.specs.item_cursor.ItemSteps.{steps_left};
 
 use crate::sequence::SequenceCursor;
 use crate::visits::VisitCursor;
-use ftl_order::steps::Step;
+use ftl_order::Step;
 
 /// Goes through the steps of an item.
 #[derive(Drop)]

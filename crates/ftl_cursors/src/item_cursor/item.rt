@@ -13,8 +13,8 @@ use crate::item_cursor::cursor::ItemCursor;
 use crate::items::{FoundItem, StageItems};
 use crate::sequence::{SequenceCursor, SequencePlaces};
 use crate::visits::{NodeOrder, VisitCursor, items_by_ranges, visits_make_steps};
-use ftl_schedule::stages::PassKind;
-use ftl_visit::passes::{PassVisits, RuleTarget};
+use ftl_schedule::PassKind;
+use ftl_visit::{PassVisits, RuleTarget};
 
 /// What the steps of the items of a stage are told by: its items, the visits of each pass with the
 /// places of blocks in them, and for whom each rule is.

@@ -4,7 +4,7 @@ ghost use Rattle.ftl_items.specs.stage_items.Cut.{begins};
 ghost use Rattle.ftl_model.specs.layout.Path.{node_at};
 ghost use Rattle.ftl_model.specs.layout.Tree.{size};
 
-use ftl_tree::trees::Tree;
+use ftl_tree::Tree;
 
 /// Whether an item begins at a node. A tree is larger than those in it, so that the parent's alone
 /// tells whether a small one lies around.

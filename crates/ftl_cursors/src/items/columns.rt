@@ -1,7 +1,7 @@
 //! The nodes at which items begin.
 ghost use Rattle.ftl_cursors.specs.items.RowsFit.{AreItemRows};
 
-use ftl_tree::trees::Tree;
+use ftl_tree::Tree;
 
 /// The nodes of a tree at which items begin, and how many begin before each node: once for all
 /// topdown and bottomup passes.

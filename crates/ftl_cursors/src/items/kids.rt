@@ -5,7 +5,7 @@ ghost use Rattle.ftl_model.specs.layout.Tree.{size};
 ghost use Rattle.ftl_deps.specs.reads.Meant.{meant};
 ghost use Rattle.ftl_cursors.specs.items.StageItems.{kids_of};
 
-use ftl_tree::trees::Tree;
+use ftl_tree::Tree;
 
 /// How many kids a node has, those of all children together.
 pub(crate) fn kid_total(tree: &Tree<'_>, node: u32) -> u32

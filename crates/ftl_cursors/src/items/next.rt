@@ -13,7 +13,7 @@ ghost use Rattle.ftl_cursors.specs.items.StageItems.{items_in, kids_of, passes_i
 use crate::items::columns::ItemRows;
 use crate::items::kids::{kid_at, kid_total};
 use crate::items::view::StageItems;
-use ftl_schedule::syntax::PassKind;
+use ftl_schedule::PassKind;
 
 impl<'a> StageItems<'a> {
     /// How many items hand on to an item.

@@ -9,8 +9,8 @@ ghost use Rattle.ftl_cursors.specs.items.StageItems.{IsMadeOf, tops_by, tree_in}
 
 use crate::items::begins::is_first;
 use crate::items::columns::ItemRows;
-use ftl_schedule::syntax::PassKind;
-use ftl_tree::trees::Tree;
+use ftl_schedule::PassKind;
+use ftl_tree::Tree;
 use std::alloc::{AllocError, Global};
 
 impl<'a> ItemRows<'a> {

@@ -2,12 +2,12 @@
 ghost use Rattle.std.specs.Prelude.{◌≡◌, ◌<◌, ◌≤◌, length, map, IfOk};
 ghost use Rattle.ftl_schedule.specs.stages.Stages.{pass_of};
 ghost use Rattle.ftl_cursors.specs.items.RowsFit.{AreStarts};
-ghost use Rattle.ftl_cursors.specs.items.StageItems.{IsFound, IsPlaceOf, IsStageOf, items_in};
+ghost use Rattle.ftl_cursors.specs.items.StageItems.{IsFound, IsItemPlace, IsStageOf, items_in};
 ghost use Rattle.ftl_cursors.specs.items.StageItems.{tree_in};
 
 use crate::items::columns::ItemRows;
 use crate::items::view::{FoundItem, ItemPlace, StageItems};
-use ftl_schedule::stages::Pass;
+use ftl_schedule::Pass;
 use std::alloc::{AllocError, Global};
 
 /// How many items come before each pass of a stage, and how many there are in all.
@@ -56,7 +56,7 @@ impl<'a> StageItems<'a> {
     /// The pass of an item, and its number there, by halving.
     pub fn place(&self, item: u32) -> ItemPlace
         requires item { item < length (items_in self.now) }
-        ensures place { IsPlaceOf self.now item result }
+        ensures place { IsItemPlace self.now item result }
     {
         let _nodes = self.rows.tree.node_count();
         let mut low = 0;

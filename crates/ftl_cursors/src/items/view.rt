@@ -4,8 +4,7 @@ ghost use Rattle.ftl_schedule.specs.stages.Stages.{pass_of};
 ghost use Rattle.ftl_cursors.specs.items.RowsFit.{AreStarts};
 
 use crate::items::columns::ItemRows;
-use ftl_schedule::stages::Pass;
-use ftl_schedule::syntax::PassKind;
+use ftl_schedule::{Pass, PassKind};
 
 /// The items of a stage: a view of what others keep.
 #[derive(Clone, Copy)]

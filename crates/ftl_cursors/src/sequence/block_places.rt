@@ -5,9 +5,8 @@ ghost use Rattle.ftl_deps.specs.reads.Meant.{meant};
 ghost use Rattle.ftl_cursors.specs.sequence.BlockPlaces.{places_in, places_of};
 ghost use Rattle.ftl_visit.specs.passes.Runs.{IsCut, runs};
 
-use ftl_checked::grammars::Checked;
-use ftl_visit::passes::PassVisits;
-use ftl_visit::visits::VisitOp;
+use ftl_checked::Checked;
+use ftl_visit::{PassVisits, VisitOp};
 use std::alloc::{AllocError, Global};
 use std::marker::Model;
 

@@ -9,9 +9,9 @@ ghost use Rattle.ftl_visit.specs.passes.VisitRows.{visits_of};
 
 use crate::sequence::block_places::SequencePlaces;
 use crate::sequence::place::{Place, Tables, first_rule, next_step, take_step};
-use ftl_order::steps::Step;
-use ftl_tree::trees::Tree;
-use ftl_visit::passes::PassVisits;
+use ftl_order::Step;
+use ftl_tree::Tree;
+use ftl_visit::PassVisits;
 use std::marker::Model;
 
 /// Goes through the steps of an inorder pass over a tree. Contracts see the steps that are left.

@@ -8,10 +8,9 @@ ghost use Rattle.ftl_cursors.specs.sequence.Places.{IsPlace, grammar_of, left, n
 ghost use Rattle.ftl_cursors.specs.sequence.Places.{rule_first, tree_of};
 
 use crate::sequence::block_places::{SequencePlaces, behind};
-use ftl_order::steps::Step;
-use ftl_tree::trees::Tree;
-use ftl_visit::passes::PassVisits;
-use ftl_visit::visits::VisitOp;
+use ftl_order::Step;
+use ftl_tree::Tree;
+use ftl_visit::{PassVisits, VisitOp};
 
 /// What a cursor goes by.
 #[derive(Clone, Copy)]

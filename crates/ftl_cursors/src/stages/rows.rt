@@ -6,9 +6,8 @@ ghost use Rattle.ftl_cursors.specs.stages.StageRows.{AreStageRows};
 
 use crate::items::{ItemRows, pass_starts};
 use crate::sequence::SequencePlaces;
-use ftl_schedule::stages::Pass;
-use ftl_visit::passes::PassVisits;
-use ftl_visit::visits::RuleIndex;
+use ftl_schedule::Pass;
+use ftl_visit::{PassVisits, RuleIndex};
 use std::alloc::{AllocError, Global};
 
 /// How many items come before each pass of a stage, the visits of each pass, and the places of

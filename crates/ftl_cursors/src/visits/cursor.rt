@@ -8,9 +8,9 @@ ghost use Rattle.ftl_visit.specs.passes.VisitRows.{target_of};
 
 use crate::visits::nodes::{NodeOrder, NodeRange};
 use crate::visits::place::{Place, Tables, next_step};
-use ftl_order::steps::Step;
-use ftl_tree::trees::Tree;
-use ftl_visit::passes::{PassVisits, RuleTarget};
+use ftl_order::Step;
+use ftl_tree::Tree;
+use ftl_visit::{PassVisits, RuleTarget};
 use std::marker::Model;
 
 /// Goes through the steps of the visits of some nodes. Contracts see the steps that are left.

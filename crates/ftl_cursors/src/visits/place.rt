@@ -8,10 +8,9 @@ ghost use Rattle.ftl_cursors.specs.visits.Places.{ops_left, tree_of};
 ghost use Rattle.ftl_cursors.specs.visits.VisitSteps.{turns};
 
 use crate::visits::nodes::{NodeOrder, NodeRange, take_node};
-use ftl_order::steps::Step;
-use ftl_tree::trees::Tree;
-use ftl_visit::passes::{PassVisits, RuleTarget};
-use ftl_visit::visits::VisitOp;
+use ftl_order::Step;
+use ftl_tree::Tree;
+use ftl_visit::{PassVisits, RuleTarget, VisitOp};
 
 /// What a cursor goes by.
 #[derive(Clone, Copy)]

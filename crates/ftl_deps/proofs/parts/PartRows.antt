@@ -10,7 +10,7 @@ use Rattle.ftl_meaning.specs.faults.Allowed.{for_kids, for_later, for_self, in_s
 use Rattle.ftl_meaning.specs.faults.Checked.{CheckedGrammar, all_rules}
 use Rattle.ftl_meaning.specs.faults.FirstFault.{first_fault}
 use Rattle.ftl_meaning.specs.faults.RuleForms.{Form, first_form, fold_form, one_form, parts_of}
-use Rattle.ftl_checked.specs.grammars.ReadNumbers.{leaves_told, part_leaves}
+use Rattle.ftl_checked.specs.grammars.ReadNumbers.{rule_leaves_at, part_leaves}
 use Rattle.ftl_meaning.specs.grammars.GrammarOf.{name_of_rule}
 use Rattle.ftl_meaning.specs.grammars.Meaning.{form_parts}
 use Rattle.ftl_meaning.specs.lawful.Kept.{IsKept}
@@ -41,7 +41,7 @@ module _ (c : CheckedGrammar) (none : first_fault c.grammar ≡ None) where
   -- a row more
   pub rows_more : (n : ℕ) → n < length (all_rules c.grammar)
       → take (n + 1) (all_parts (meant c))
-      ≡ take n (all_parts (meant c)) ++ parts_by_leaves (leaves_told c.grammar n) ∷ []
+      ≡ take n (all_parts (meant c)) ++ parts_by_leaves (rule_leaves_at c.grammar n) ∷ []
   rows_more n within = rows.rows_more c.grammar none (parts_named (meant c)) parts_by_leaves by_leaves n within
 
   -- all of them

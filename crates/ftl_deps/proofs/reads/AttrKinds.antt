@@ -43,7 +43,7 @@ decls g =
     (flat_map (λ k. map (declared true k.0) k.1.attrs) (numbered 0 g.classes))
     ∙ ap₂ (λ a b. a ++ b) (of_interfaces 0 g.interfaces) (of_classes 0 g.classes)
 
--- what is told of an attribute has its kind
+-- what is known of an attribute has its kind
 pub kind_within : (g : Grammar) (a : ℕ) → a < length (all_attributes g)
     → (told.attribute_at g a).decl.kind ≡ (declaration_at g a).kind
 kind_within g a within =
@@ -58,3 +58,6 @@ kind_past g a past =
     (ap (λ xs. get_or xs a (trees.attr_decl kinds.Input [])) (sym (decls g))
     ∙ get_or_past (map decl_of (all_attributes g)) a (trees.attr_decl kinds.Input [])
     (grind (arith, common_steps, past)))
+
+-- the kind of an attribute, also past the last
+pub ruleset kind_steps = (kind_within, kind_past)

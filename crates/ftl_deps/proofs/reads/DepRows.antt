@@ -4,7 +4,7 @@ use Rattle.ftl_grammar.specs.declared.syntax.rules.Rule.{Rule}
 use Rattle.ftl_meaning.specs.faults.Checked.{CheckedGrammar, all_rules}
 use Rattle.ftl_meaning.specs.faults.FirstFault.{first_fault}
 use Rattle.ftl_meaning.specs.faults.RuleForms.{parts_of}
-use Rattle.ftl_checked.specs.grammars.ReadNumbers.{leaves_told, part_leaves}
+use Rattle.ftl_checked.specs.grammars.ReadNumbers.{rule_leaves_at, part_leaves}
 use Rattle.ftl_order.specs.dependencies.DepReads.{dep_read, dep_table, rule_reads}
 use Rattle.ftl_meaning.specs.grammars.GrammarOf.{name_of_rule}
 use Rattle.ftl_base.specs.Widths.{greatest_of_width}
@@ -26,7 +26,7 @@ module _ (c : CheckedGrammar) (none : first_fault c.grammar ≡ None) where
   -- a row more
   pub rows_more : (n : ℕ) → n < length (all_rules c.grammar)
       → take (n + 1) (dep_table (meant c))
-      ≡ take n (dep_table (meant c)) ++ deps_by_leaves (meant c) (leaves_told c.grammar n) ∷ []
+      ≡ take n (dep_table (meant c)) ++ deps_by_leaves (meant c) (rule_leaves_at c.grammar n) ∷ []
   rows_more n within =
       rows.rows_more c.grammar none (rule_reads (meant c)) (deps_by_leaves (meant c)) by_leaves n within
 

@@ -15,7 +15,7 @@ use Rattle.ftl_meaning.specs.faults.Checked.{all_rules}
 use Rattle.ftl_meaning.specs.faults.FirstFault.{first_fault}
 use Rattle.ftl_meaning.specs.faults.Numbering.{class_at, numbered}
 use Rattle.ftl_meaning.specs.faults.RuleForms.{Slot, form_of, parts_of, slot_of}
-use Rattle.ftl_checked.specs.grammars.ReadNumbers.{leaves_told, part_leaves, parts_by, rule_leaves, rule_parts}
+use Rattle.ftl_checked.specs.grammars.ReadNumbers.{rule_leaves_at, part_leaves, parts_by, rule_leaves, rule_parts}
 use Rattle.ftl_meaning.specs.grammars.GrammarOf.{name_of_rule, rules_of_class}
 use Rattle.ftl_meaning.specs.lawful.Kept.{IsKept}
 use Rattle.ftl_meaning.proofs.lawful.KeptRules.{rule_kept}
@@ -108,7 +108,7 @@ module _ (g : Grammar) (none : first_fault g ≡ None) where
     rows_long : length (map of_name rules) ≡ length (all_rules g)
     rows_long = ap length rows_by_leaves ∙ length-map leaves by_leaves ∙ length-map (all_rules g) (rule_leaves g)
 
-    row_at : (n : ℕ) → n < length (all_rules g) → get_or (map of_name rules) n (by_leaves []) ≡ by_leaves (leaves_told g n)
+    row_at : (n : ℕ) → n < length (all_rules g) → get_or (map of_name rules) n (by_leaves []) ≡ by_leaves (rule_leaves_at g n)
     row_at n within =
         ap (λ ys. get_or ys n (by_leaves [])) rows_by_leaves
         ∙ get_or-map by_leaves leaves n [] (by_leaves [])
@@ -116,7 +116,7 @@ module _ (g : Grammar) (none : first_fault g ≡ None) where
 
     -- a row more
     pub rows_more : (n : ℕ) → n < length (all_rules g)
-        → take (n + 1) (map of_name rules) ≡ take n (map of_name rules) ++ by_leaves (leaves_told g n) ∷ []
+        → take (n + 1) (map of_name rules) ≡ take n (map of_name rules) ++ by_leaves (rule_leaves_at g n) ∷ []
     rows_more n within =
         ap (λ m. take m (map of_name rules)) (add-one n)
         ∙ take-suc (map of_name rules) n (by_leaves []) (subst (λ m. n < m) (sym rows_long) within)

@@ -6,16 +6,16 @@ use Rattle.std.proofs.lemmas.List.Elements.{Contains-get_or}
 use Rattle.std.proofs.Math.Seq.{drop-cons, take-length, take-suc}
 use Rattle.ftl_model.specs.layout.AttributeGrammar.{AttributeGrammar, RuleName, for_self}
 use Rattle.ftl_order.specs.orders.Lawful.{class_of_rule}
-use Rattle.ftl_meaning.specs.faults.Checked.{CheckedGrammar, all_rules, rule_told}
+use Rattle.ftl_meaning.specs.faults.Checked.{CheckedGrammar, all_rules, rule_info_at}
 use Rattle.ftl_meaning.specs.faults.FirstFault.{first_fault}
 use Rattle.ftl_order.specs.dependencies.DepReads.{dep_table, rule_reads}
 use Rattle.ftl_order.specs.dependencies.Writers.{first_writer}
 use Rattle.ftl_order.specs.declared.dependencies.dep_read.DepRead.{DepRead}
 use Rattle.ftl_deps.specs.reads.DepRows.{IsAligned, dep_rows, rule_writers, writer_table, writers_at}
 use Rattle.ftl_deps.specs.reads.Meant.{HasKnownChild, meant}
-use Rattle.ftl_deps.specs.reads.Products.{told_child, told_name}
+use Rattle.ftl_deps.specs.reads.Products.{name_of_child, name_of_info}
 use Rattle.ftl_deps.proofs.reads.ReadKids.{reads_known}
-use Rattle.ftl_deps.proofs.reads.RuleNumbers.{rules_long, told_at, told_rule}
+use Rattle.ftl_deps.proofs.reads.RuleNumbers.{rules_long, info_is, info_rule}
 
 -- ---- there is a writer, or none, for each read
 
@@ -39,44 +39,44 @@ other_default (x ∷ xs) (suc n) d e within = other_default xs n d e (omega (ari
 
 -- ---- of checked grammars
 
-class_of_told : (k a : ℕ) (child : Option ℕ) → class_of_rule (told_child k a child) ≡ k
-class_of_told k a None = refl
-class_of_told k a (Some d) = refl
+class_of_child : (k a : ℕ) (child : Option ℕ) → class_of_rule (name_of_child k a child) ≡ k
+class_of_child k a None = refl
+class_of_child k a (Some d) = refl
 
 module _ (c : CheckedGrammar) (none : first_fault c.grammar ≡ None) where
   abbrev m : AttributeGrammar
   m = meant c
 
   abbrev class : ℕ → ℕ
-  class n = (rule_told c.grammar n).class
+  class n = (rule_info_at c.grammar n).class
 
   within_rules : (n : ℕ) → n < length (all_rules c.grammar) → n < length m.rules
   within_rules n within = subst (λ l. n < l) (sym (rules_long c none)) within
 
   -- what the rule of a number reads
-  reads_told : (n : ℕ) → n < length (all_rules c.grammar)
-      → get_or (dep_table m) n [] ≡ rule_reads m (told_name (rule_told c.grammar n))
-  reads_told n within =
+  reads_of_infos : (n : ℕ) → n < length (all_rules c.grammar)
+      → get_or (dep_table m) n [] ≡ rule_reads m (name_of_info (rule_info_at c.grammar n))
+  reads_of_infos n within =
       get_or-map (rule_reads m) m.rules n (for_self 0 0) [] (within_rules n within)
-      ∙ ap (rule_reads m) (told_at c none n within)
+      ∙ ap (rule_reads m) (info_is c none n within)
 
   -- the first writers of what it reads
-  pub writers_told : (n : ℕ) → n < length (all_rules c.grammar)
+  pub writers_of_infos : (n : ℕ) → n < length (all_rules c.grammar)
       → writers_at (dep_rows m) n ≡ map (first_writer m (class n)) (get_or (dep_table m) n [])
-  writers_told n within =
+  writers_of_infos n within =
       get_or-map (rule_writers m) m.rules n (for_self 0 0) [] (within_rules n within)
-      ∙ ap (rule_writers m) (told_at c none n within)
+      ∙ ap (rule_writers m) (info_is c none n within)
       ∙ ap₂ (λ k reads. map (first_writer m k) reads)
-      (class_of_told (class n) (rule_told c.grammar n).attr (rule_told c.grammar n).child) (sym (reads_told n within))
+      (class_of_child (class n) (rule_info_at c.grammar n).attr (rule_info_at c.grammar n).child) (sym (reads_of_infos n within))
 
   -- the children that it reads are there
-  pub kids_told : (n : ℕ) → n < length (all_rules c.grammar)
+  pub kids_of_infos : (n : ℕ) → n < length (all_rules c.grammar)
       → All (HasKnownChild c.grammar (class n)) (get_or (dep_table m) n [])
-  kids_told n within place d below =
+  kids_of_infos n within place d below =
       subst (λ k. HasKnownChild c.grammar k (get_or (get_or (dep_table m) n []) place d))
-      (class_of_told (class n) (rule_told c.grammar n).attr (rule_told c.grammar n).child)
-      (reads_known c (told_name (rule_told c.grammar n)) (told_rule c none n within) (get_or (get_or (dep_table m) n []) place d)
-      (subst (λ ds. Contains ds (get_or (get_or (dep_table m) n []) place d)) (reads_told n within)
+      (class_of_child (class n) (rule_info_at c.grammar n).attr (rule_info_at c.grammar n).child)
+      (reads_known c (name_of_info (rule_info_at c.grammar n)) (info_rule c none n within) (get_or (get_or (dep_table m) n []) place d)
+      (subst (λ ds. Contains ds (get_or (get_or (dep_table m) n []) place d)) (reads_of_infos n within)
       (Contains-get_or (get_or (dep_table m) n []) place d below)))
 
   -- how many rows there are

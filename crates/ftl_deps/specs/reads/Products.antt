@@ -76,11 +76,11 @@ or_this (Some m) b n = Some m
 or_this None true n = Some n
 or_this None false n = None
 
--- the rule by number that is told of
-abbrev pub told_child : (class attribute : ℕ) → Option ℕ → RuleName
-told_child k a None = for_self k a
-told_child k a (Some c) = for_child k c a
+-- the rule, by number, that this is known of
+abbrev pub name_of_child : (class attribute : ℕ) → Option ℕ → RuleName
+name_of_child k a None = for_self k a
+name_of_child k a (Some c) = for_child k c a
 
--- the same of all that is told of it
-abbrev pub told_name : RuleInfo → RuleName
-told_name i = told_child i.class i.attr i.child
+-- the same by all that is known of it
+abbrev pub name_of_info : RuleInfo → RuleName
+name_of_info i = name_of_child i.class i.attr i.child

@@ -6,7 +6,7 @@ ghost use Rattle.ftl_deps.specs.parts.RuleParts.{all_parts, parts_meant};
 
 use crate::parts::rule_parts::RuleParts;
 use crate::parts::written_parts::written_parts;
-use ftl_checked::grammars::Checked;
+use ftl_checked::Checked;
 use sqlite_items::Items;
 use std::alloc::{AllocError, Global};
 

@@ -1,7 +1,7 @@
 //! The parts of one rule.
 ghost use Rattle.std.specs.Prelude.{◌≡◌, ◌<◌, flat_map, length, map, IfOk};
 ghost use Rattle.std.specs.Option.{option_map, option_to_list};
-ghost use Rattle.ftl_checked.specs.grammars.ReadNumbers.{leaf_in, leaves_in, leaves_told};
+ghost use Rattle.ftl_checked.specs.grammars.ReadNumbers.{leaf_in, leaves_in, rule_leaves_at};
 ghost use Rattle.ftl_deps.specs.reads.Meant.{reads_among};
 ghost use Rattle.ftl_meaning.specs.faults.Checked.{all_rules};
 ghost use Rattle.ftl_meaning.specs.grammars.Meaning.{read_of};
@@ -11,7 +11,7 @@ ghost use Rattle.ftl_deps.specs.parts.RuleParts.{read_meant, two_parts};
 
 use crate::parts::part_read::PartRead;
 use crate::parts::rule_parts::RuleParts;
-use ftl_checked::grammars::{At, Checked, NumberedRead, PartReads};
+use ftl_checked::{At, Checked, NumberedRead, PartReads};
 use sqlite_items::Items;
 use std::alloc::{AllocError, Global};
 
@@ -23,7 +23,7 @@ pub(crate) fn written_parts(
 ) -> Result<RuleParts, AllocError>
     requires within { rule < length (all_rules checked.now.grammar) }
     ensures parts { IfOk result (λ p. parts_meant p
-        ≡ parts_by_leaves (leaves_told checked.now.grammar rule)) }
+        ≡ parts_by_leaves (rule_leaves_at checked.now.grammar rule)) }
 {
     parts_of(alloc, checked.rule_reads(rule))
 }

@@ -5,8 +5,8 @@ ghost use Rattle.ftl_order.specs.dependencies.DepReads.{dep_table};
 ghost use Rattle.ftl_deps.specs.reads.Meant.{meant};
 
 use crate::reads::dep_rule::rule_deps;
-use ftl_checked::grammars::Checked;
-use ftl_order::dependencies::DepRead;
+use ftl_checked::Checked;
+use ftl_order::DepRead;
 use sqlite_items::Items;
 use std::alloc::{AllocError, Global};
 

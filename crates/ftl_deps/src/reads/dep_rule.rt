@@ -1,12 +1,12 @@
 //! The reads of one rule.
 ghost use Rattle.std.specs.Prelude.{◌≡◌, ◌<◌, ◌++◌, flat_map, length, IfOk, OnOk};
 ghost use Rattle.ftl_meaning.specs.faults.Checked.{all_rules};
-ghost use Rattle.ftl_checked.specs.grammars.ReadNumbers.{leaves_told};
+ghost use Rattle.ftl_checked.specs.grammars.ReadNumbers.{rule_leaves_at};
 ghost use Rattle.ftl_deps.specs.reads.Meant.{deps_by_leaves, deps_in, meant, part_deps};
 
 use crate::reads::dep_sites::dep_of;
-use ftl_checked::grammars::{Checked, NumberedRead, PartReads};
-use ftl_order::dependencies::DepRead;
+use ftl_checked::{Checked, NumberedRead, PartReads};
+use ftl_order::DepRead;
 use sqlite_items::Items;
 use std::alloc::{AllocError, Global};
 
@@ -19,7 +19,7 @@ pub(crate) fn rule_deps(
 ) -> Result<Items<DepRead>, AllocError>
     requires within { rule < length (all_rules checked.now.grammar) }
     ensures deps { IfOk result (λ deps. deps
-        ≡ deps_by_leaves (meant checked.now) (leaves_told checked.now.grammar rule)) }
+        ≡ deps_by_leaves (meant checked.now) (rule_leaves_at checked.now.grammar rule)) }
 {
     deps_of_parts(alloc, checked, checked.rule_reads(rule))
 }

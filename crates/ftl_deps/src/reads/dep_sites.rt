@@ -7,9 +7,9 @@ ghost use Rattle.ftl_deps.specs.reads.Meant.{meant};
 ghost use Rattle.ftl_meaning.specs.grammars.GrammarOf.{declaration_at, sort_of};
 ghost use Rattle.ftl_meaning.specs.grammars.Meaning.{read_of};
 
-use ftl_checked::grammars::{Checked, NumberedRead};
-use ftl_grammar::syntax::AttrKind;
-use ftl_order::dependencies::{DepRead, Form, Site};
+use ftl_checked::{Checked, NumberedRead};
+use ftl_grammar::AttrKind;
+use ftl_order::{DepRead, Form, Site};
 
 /// The read by number; none of what a fold has so far.
 pub(crate) fn dep_of(checked: &Checked, read: NumberedRead) -> Option<DepRead>
@@ -63,7 +63,7 @@ fn kid_site(kind: AttrKind) -> Site
 }
 
 /// The kind of an attribute; past the end that of an input.
-#[tactic(auto, using(crate::proofs::reads::AttrKinds::kind_within, crate::proofs::reads::AttrKinds::kind_past))]
+#[tactic(auto, using(crate::proofs::reads::AttrKinds::kind_steps))]
 fn kind_of(checked: &Checked, attr: u32) -> AttrKind
     ensures kind { result ≡ (declaration_at checked.now.grammar attr).kind }
 {

@@ -11,8 +11,8 @@ ghost use Rattle.ftl_deps.specs.reads.Products.{FindsFirst, looked_for};
 
 use crate::reads::first_rules::{first_of, first_rules};
 use crate::reads::product::Product;
-use ftl_checked::grammars::Checked;
-use ftl_order::dependencies::{DepRead, Site};
+use ftl_checked::Checked;
+use ftl_order::{DepRead, Site};
 use sqlite_items::Items;
 use std::alloc::{AllocError, Global};
 use std::collections::HashMap;

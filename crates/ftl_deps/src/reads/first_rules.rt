@@ -5,10 +5,10 @@ ghost use Rattle.ftl_meaning.specs.faults.FirstFault.{first_fault};
 ghost use Rattle.ftl_meaning.specs.faults.Numbering.{class_at};
 ghost use Rattle.ftl_deps.specs.reads.Meant.{meant};
 ghost use Rattle.ftl_deps.specs.reads.Products.{FindsFirst, at_product, or_this, same_product};
-ghost use Rattle.ftl_deps.specs.reads.Products.{told_name, written_elsewhere, written_here};
+ghost use Rattle.ftl_deps.specs.reads.Products.{name_of_info, written_elsewhere, written_here};
 
 use crate::reads::product::Product;
-use ftl_checked::grammars::{Checked, RuleInfo};
+use ftl_checked::{Checked, RuleInfo};
 use std::alloc::{AllocError, Global};
 use std::collections::HashMap;
 
@@ -47,7 +47,7 @@ fn add_rule(
 }
 
 fn written_here(info: RuleInfo) -> Product
-    ensures product { result ≡ written_here (told_name info) }
+    ensures product { result ≡ written_here (name_of_info info) }
 {
     match info.child {
         None => Product::Own(info.class, info.attr),
@@ -59,7 +59,7 @@ fn written_elsewhere(checked: &Checked, info: RuleInfo) -> Product
     requires class { info.class < length checked.now.grammar.classes }
     requires child { IfSome info.child (λ c. c
         < length (class_at checked.now.grammar info.class).children) }
-    ensures product { result ≡ written_elsewhere (meant checked.now) (told_name info) }
+    ensures product { result ≡ written_elsewhere (meant checked.now) (name_of_info info) }
 {
     match info.child {
         None => Product::Below(checked.interface_of(info.class), info.attr),

@@ -6,8 +6,8 @@ ghost use Rattle.ftl_deps.specs.reads.Meant.{meant};
 
 use crate::reads::dep_rows::all_rows;
 use crate::reads::dep_writers::all_writers;
-use ftl_checked::grammars::Checked;
-use ftl_order::dependencies::DepRead;
+use ftl_checked::Checked;
+use ftl_order::DepRead;
 use sqlite_items::Items;
 use std::alloc::{AllocError, Global};
 use std::marker::Model;

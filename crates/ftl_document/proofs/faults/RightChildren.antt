@@ -25,7 +25,7 @@ use Rattle.ftl_meaning.proofs.lawful.Numbers.{in_numbered}
 use Rattle.ftl_document.specs.faults.DocumentTree.{trees_before, trees_in}
 use Rattle.ftl_document.specs.faults.FirstFault.{field_faults, first_there, has_form, is_late, is_of_later, names_of}
 use Rattle.ftl_document.specs.faults.Nodes.{FieldHead, child_by, child_named, child_number, field_heads, head_of, list_form, node_form, number_form, number_or_zero}
-use Rattle.ftl_document.proofs.faults.ChildNames.{name_itself, names_differ, same_name}
+use Rattle.ftl_meaning.proofs.names.Names.{name_itself, names_differ, same_name}
 use Rattle.ftl_document.proofs.faults.NoDocFault.{field_right, later_right}
 
 -- ---- one field

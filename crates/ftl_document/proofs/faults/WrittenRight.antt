@@ -8,16 +8,16 @@ use Rattle.std.proofs.lemmas.List.{append-nil, append_assoc, map-append}
 use Rattle.std.proofs.lemmas.List.Elements.{Contains-append_cases}
 use Rattle.std.proofs.lemmas.List.Folds.{list_any-append}
 use Rattle.ftl_model.specs.lists.Lists.{AreDistinct}
-use Rattle.ftl_model.proofs.lists.Elements.{distinct_apart, distinct_left, distinct_right, here_in, in_cases, in_filter, later_in, nothing_in}
+use Rattle.ftl_model.proofs.lists.Elements.{distinct_apart, distinct_right, here_in, in_cases, in_filter, later_in, nothing_in}
 use Rattle.ftl_model.proofs.lists.Rising.{in_map, map_has}
 use Rattle.ftl_grammar.specs.syntax.Trees as trees
 use Rattle.ftl_grammar.specs.declared.syntax.rules.AttrDecl.{AttrDecl}
 use Rattle.ftl_grammar.specs.declared.syntax.rules.Child.{Child}
 use Rattle.ftl_grammar.specs.declared.syntax.rules.Grammar.{Grammar}
 use Rattle.ftl_document.specs.syntax.Written.{NameText, WrittenFields, list_field}
-use Rattle.ftl_meaning.specs.faults.Checked.{field_by, field_named, is_input}
+use Rattle.ftl_meaning.specs.faults.Checked.{field_named, is_input}
 use Rattle.ftl_meaning.specs.faults.FirstFault as grammars
-use Rattle.ftl_meaning.specs.faults.Numbering.{child_at, children_of, class_at, class_attributes, find_attribute, find_child, interface_of, is_among, numbered}
+use Rattle.ftl_meaning.specs.faults.Numbering.{child_at, children_of, class_at, class_attributes, interface_of, is_among, numbered}
 use Rattle.ftl_meaning.specs.declared.faults.info.Field.{Field}
 use Rattle.ftl_meaning.specs.declared.faults.info.Field.TheVariants as field
 use Rattle.ftl_meaning.proofs.lawful.Numbers.{in_numbered}
@@ -26,7 +26,8 @@ use Rattle.ftl_document.specs.faults.Nodes.{FieldHead, child_by, field_heads, he
 use Rattle.ftl_document.specs.faults.WrittenOf.{WrittenKid, child_fields, fields_from, input_fields, kids_in, nodes_from, single_field}
 use Rattle.ftl_document.specs.declared.faults.fault.DocFault.{DocFault}
 use Rattle.ftl_document.specs.declared.faults.fault.DocFault.TheVariants as fault
-use Rattle.ftl_document.proofs.faults.ChildNames.{attribute_names_of, child_found, child_names_of, class_names_differ, name_itself, names_differ}
+use Rattle.ftl_document.proofs.faults.ChildNames.{attribute_names_of, child_found, child_names_of, class_names_differ, input_stands}
+use Rattle.ftl_meaning.proofs.names.Names.{in_among, names_differ}
 use Rattle.ftl_document.proofs.faults.WrittenTrees.{HasField, class_found, inputs_differ}
 
 -- ---- none of several
@@ -37,19 +38,7 @@ pub there_none : (o : Option DocFault) (os : List (Option DocFault)) → o ≡ N
 there_none None os e h = h
 there_none (Some x) os e h = absurd (let z : ⊥ = grind (arith, e) in z)
 
--- a name of a list is among its names
-in_among : (xs : List NameText) (name : NameText) → Contains xs name → is_among xs name ≡ true
-in_among [] name there = absurd (nothing_in name there)
-in_among (x ∷ xs) name there =
-    ⊎_elim
-    (λ same. ap (λ b. b || is_among xs name) (subst (λ y. bytes_eq name y ≡ true) (sym same) (name_itself name)))
-    (λ later. ap (λ b. bytes_eq name x || b) (in_among xs name later) ∙ or_true (bytes_eq name x)) (in_cases x name xs there)
-  where
-    or_true : (b : Bool) → (b || true) ≡ true
-    or_true true = refl
-    or_true false = refl
-
--- and one that is none of them is not
+-- a name that is none of several is not among them
 not_in_among : (xs : List NameText) (name : NameText) → (Contains xs name → ⊥) → is_among xs name ≡ false
 not_in_among [] name apart = refl
 not_in_among (x ∷ xs) name apart =
@@ -71,23 +60,6 @@ any_none p (x ∷ xs) fails =
     ap (λ b. b || list_any p xs) (fails x (here_in x xs))
     ∙ any_none p xs (λ y there. fails y (later_in x y xs there))
 
--- the first attribute of a name that no other has
-attribute_found : (xs : List (ℕ × AttrDecl)) (a : ℕ × AttrDecl) → AreDistinct (map (λ x. x.1.name) xs) → Contains xs a
-    → find_attribute a.1.name xs ≡ Some a
-attribute_found [] a differ there = absurd (nothing_in a there)
-attribute_found (x ∷ xs) a differ there =
-    ⊎_elim
-    (λ same.
-    ap (λ b. cond b (Some x) (find_attribute a.1.name xs))
-    (subst (λ (y : ℕ × AttrDecl). bytes_eq a.1.name y.1.name ≡ true) (sym same) (name_itself a.1.name))
-    ∙ ap (λ (y : ℕ × AttrDecl). Some y) same)
-    (λ later.
-    ap (λ b. cond b (Some x) (find_attribute a.1.name xs))
-    (names_differ a.1.name x.1.name
-    (λ same. differ.0 (subst (Contains (map (λ (y : ℕ × AttrDecl). y.1.name) xs)) same (map_has (λ (y : ℕ × AttrDecl). y.1.name) xs a later))))
-    ∙ attribute_found xs a differ.1 later)
-    (in_cases x a xs there)
-
 module _ (g : Grammar) (lawful : grammars.first_fault g ≡ None) (k : ℕ) (known : k < length g.classes) where
   -- ---- the fields of a node
 
@@ -97,20 +69,6 @@ module _ (g : Grammar) (lawful : grammars.first_fault g ≡ None) (k : ℕ) (kno
 
   abbrev child_head : ℕ × Child → FieldHead
   child_head c = head_of c.1.name (if c.1.many then list_form else node_form)
-
-  -- an input's name stands for an input
-  input_stands : (name : NameText) → Contains (input_names g k) name
-      → (a : ℕ) × (field_named g k name ≡ Some (field.Input a))
-  input_stands name there =
-      let m = in_map (λ (x : ℕ × AttrDecl). x.1.name) (filter (λ (x : ℕ × AttrDecl). is_input x.1.kind) (class_attributes g k)) name there in
-      let f = in_filter (λ (x : ℕ × AttrDecl). is_input x.1.kind) (class_attributes g k) m.from m.there in (
-        m.from.0,
-        ap (field_named g k) (sym m.is)
-            ∙ ap (λ a. field_by a (find_child g k m.from.1.name))
-            (attribute_found (class_attributes g k) m.from
-            (distinct_left (attribute_names_of g k) (child_names_of g k) (class_names_differ g lawful k known)) f.0)
-            ∙ ap (λ b. if b then Some (field.Input m.from.0) else None) f.1,
-      )
 
   -- a field that is right has no fault
   no_field_fault : (n : ℕ) (earlier : List FieldHead) (f : FieldHead) (x : Field) → field_named g k f.name ≡ Some x
@@ -150,7 +108,7 @@ module _ (g : Grammar) (lawful : grammars.first_fault g ≡ None) (k : ℕ) (kno
       subst (λ fs. first_there (field_faults g n k fs later) ≡ None) (append-nil earlier) rest
   inputs_fine n earlier (name ∷ names) later are differ new rest =
       let f = input_head name in
-      let stands = input_stands name (are name (here_in name names)) in
+      let stands = input_stands g lawful k known name (are name (here_in name names)) in
       there_none (field_fault g n k earlier f) (field_faults g n k (earlier ++ f ∷ []) (map input_head names ++ later))
       (no_field_fault n earlier f (field.Input stands.0) stands.1 (new name (here_in name names)) refl refl)
       (inputs_fine n (earlier ++ f ∷ []) names later (λ other there. are other (later_in name other names there)) differ.1
@@ -289,7 +247,7 @@ module _ (g : Grammar) (lawful : grammars.first_fault g ≡ None) (k : ℕ) (kno
       (λ in_inputs. apart c.1.name in_inputs (map_has (λ (x : ℕ × Child). x.1.name) (children_of g k) c there)))
       (λ f there d up.
       let m = in_map input_head (input_names g k) f there in
-      let stands = input_stands m.from m.there in
+      let stands = input_stands g lawful k known m.from m.there in
       subst (λ (y : FieldHead). is_of_later g k d y ≡ false) m.is
       (ap (λ o. list_any (nat_lt d) (option_to_list (child_by o))) stands.1)))
 

@@ -26,7 +26,8 @@ use Rattle.ftl_document.specs.faults.DocumentTree.{inputs_in, number_named, tree
 use Rattle.ftl_document.specs.faults.FirstFault.{input_names}
 use Rattle.ftl_document.specs.faults.Nodes.{child_by, child_number, class_number, number_or_zero}
 use Rattle.ftl_document.specs.faults.WrittenOf.{WrittenKid, child_field, child_fields, fields_from, input_fields, kids_in, nodes_from, single_field, written_kids, written_of}
-use Rattle.ftl_document.proofs.faults.ChildNames.{attribute_names_of, child_found, child_names_of, class_names_differ, class_names_once, name_itself, names_differ}
+use Rattle.ftl_document.proofs.faults.ChildNames.{attribute_names_of, child_found, child_names_of, class_names_differ, class_names_once}
+use Rattle.ftl_meaning.proofs.names.Names.{name_itself, names_differ}
 use Rattle.ftl_document.proofs.faults.Groups.{groups_are_all}
 use Rattle.ftl_document.proofs.faults.RightInputs.{inputs_counted}
 

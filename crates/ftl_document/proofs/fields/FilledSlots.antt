@@ -9,7 +9,7 @@ use Rattle.ftl_model.proofs.lists.Elements.{here_in, later_in}
 use Rattle.ftl_document.specs.syntax.Written.{NameText}
 use Rattle.ftl_meaning.specs.faults.Numbering.{is_among}
 use Rattle.ftl_document.specs.faults.FirstFault.{names_of}
-use Rattle.ftl_document.proofs.faults.ChildNames.{name_itself, names_differ}
+use Rattle.ftl_meaning.proofs.names.Names.{name_itself, names_differ}
 use Rattle.ftl_document.specs.fields.OwnFields.{head_in, number_of, slot_of}
 use Rattle.ftl_document.specs.declared.fields.own_field.OwnField.{OwnField}
 

@@ -7,7 +7,7 @@ use Rattle.std.proofs.lemmas.List.{get_or-append-add, get_or_append_left, get_or
 use Rattle.std.proofs.lemmas.List.Elements.{Contains-append_cases, Contains-append_left, Contains-append_right, Contains-get_or}
 use Rattle.std.proofs.lemmas.List.Quantifiers.{position-Some}
 use Rattle.ftl_model.specs.lists.Lists.{AreDistinct}
-use Rattle.ftl_model.proofs.lists.Elements.{distinct_left, filter_has, in_cases, in_filter, nothing_in}
+use Rattle.ftl_model.proofs.lists.Elements.{filter_has, in_filter}
 use Rattle.ftl_model.proofs.lists.Rising.{in_map, map_has}
 use Rattle.ftl_order.proofs.dependencies.Places.{none_passes}
 use Rattle.ftl_grammar.specs.syntax.Trees as trees
@@ -22,7 +22,8 @@ use Rattle.ftl_meaning.specs.declared.faults.info.Field.TheVariants as field
 use Rattle.ftl_meaning.proofs.lawful.Found.{find_is}
 use Rattle.ftl_document.specs.faults.FirstFault.{input_names, needed_names}
 use Rattle.ftl_document.proofs.fields.ClassNames.{needed_are}
-use Rattle.ftl_document.proofs.faults.ChildNames.{attribute_names_of, child_found, child_names_of, class_names_differ, name_itself, names_differ, same_name}
+use Rattle.ftl_document.proofs.faults.ChildNames.{child_found, child_names_of, class_names_differ, input_stands}
+use Rattle.ftl_meaning.proofs.names.Names.{name_itself, same_name}
 
 -- fewer of the first names differ still
 module _ {X : Type 0} (p : X → Bool) (f : X → NameText) (ys : List NameText) where
@@ -43,23 +44,6 @@ module _ {X : Type 0} (p : X → Bool) (f : X → NameText) (ys : List NameText)
           → AreDistinct (map f (cond b (x ∷ filter p xs) (filter p xs)) ++ ys)
       by_test true rest = ((λ there. h.0 (still_in xs (f x) there)), rest)
       by_test false rest = rest
-
--- the first attribute of a name that no other has
-attribute_found : (xs : List (ℕ × AttrDecl)) (a : ℕ × AttrDecl) → AreDistinct (map (λ x. x.1.name) xs) → Contains xs a
-    → find_attribute a.1.name xs ≡ Some a
-attribute_found [] a differ there = absurd (nothing_in a there)
-attribute_found (x ∷ xs) a differ there =
-    ⊎_elim
-    (λ same.
-    ap (λ b. cond b (Some x) (find_attribute a.1.name xs))
-    (subst (λ (y : ℕ × AttrDecl). bytes_eq a.1.name y.1.name ≡ true) (sym same) (name_itself a.1.name))
-    ∙ ap (λ (y : ℕ × AttrDecl). Some y) same)
-    (λ later.
-    ap (λ b. cond b (Some x) (find_attribute a.1.name xs))
-    (names_differ a.1.name x.1.name
-    (λ same. differ.0 (subst (Contains (map (λ (y : ℕ × AttrDecl). y.1.name) xs)) same (map_has (λ (y : ℕ × AttrDecl). y.1.name) xs a later))))
-    ∙ attribute_found xs a differ.1 later)
-    (in_cases x a xs there)
 
 -- a name at a place
 pub record IsAt (g : Grammar) (k : ℕ) (name : NameText) (i : ℕ) : Type 0 where
@@ -84,20 +68,6 @@ module _ (g : Grammar) (lawful : grammars.first_fault g ≡ None) (k : ℕ) (kno
       fewer_differ (λ (a : ℕ × AttrDecl). is_input a.1.kind) (λ (a : ℕ × AttrDecl). a.1.name) (child_names_of g k)
       (class_attributes g k) (class_names_differ g lawful k known)
 
-  -- an input's name stands for an input
-  pub input_stands : (name : NameText) → Contains (input_names g k) name
-      → (a : ℕ) × (field_named g k name ≡ Some (field.Input a))
-  input_stands name there =
-      let m = in_map (λ (x : ℕ × AttrDecl). x.1.name) (filter (λ (x : ℕ × AttrDecl). is_input x.1.kind) (class_attributes g k)) name there in
-      let f = in_filter (λ (x : ℕ × AttrDecl). is_input x.1.kind) (class_attributes g k) m.from m.there in (
-        m.from.0,
-        ap (field_named g k) (sym m.is)
-            ∙ ap (λ a. field_by a (find_child g k m.from.1.name))
-            (attribute_found (class_attributes g k) m.from
-            (distinct_left (attribute_names_of g k) (child_names_of g k) (class_names_differ g lawful k known)) f.0)
-            ∙ ap (λ b. if b then Some (field.Input m.from.0) else None) f.1,
-      )
-
   pub is_at : (name : NameText) (i : ℕ) → position (bytes_eq name) (needed_names g k) ≡ Some i → IsAt g k name i
   is_at name i found =
       let at = position-Some (bytes_eq name) (needed_names g k) i [] found in
@@ -115,7 +85,7 @@ module _ (g : Grammar) (lawful : grammars.first_fault g ≡ None) (k : ℕ) (kno
       (λ less.
       let same : get_or (input_names g k) i [] ≡ name =
       sym (get_or_append_left (input_names g k) (child_names_of g k) [] i less) ∙ at.is in
-      let stands = input_stands name (subst (Contains (input_names g k)) same (Contains-get_or (input_names g k) i [] less)) in
+      let stands = input_stands g lawful k known name (subst (Contains (input_names g k)) same (Contains-get_or (input_names g k) i [] less)) in
       inl (record { below = less; number = stands.0; stands = stands.1 }))
       (λ past.
       let below = at.below in

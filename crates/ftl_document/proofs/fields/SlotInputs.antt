@@ -17,10 +17,10 @@ use Rattle.ftl_document.specs.faults.DocumentTree.{inputs_in, number_named}
 use Rattle.ftl_document.specs.faults.FirstFault.{field_faults, first_there, has_form, input_names, missing_fault, names_of, needed_names}
 use Rattle.ftl_document.specs.faults.Nodes.{FieldHead, field_heads, head_of, list_form, node_form, number_form}
 use Rattle.ftl_document.specs.declared.faults.fault.DocFault.TheVariants as fault
-use Rattle.ftl_document.proofs.faults.ChildNames.{child_names_of, same_name}
+use Rattle.ftl_document.proofs.faults.ChildNames.{child_names_of, input_stands}
+use Rattle.ftl_meaning.proofs.names.Names.{same_name}
 use Rattle.ftl_document.proofs.faults.NoDocFault.{field_right, later_right}
 use Rattle.ftl_document.specs.fields.OwnFields.{head_in, own_of, slot_of}
-use Rattle.ftl_document.proofs.fields.PlacedNames.{input_stands}
 
 pub heads_kept : (fields : WrittenFields) → map head_in (own_of fields) ≡ field_heads fields
 heads_kept no_fields = refl

@@ -17,7 +17,7 @@ use Rattle.ftl_document.specs.faults.DocumentTree.{inputs_in, tree_of, trees_bef
 use Rattle.ftl_document.specs.faults.FirstFault.{first_node_fault, names_of}
 use Rattle.ftl_document.specs.faults.Nodes.{FieldHead, StandingNode, child_number, class_number, field_heads, head_of}
 use Rattle.ftl_document.specs.faults.Nodes.{list_form, node_form, nodes_beside, nodes_in, nodes_of, number_form, wanted_in}
-use Rattle.ftl_document.proofs.faults.ChildNames.{name_itself}
+use Rattle.ftl_meaning.proofs.names.Names.{name_itself}
 use Rattle.ftl_document.proofs.faults.NoDocFault.{AreRight, IsRight, all_back, all_front, each_right, field_right}
 use Rattle.ftl_document.proofs.faults.NoDocFault.{later_right}
 use Rattle.ftl_document.proofs.faults.RightChildren.{AreFine, list_child, node_child}

@@ -7,12 +7,10 @@ use Rattle.ftl_meaning.specs.faults.Checked.{CheckedGrammar}
 use Rattle.ftl_meaning.specs.grammars.GrammarOf.{grammar_of}
 use Rattle.ftl_document.specs.syntax.Read.{IsDocument}
 use Rattle.ftl_document.specs.syntax.Rows.{DocumentRows}
-use Rattle.ftl_document.specs.syntax.Sizes.{FieldsAreWithin, NodesAreWithin}
-use Rattle.ftl_document.specs.syntax.Written.{WrittenFields, WrittenNode, WrittenNodes, list_field, no_fields, no_nodes}
-use Rattle.ftl_document.specs.syntax.Written.{node_and, node_field, number_field}
+use Rattle.ftl_document.specs.syntax.Written.{WrittenNode}
 use Rattle.ftl_document.specs.faults.DocumentTree.{tree_of}
 use Rattle.ftl_document.specs.faults.FirstFault.{first_fault}
-use Rattle.ftl_document.specs.faults.Within.{AreAllWithin, AreWithin, IsWithin}
+use Rattle.ftl_document.specs.faults.Within.{IsWithin}
 use Rattle.ftl_document.specs.declared.faults.fault.DocFault.{DocFault}
 use Rattle.ftl_document.specs.declared.faults.fault.DocFault.TheVariants as fault
 use Rattle.ftl_document.specs.nodes.Found.{AreRowsOf, FindsFault, IsWritten}
@@ -20,23 +18,8 @@ use Rattle.ftl_document.specs.declared.nodes.all_nodes.DocumentNodes.{DocumentNo
 use Rattle.ftl_tree.specs.rows.Rows.{AreNodesOf}
 use Rattle.ftl_document.specs.reading.ReadNodes.{ReadsNodes}
 use Rattle.ftl_document.specs.reading.ReadTree.{IsSpelled, ReadsTree, checked_tree}
-use Rattle.ftl_document.proofs.reading.FaultsTold.{fault_told}
-
--- ---- widths, as the syntax and as the faults say it
-
-mutual
-  fields_within : (greatest : ℕ) (fields : WrittenFields) → FieldsAreWithin greatest fields → AreWithin greatest fields
-  fields_within greatest no_fields h = tt
-  fields_within greatest (number_field name n later) h = (h.0, fields_within greatest later h.1)
-  fields_within greatest (node_field name class fields later) h =
-      (fields_within greatest fields h.0, fields_within greatest later h.1)
-  fields_within greatest (list_field name nodes later) h =
-      (nodes_within greatest nodes h.0, fields_within greatest later h.1)
-
-  nodes_within : (greatest : ℕ) (nodes : WrittenNodes) → NodesAreWithin greatest nodes → AreAllWithin greatest nodes
-  nodes_within greatest no_nodes h = tt
-  nodes_within greatest (node_and class fields later) h =
-      (fields_within greatest fields h.0, nodes_within greatest later h.1)
+use Rattle.ftl_document.proofs.reading.Widths.{fields_within}
+use Rattle.ftl_document.proofs.reading.AnsweredFaults.{fault_answered}
 
 module _ (c : CheckedGrammar) (s : WideTokenized) (width : s.greatest ≡ greatest_of_width c.width)
     (d : DocumentRows) (h : IsDocument s d) where
@@ -68,23 +51,23 @@ module _ (c : CheckedGrammar) (s : WideTokenized) (width : s.greatest ≡ greate
       by_memory : (x : DocFault) → (x ≢ fault.OutOfMemory → first_fault c.grammar h.node ≡ Some x)
           → ReadsTree c s (Err x)
       by_memory fault.OutOfMemory first = tt
-      by_memory (fault.TooDeep at) first = fault_told c s h.node (fault.TooDeep at) spelled (first (λ memory. cc))
+      by_memory (fault.TooDeep at) first = fault_answered c s h.node (fault.TooDeep at) spelled (first (λ memory. cc))
       by_memory (fault.TooManyNodes count) first =
-          fault_told c s h.node (fault.TooManyNodes count) spelled (first (λ memory. cc))
-      by_memory (fault.Syntax at) first = fault_told c s h.node (fault.Syntax at) spelled (first (λ memory. cc))
+          fault_answered c s h.node (fault.TooManyNodes count) spelled (first (λ memory. cc))
+      by_memory (fault.Syntax at) first = fault_answered c s h.node (fault.Syntax at) spelled (first (λ memory. cc))
       by_memory (fault.UnknownClass node name) first =
-          fault_told c s h.node (fault.UnknownClass node name) spelled (first (λ memory. cc))
+          fault_answered c s h.node (fault.UnknownClass node name) spelled (first (λ memory. cc))
       by_memory (fault.WrongInterface node class wanted) first =
-          fault_told c s h.node (fault.WrongInterface node class wanted) spelled (first (λ memory. cc))
+          fault_answered c s h.node (fault.WrongInterface node class wanted) spelled (first (λ memory. cc))
       by_memory (fault.UnknownField node name) first =
-          fault_told c s h.node (fault.UnknownField node name) spelled (first (λ memory. cc))
+          fault_answered c s h.node (fault.UnknownField node name) spelled (first (λ memory. cc))
       by_memory (fault.FieldTwice node name) first =
-          fault_told c s h.node (fault.FieldTwice node name) spelled (first (λ memory. cc))
+          fault_answered c s h.node (fault.FieldTwice node name) spelled (first (λ memory. cc))
       by_memory (fault.FieldForm node name) first =
-          fault_told c s h.node (fault.FieldForm node name) spelled (first (λ memory. cc))
+          fault_answered c s h.node (fault.FieldForm node name) spelled (first (λ memory. cc))
       by_memory (fault.FieldOrder node name) first =
-          fault_told c s h.node (fault.FieldOrder node name) spelled (first (λ memory. cc))
+          fault_answered c s h.node (fault.FieldOrder node name) spelled (first (λ memory. cc))
       by_memory (fault.FieldMissing node name) first =
-          fault_told c s h.node (fault.FieldMissing node name) spelled (first (λ memory. cc))
+          fault_answered c s h.node (fault.FieldMissing node name) spelled (first (λ memory. cc))
       by_memory (fault.TooManyInstances count) first =
-          fault_told c s h.node (fault.TooManyInstances count) spelled (first (λ memory. cc))
+          fault_answered c s h.node (fault.TooManyInstances count) spelled (first (λ memory. cc))

@@ -17,9 +17,9 @@ use Rattle.ftl_document.specs.faults.FirstFault.{first_fault}
 use Rattle.ftl_document.specs.declared.faults.fault.DocFault.{DocFault}
 use Rattle.ftl_document.specs.declared.faults.fault.DocFault.TheVariants as fault
 use Rattle.ftl_tree.specs.trees.CheckedTree.{CheckedTree}
-use Rattle.ftl_document.specs.reading.ReadNodes.{told_as}
+use Rattle.ftl_document.specs.reading.ReadNodes.{as_document_fault}
 use Rattle.ftl_document.specs.reading.ReadTree.{IsFaultOfNodes, IsSpelled, ReadsTree, checked_tree}
-use Rattle.ftl_document.proofs.reading.FaultsTold.{fault_no_memory, fault_told}
+use Rattle.ftl_document.proofs.reading.AnsweredFaults.{fault_no_memory, fault_answered}
 
 -- an answer that is not want of memory
 abbrev pub Answer : CheckedGrammar → WideTokenized → Type 0
@@ -38,7 +38,7 @@ by_fault c s node None spelled none = (
 by_fault c s node (Some x) spelled first = (
   Err x,
   (λ memory. fault_no_memory c node x first (cc memory)),
-  fault_told c s node x spelled first,
+  fault_answered c s node x spelled first,
 )
 
 pub some_tree : (c : CheckedGrammar) (s : WideTokenized) → length s.tokenized.tokens ≤ 4294967295
@@ -47,13 +47,13 @@ some_tree c s short small =
     by_text (some_answer s short small).0 (some_answer s short small).1 (some_answer s short small).2
   where
     by_text : (read : _) → read ≢ Err written.OutOfMemory → ReadsDocument s read → Answer c s
-    by_text (Ok d) told h =
+    by_text (Ok d) of_text h =
         by_fault c s h.node (first_fault c.grammar h.node)
         (record { spells = h.spells; shallow = h.shallow; few = h.few }) refl
-    by_text (Err (written.TooDeep at)) told h = (Err (fault.TooDeep at), (λ memory. cc), h)
-    by_text (Err (written.TooManyNodes count)) told h = (Err (fault.TooManyNodes count), (λ memory. cc), h)
-    by_text (Err (written.Syntax at)) told h = (Err (fault.Syntax at), (λ memory. cc), h)
-    by_text (Err written.OutOfMemory) told h = absurd (told refl)
+    by_text (Err (written.TooDeep at)) of_text h = (Err (fault.TooDeep at), (λ memory. cc), h)
+    by_text (Err (written.TooManyNodes count)) of_text h = (Err (fault.TooManyNodes count), (λ memory. cc), h)
+    by_text (Err (written.Syntax at)) of_text h = (Err (fault.Syntax at), (λ memory. cc), h)
+    by_text (Err written.OutOfMemory) of_text h = absurd (of_text refl)
 
 -- ---- and no other
 
@@ -70,10 +70,10 @@ record IsOfDocument (c : CheckedGrammar) (s : WideTokenized) (answer : Result Ch
 
 -- the answer is a fault of the text
 record IsOfText (s : WideTokenized) (answer : Result CheckedTree DocFault) : Type 0 where
-  told : WrittenDocumentFault
-  some : told ≢ written.OutOfMemory
-  reads : ReadsDocument s (Err told)
-  is : answer ≡ Err (told_as told)
+  of_text : WrittenDocumentFault
+  some : of_text ≢ written.OutOfMemory
+  reads : ReadsDocument s (Err of_text)
+  is : answer ≡ Err (as_document_fault of_text)
 
 of_nodes : (c : CheckedGrammar) (s : WideTokenized) (x : DocFault) → IsFaultOfNodes c s x
     → IsOfDocument c s (Err x) ⊎ IsOfText s (Err x)
@@ -85,11 +85,11 @@ either : (c : CheckedGrammar) (s : WideTokenized) (answer : Result CheckedTree D
 either c s (Ok t) some h =
     inl (record { node = h.node; spelled = h.spelled; is = ap Ok h.is ∙ sym (ap (answer_by c h.node) h.none) })
 either c s (Err (fault.TooDeep at)) some h =
-    inr (record { told = written.TooDeep at; some = λ memory. cc; reads = h; is = refl })
+    inr (record { of_text = written.TooDeep at; some = λ memory. cc; reads = h; is = refl })
 either c s (Err (fault.TooManyNodes count)) some h =
-    inr (record { told = written.TooManyNodes count; some = λ memory. cc; reads = h; is = refl })
+    inr (record { of_text = written.TooManyNodes count; some = λ memory. cc; reads = h; is = refl })
 either c s (Err (fault.Syntax at)) some h =
-    inr (record { told = written.Syntax at; some = λ memory. cc; reads = h; is = refl })
+    inr (record { of_text = written.Syntax at; some = λ memory. cc; reads = h; is = refl })
 either c s (Err (fault.UnknownClass node name)) some h = of_nodes c s (fault.UnknownClass node name) h
 either c s (Err (fault.WrongInterface node class wanted)) some h =
     of_nodes c s (fault.WrongInterface node class wanted) h
@@ -117,9 +117,9 @@ abbrev as_read : WrittenDocumentFault → Result DocumentRows WrittenDocumentFau
 as_read x = Err x
 
 -- two faults of a text are one
-same_told : (s : WideTokenized) (a b : WrittenDocumentFault) → a ≢ written.OutOfMemory → b ≢ written.OutOfMemory
+same_of_text : (s : WideTokenized) (a b : WrittenDocumentFault) → a ≢ written.OutOfMemory → b ≢ written.OutOfMemory
     → ReadsDocument s (Err a) → ReadsDocument s (Err b) → a ≡ b
-same_told s a b some other h k =
+same_of_text s a b some other h k =
     let same : as_read a ≡ as_read b =
     any_two_answers s (as_read a) (as_read b) (λ memory. some (cc memory)) (λ memory. other (cc memory)) h k in
     cc same
@@ -135,10 +135,10 @@ any_two_trees c s answer other some other_some a b = by_kinds (either c s answer
         ∙ ap (λ (n : WrittenNode). answer_by c n (first_fault c.grammar n))
         (one_document (symbols_of s.tokenized) x.node y.node x.spelled.spells y.spelled.spells)
         ∙ sym y.is
-    by_kinds (inl x) (inr y) = absurd (no_fault s x.node y.told x.spelled y.some y.reads)
-    by_kinds (inr x) (inl y) = absurd (no_fault s y.node x.told y.spelled x.some x.reads)
+    by_kinds (inl x) (inr y) = absurd (no_fault s x.node y.of_text x.spelled y.some y.reads)
+    by_kinds (inr x) (inl y) = absurd (no_fault s y.node x.of_text y.spelled x.some x.reads)
     by_kinds (inr x) (inr y) =
         x.is
-        ∙ ap (λ f. Err (told_as f))
-        (same_told s x.told y.told x.some y.some x.reads y.reads)
+        ∙ ap (λ f. Err (as_document_fault f))
+        (same_of_text s x.of_text y.of_text x.some y.some x.reads y.reads)
         ∙ sym y.is

@@ -6,7 +6,7 @@ use Rattle.std.proofs.lemmas.List.{length-map}
 use Rattle.ftl_tokens.specs.scanner.Tokenized.{Tokenized, WideTokenized, symbol_of, symbols_of}
 use Rattle.ftl_tokens.specs.reading.Reader.{Tokens, ReadResult, and_then, pure, AreAtMost}
 use Rattle.ftl_tokens.specs.reading.Place.{place_of}
-use Rattle.ftl_tokens.proofs.reading.Told.{Taken, Tells, Grown}
+use Rattle.ftl_tokens.proofs.reading.KeptPrefix.{Taken, HasPrefix, Grown}
 use Rattle.ftl_tokens.proofs.reading.Alike.{left}
 use Rattle.ftl_tokens.proofs.reading.Places.{Placed, none_spelled, longest_front, is_place}
 use Rattle.ftl_tokens.proofs.reading.WholeLists.{ReadsAll, bind_reads_all, end_reads_all, same_value}
@@ -19,7 +19,7 @@ use Rattle.ftl_document.specs.syntax.Sizes.{RowIsWithin}
 use Rattle.ftl_document.proofs.syntax.Reading.{node, fields_to, document_to, document}
 use Rattle.ftl_document.specs.syntax.RowReading as by_rows
 use Rattle.ftl_document.proofs.syntax.Heights.{height, shallow_height}
-use Rattle.ftl_document.proofs.syntax.Told.{document_told}
+use Rattle.ftl_document.proofs.syntax.DocumentPrefix.{document_prefix}
 use Rattle.ftl_document.proofs.syntax.Went.{document_went}
 use Rattle.ftl_document.proofs.syntax.OneAhead.{document_alike}
 use Rattle.ftl_document.proofs.syntax.RowLemmas.{cut_document, document-rows}
@@ -44,7 +44,7 @@ unfolding document
 is_spelled tokens left x e =
     let none_left = document_reads_all.none_left tokens left x e in
     let taken : Taken SpellsNode tokens x left =
-    subst (λ o. Tells SpellsNode o tokens) e ((document_told 512).tells tokens) in
+    subst (λ o. HasPrefix SpellsNode o tokens) e ((document_prefix 512).keeps tokens) in
     let whole : tokens ≡ taken.front = taken.split ∙ ap (λ l. taken.front ++ l) none_left ∙ append-nil taken.front in
     subst (λ l. SpellsNode l x) (sym whole) taken.spells
 
@@ -134,7 +134,7 @@ is_no_document s rest kept at shallow few e count place =
     let tokens = symbols_of s in
     let read = refused tokens rest e in
     let grown : Grown SpellsNode tokens rest =
-    subst (λ o. Tells SpellsNode o tokens) read ((document_told 512).tells tokens) in
+    subst (λ o. HasPrefix SpellsNode o tokens) read ((document_prefix 512).keeps tokens) in
     let small = shallow_height 512 tokens shallow in
     record {
       shallow = shallow;

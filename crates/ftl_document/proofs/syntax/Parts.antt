@@ -3,7 +3,7 @@ use Rattle.std.proofs.Common.{◌≡◌, ℤ, [], ◌∷◌, ◌++◌, refl, sym
 use Rattle.ftl_tokens.specs.declared.scanner.kind.Kind.TheVariants as kind
 use Rattle.ftl_tokens.specs.scanner.Tokenized.{name, fixed}
 use Rattle.ftl_tokens.specs.reading.Reader.{Tokens}
-use Rattle.ftl_tokens.proofs.reading.ChainTold.{Chain, none, more}
+use Rattle.ftl_tokens.proofs.reading.ChainPrefix.{Chain, none, more}
 use Rattle.ftl_document.specs.syntax.Written.{NameText, WrittenFields, WrittenNode, WrittenNodes, no_fields, no_nodes}
 use Rattle.ftl_document.specs.syntax.Written.{number_field, node_field, list_field, node_and}
 use Rattle.ftl_document.specs.syntax.Spelling.{SpellsNumber, SpellsFields, SpellsNodes, SpellsNode, no_more, number_and}

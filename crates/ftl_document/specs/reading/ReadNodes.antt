@@ -13,11 +13,11 @@ use Rattle.ftl_tree.specs.rows.Rows.{AreNodesOf}
 use Rattle.ftl_document.specs.reading.ReadTree.{ReadsTree}
 
 -- a fault of the text as one of the document
-abbrev pub told_as : WrittenDocumentFault → DocFault
-told_as (written.TooDeep at) = fault.TooDeep at
-told_as (written.TooManyNodes count) = fault.TooManyNodes count
-told_as (written.Syntax at) = fault.Syntax at
-told_as written.OutOfMemory = fault.OutOfMemory
+abbrev pub as_document_fault : WrittenDocumentFault → DocFault
+as_document_fault (written.TooDeep at) = fault.TooDeep at
+as_document_fault (written.TooManyNodes count) = fault.TooManyNodes count
+as_document_fault (written.Syntax at) = fault.Syntax at
+as_document_fault written.OutOfMemory = fault.OutOfMemory
 
 -- the nodes are those of the tree that is the answer
 pub record AreNodesRead (c : CheckedGrammar) (scanned : WideTokenized) (read : DocumentNodes) : Type 0 where

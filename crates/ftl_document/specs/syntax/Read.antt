@@ -4,7 +4,7 @@ use Rattle.std.specs.Prelude.{◌≡◌, ℕ, ◌<◌, ◌≤◌, Result, Ok, Er
 use Rattle.std.specs.List.{All}
 use Rattle.ftl_tokens.specs.scanner.Tokenized.{Tokenized, WideTokenized, symbols_of}
 use Rattle.ftl_tokens.specs.reading.Depth.{count_of, IsShallow, IsTooDeepAt}
-use Rattle.ftl_tokens.specs.reading.Place.{IsPlaceOf}
+use Rattle.ftl_tokens.specs.reading.Place.{IsFaultPlace}
 use Rattle.ftl_document.specs.declared.syntax.fault.WrittenDocumentFault.{WrittenDocumentFault}
 use Rattle.ftl_document.specs.declared.syntax.fault.WrittenDocumentFault.TheVariants.{TooDeep, TooManyNodes, Syntax}
 use Rattle.ftl_document.specs.declared.syntax.fault.WrittenDocumentFault.TheVariants.{OutOfMemory}
@@ -53,7 +53,7 @@ pub record IsNoDocument (scanned : Tokenized) (at : ℕ) : Type 0 where
   pub shallow : IsNotTooDeep scanned
   pub few : opened_in scanned ≤ most_nodes
   pub none : (node : WrittenNode) → SpellsNode (symbols_of scanned) node → ⊥
-  pub place : IsPlaceOf SpellsNode scanned at
+  pub place : IsFaultPlace SpellsNode scanned at
 
 -- a document is the one that the tokens spell, and a fault is the first, with its place or count
 abbrev pub ReadsDocument : WideTokenized → Result DocumentRows WrittenDocumentFault → Type 0

@@ -3,7 +3,7 @@
 ghost use Rattle.std.specs.Prelude.{◌≡◌};
 ghost use Rattle.ftl_document.specs.declared.faults.fault.DocFault.TheVariants.{OutOfMemory};
 
-use ftl_tokens::scanner::Name;
+use ftl_tokens::Name;
 use std::alloc::{AllocError, AllocFailed};
 
 /// The first fault of a document. Nodes are numbered from 0 in preorder.

@@ -4,8 +4,8 @@ ghost use Rattle.ftl_document.specs.fields.Placed.{FindsClass};
 
 use crate::faults::DocFault;
 use crate::syntax::NameRef;
-use ftl_checked::grammars::Checked;
-use ftl_tokens::scanner::Name;
+use ftl_checked::Checked;
+use ftl_tokens::Name;
 use std::alloc::Global;
 
 /// The number of a node's class, where the class is known and of the interface that is wanted.

@@ -6,10 +6,9 @@ ghost use Rattle.ftl_meaning.specs.faults.Numbering.{class_at, interface_at, int
 ghost use Rattle.ftl_document.specs.faults.FirstFault.{input_names, needed_names};
 ghost use Rattle.ftl_document.specs.fields.OwnFields.{names_of_inputs};
 
-use ftl_checked::grammars::Checked;
-use ftl_checked::names::NameTable;
-use ftl_grammar::syntax::{AttrDecl, AttrKind, Child, Class, Grammar};
-use ftl_tokens::scanner::Name;
+use ftl_checked::{Checked, NameTable};
+use ftl_grammar::{AttrDecl, AttrKind, Child, Class, Grammar};
+use ftl_tokens::Name;
 use sqlite_items::Items;
 use std::alloc::{AllocError, Global};
 

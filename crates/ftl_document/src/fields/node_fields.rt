@@ -19,8 +19,8 @@ ghost use Rattle.std.specs.Option.{is_none};
 use crate::faults::DocFault;
 use crate::fields::class_table::ClassFields;
 use crate::fields::own_field::{FieldValue, OwnField};
-use ftl_checked::grammars::Checked;
-use ftl_tokens::scanner::Name;
+use ftl_checked::Checked;
+use ftl_tokens::Name;
 use std::alloc::{AllocError, Global};
 
 /// A node whose class is known.

@@ -14,8 +14,8 @@ use crate::nodes::class_tables::class_tables;
 use crate::nodes::progress::Progress;
 use crate::nodes::walk::Walk;
 use crate::syntax::WrittenDocument;
-use ftl_checked::grammars::Checked;
-use ftl_tree::rows::NodeRow;
+use ftl_checked::Checked;
+use ftl_tree::NodeRow;
 use std::alloc::Global;
 
 /// How many attributes all nodes may have.

@@ -6,8 +6,8 @@ ghost use Rattle.ftl_meaning.specs.faults.Numbering.{class_at, class_attributes,
 ghost use Rattle.ftl_document.specs.nodes.Tables.{AreTables, IsTableOf};
 
 use crate::fields::{ClassFields, class_fields};
-use ftl_checked::grammars::Checked;
-use ftl_grammar::syntax::Grammar;
+use ftl_checked::Checked;
+use ftl_grammar::Grammar;
 use std::alloc::{AllocError, Global};
 
 /// The names of a class's fields, and how many attributes the class has.

@@ -6,7 +6,7 @@ ghost use Rattle.ftl_document.specs.nodes.Steps.{HasEntered, HasPassed, IsFirst,
 
 use crate::nodes::stack::{Region, Stack};
 use crate::syntax::NameRef;
-use ftl_tree::rows::{NodeRow, Place};
+use ftl_tree::{NodeRow, Place};
 use std::alloc::{AllocError, Global};
 
 /// The regions that a walk stands in, the next row, the number of the next node, and of the nodes

@@ -15,9 +15,9 @@ use crate::nodes::entering::Scratch;
 use crate::nodes::progress::{NextNode, Progress};
 use crate::nodes::stack::Region;
 use crate::syntax::{NameRef, WrittenRow};
-use ftl_checked::grammars::Checked;
-use ftl_meaning::faults::Field;
-use ftl_tree::rows::Place;
+use ftl_checked::Checked;
+use ftl_meaning::Field;
+use ftl_tree::Place;
 use std::alloc::Global;
 
 /// What a walk goes over.

@@ -2,15 +2,15 @@
 
 ghost use Rattle.std.specs.Prelude.{◌≡◌};
 ghost use Rattle.ftl_base.specs.Widths.{greatest_of_width};
-ghost use Rattle.ftl_document.specs.reading.ReadNodes.{ReadsNodes, told_as};
+ghost use Rattle.ftl_document.specs.reading.ReadNodes.{ReadsNodes, as_document_fault};
 ghost use Rattle.ftl_document.specs.reading.ReadTree.{ReadsTree};
 
 use crate::faults::DocFault;
 use crate::nodes::{DocumentNodes, document_nodes};
 use crate::syntax::{WrittenDocumentFault, read_written_document};
-use ftl_checked::grammars::Checked;
-use ftl_tokens::scanner::WideScanned;
-use ftl_tree::trees::Tree;
+use ftl_checked::Checked;
+use ftl_tokens::WideScanned;
+use ftl_tree::Tree;
 use std::alloc::Global;
 
 /// The tree of a document whose text was scanned in the grammar's width.
@@ -38,13 +38,13 @@ fn read_nodes(
 {
     match read_written_document(alloc, scanned) {
         Ok(document) => document_nodes(alloc, checked, &document),
-        Err(fault) => Err(told(fault)),
+        Err(fault) => Err(as_document_fault(fault)),
     }
 }
 
 /// A fault of the text as one of the document.
-fn told(fault: WrittenDocumentFault) -> DocFault
-    ensures told { result ≡ told_as fault }
+fn as_document_fault(fault: WrittenDocumentFault) -> DocFault
+    ensures fault { result ≡ as_document_fault fault }
 {
     match fault {
         WrittenDocumentFault::TooDeep { at } => DocFault::TooDeep { at },

@@ -4,12 +4,11 @@ ghost use Rattle.std.specs.Prelude.{◌≡◌, ◌≤◌, length, count_by};
 ghost use Rattle.ftl_tokens.specs.reading.Reader.{same_kind};
 ghost use Rattle.ftl_document.specs.syntax.Read.{opened_in};
 
-use ftl_tokens::reading::place_in;
-use ftl_tokens::scanner::{Kind, Token, WideScanned};
+use ftl_tokens::{Kind, Token, WideScanned, place_in};
 
 /// How many tokens there are. Each has a byte, and bytes are counted in 32 bits.
 pub(crate) fn token_count(scanned: &WideScanned) -> u32
-    ensures { result ≡ length scanned.now.tokenized.tokens }
+    ensures count { result ≡ length scanned.now.tokenized.tokens }
 {
     let end = place_in(scanned.tokenized(), 0);
     scanned.list().len().min(end as usize) as u32
@@ -17,8 +16,8 @@ pub(crate) fn token_count(scanned: &WideScanned) -> u32
 
 /// How many marks `{` there are.
 pub(crate) fn node_count(scanned: &WideScanned) -> u32
-    requires { length scanned.now.tokenized.tokens ≤ 4294967295 }
-    ensures { result ≡ opened_in scanned.now.tokenized }
+    requires few { length scanned.now.tokenized.tokens ≤ 4294967295 }
+    ensures count { result ≡ opened_in scanned.now.tokenized }
 {
     opening_count(scanned.list()) as u32
 }

@@ -6,7 +6,7 @@ ghost use Rattle.ftl_document.specs.syntax.RowReading.{Pushes};
 
 use crate::syntax::nested::Nested;
 use crate::syntax::row::WrittenRow;
-use ftl_tokens::reading::{ReadFault, WideInput};
+use ftl_tokens::{ReadFault, WideInput};
 
 /// The fields of a node in which fewer braces than `depth` stand in one another.
 #[cycle(nested)]

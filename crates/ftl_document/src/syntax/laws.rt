@@ -3,7 +3,7 @@
 ghost use Rattle.std.specs.Prelude.{◌≡◌, ◌≢◌, ◌≤◌, ℕ, length, Result, Err};
 ghost use Rattle.ftl_tokens.specs.scanner.Tokenized.{Tokenized, WideTokenized, symbols_of};
 ghost use Rattle.ftl_tokens.specs.reading.Reader.{Tokens, AreAtMost};
-ghost use Rattle.ftl_tokens.specs.reading.Place.{IsPlaceOf};
+ghost use Rattle.ftl_tokens.specs.reading.Place.{IsFaultPlace};
 ghost use Rattle.ftl_document.specs.syntax.Written.{WrittenNode};
 ghost use Rattle.ftl_document.specs.syntax.Spelling.{SpellsNode};
 ghost use Rattle.ftl_document.specs.syntax.Rows.{DocumentRows};
@@ -17,8 +17,8 @@ pub fn one_written_document()
 
 /// A law: the tokens of a text go wrong at one byte at most.
 pub fn one_place()
-    ensures same { (scanned : Tokenized) (at other : ℕ) → IsPlaceOf SpellsNode scanned at
-        → IsPlaceOf SpellsNode scanned other → at ≡ other }
+    ensures same { (scanned : Tokenized) (at other : ℕ) → IsFaultPlace SpellsNode scanned at
+        → IsFaultPlace SpellsNode scanned other → at ≡ other }
 {}
 
 /// A law: each text has one answer, want of memory aside. Its tokens are as many as 32 bits count,

@@ -8,8 +8,7 @@ ghost use Rattle.ftl_document.specs.syntax.Nests.{IsNested};
 
 use crate::syntax::name_ref::NameRef;
 use crate::syntax::row::WrittenRow;
-use ftl_tokens::reading::{ReadFault, WideInput};
-use ftl_tokens::scanner::Kind;
+use ftl_tokens::{Kind, ReadFault, WideInput};
 
 /// What reads the fields in the braces of a node.
 #[derive(Clone, Copy)]
@@ -29,7 +28,7 @@ impl<
         rows: &mut Vec<WrittenRow<'a>>,
         input: &mut WideInput<'a>,
     ) -> Result<(), ReadFault>
-        requires { IsNested F.Fn self.now }
+        requires nested { IsNested F.Fn self.now }
         ensures reads { Pushes (spec.braces (spec.fields_to self.now.depth) rows.old.items
             input.old) result rows.new.items input.new }
         ensures grows { length rows.old.items ≤ length rows.new.items }
@@ -47,7 +46,7 @@ impl<
         rows: &mut Vec<WrittenRow<'a>>,
         input: &mut WideInput<'a>,
     ) -> Result<(), ReadFault>
-        requires { IsNested F.Fn self.now }
+        requires nested { IsNested F.Fn self.now }
         ensures reads { Pushes (spec.kid (spec.fields_to self.now.depth) rows.old.items
             input.old) result rows.new.items input.new }
         ensures grows { length rows.old.items ≤ length rows.new.items }
@@ -74,7 +73,7 @@ impl<
         input: &mut WideInput<'a>,
         name: &'a str,
     ) -> Result<(), ReadFault>
-        requires { IsNested F.Fn self.now }
+        requires nested { IsNested F.Fn self.now }
         ensures reads { Pushes (spec.single (spec.fields_to self.now.depth) name.now rows.old.items
             input.old) result rows.new.items input.new }
         ensures grows { length rows.old.items ≤ length rows.new.items }
@@ -100,7 +99,7 @@ impl<
         rows: &mut Vec<WrittenRow<'a>>,
         input: &mut WideInput<'a>,
     ) -> Result<(), ReadFault>
-        requires { IsNested F.Fn self.now }
+        requires nested { IsNested F.Fn self.now }
         ensures reads { Pushes (rounds_of (spec.kid (spec.fields_to self.now.depth)) rows.old.items
             input.old) result rows.new.items input.new }
         ensures grows { length rows.old.items ≤ length rows.new.items }
@@ -122,7 +121,7 @@ impl<
         input: &mut WideInput<'a>,
         name: &'a str,
     ) -> Result<(), ReadFault>
-        requires { IsNested F.Fn self.now }
+        requires nested { IsNested F.Fn self.now }
         ensures reads { Pushes (spec.list (spec.fields_to self.now.depth) name.now rows.old.items
             input.old) result rows.new.items input.new }
         ensures grows { length rows.old.items ≤ length rows.new.items }
@@ -149,7 +148,7 @@ impl<
         input: &mut WideInput<'a>,
         name: &'a str,
     ) -> Result<(), ReadFault>
-        requires { IsNested F.Fn self.now }
+        requires nested { IsNested F.Fn self.now }
         ensures reads { Pushes (spec.value (spec.fields_to self.now.depth) name.now rows.old.items
             input.old) result rows.new.items input.new }
         ensures grows { length rows.old.items ≤ length rows.new.items }
@@ -186,7 +185,7 @@ impl<
         rows: &mut Vec<WrittenRow<'a>>,
         input: &mut WideInput<'a>,
     ) -> Result<(), ReadFault>
-        requires { IsNested F.Fn self.now }
+        requires nested { IsNested F.Fn self.now }
         ensures reads { Pushes (spec.field (spec.fields_to self.now.depth) rows.old.items
             input.old) result rows.new.items input.new }
         ensures grows { length rows.old.items ≤ length rows.new.items }
@@ -202,7 +201,7 @@ impl<
         rows: &mut Vec<WrittenRow<'a>>,
         input: &mut WideInput<'a>,
     ) -> Result<(), ReadFault>
-        requires { IsNested F.Fn self.now }
+        requires nested { IsNested F.Fn self.now }
         ensures reads { Pushes (rounds_of (spec.field (spec.fields_to self.now.depth))
             rows.old.items input.old) result rows.new.items input.new }
         ensures grows { length rows.old.items ≤ length rows.new.items }
@@ -219,8 +218,8 @@ impl<
 
 // How many rows there are behind this one. They are no more than tokens, whose count 32 bits hold.
 fn below(rows: &[WrittenRow<'_>], at: usize) -> u32
-    requires { at < length rows.now }
-    ensures { result ≡ below rows.now at }
+    requires at { at < length rows.now }
+    ensures count { result ≡ below rows.now at }
 {
     (rows.len() - (at + 1)).min(u32::MAX as usize) as u32
 }

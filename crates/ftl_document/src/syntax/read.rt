@@ -10,8 +10,7 @@ use crate::syntax::document::WrittenDocument;
 use crate::syntax::fault::WrittenDocumentFault;
 use crate::syntax::name_ref::NameRef;
 use crate::syntax::nested::Nested;
-use ftl_tokens::reading::{ReadFault, WideInput, first_too_deep_in, place_in};
-use ftl_tokens::scanner::{Kind, WideScanned};
+use ftl_tokens::{Kind, ReadFault, WideInput, WideScanned, first_too_deep_in, place_in};
 use std::alloc::Global;
 
 const OPENING: [Kind; 1] = [Kind::LeftBrace];
@@ -57,7 +56,7 @@ fn document<'a>(
     input: &mut WideInput<'a>,
     room: usize,
 ) -> Result<WrittenDocument<'a>, ReadFault>
-    ensures { Reads (spec.document input.old) result input.new }
+    ensures reads { Reads (spec.document input.old) result input.new }
 {
     let class = input.name_text()?;
     let mut rows = Vec::with_capacity(alloc, room)?;

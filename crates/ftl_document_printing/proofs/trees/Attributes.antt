@@ -33,7 +33,7 @@ use Rattle.ftl_tokens.specs.writing.Written.{Written, text_of, written_bytes}
 use Rattle.ftl_document_printing.specs.trees.Left.{IsAttributeTable, attribute_written, input_written, number_in}
 use Rattle.ftl_document_printing.proofs.trees.Turns.{two_texts}
 
--- ---- what is told of an attribute is how it is declared
+-- ---- what is known of an attribute is how it is declared
 
 abbrev decl_of : Declared → AttrDecl
 decl_of a = a.decl
@@ -67,8 +67,8 @@ decls g =
     (flat_map (λ k. map (declared true k.0) k.1.attrs) (numbered 0 g.classes))
     ∙ ap₂ (λ a b. a ++ b) (of_interfaces 0 g.interfaces) (of_classes 0 g.classes)
 
-pub told_is : (g : Grammar) (a : ℕ) → a < length (all_attributes g) → (attribute_at g a).decl ≡ declaration_at g a
-told_is g a within =
+pub declared_is : (g : Grammar) (a : ℕ) → a < length (all_attributes g) → (attribute_at g a).decl ≡ declaration_at g a
+declared_is g a within =
     sym
     (get_or-map decl_of (all_attributes g) a (declared false 0 (trees.attr_decl kinds.Inh []))
     (trees.attr_decl kinds.Input []) within)
@@ -87,14 +87,14 @@ attribute_there c faultless k a known has =
     (Contains-append_cases (m.shared (m.interface k)) (m.private k) a has) in
     omega (arith, below, attribute_count_is c.grammar)
 
--- what is told of its kind
+-- what is known of its kind
 pub kind_is : (t : CheckedTree) (a : ℕ) (told : AttrInfo) (d : CheckedGrammar) → d ≡ t.checked
     → told ≡ attribute_info d.grammar (attribute_at d.grammar a) → a < length (all_attributes t.checked.grammar)
     → told.kind ≡ (declaration_at t.checked.grammar a).kind
 kind_is t a told d same is within =
     ap (λ (i : AttrInfo). i.kind) is
     ∙ ap (λ (c : CheckedGrammar). (attribute_at c.grammar a).decl.kind) same
-    ∙ ap (λ (x : AttrDecl). x.kind) (told_is t.checked.grammar a within)
+    ∙ ap (λ (x : AttrDecl). x.kind) (declared_is t.checked.grammar a within)
 
 -- ---- its field
 

@@ -19,12 +19,15 @@ use Rattle.ftl_tokens.specs.declared.scanner.kind.Kind.TheVariants as kind
 use Rattle.ftl_tree.specs.trees.CheckedTree.{CheckedTree}
 use Rattle.ftl_tree.specs.rows.KidRuns.{IsChildOf}
 use Rattle.ftl_tokens.specs.writing.Written.{Written, text_of, written, written_bytes}
-use Rattle.ftl_document_printing.specs.declared.trees.spot.Spot.{Spot}
-use Rattle.ftl_document_printing.specs.declared.trees.spot.Spot.TheVariants as spots
-use Rattle.ftl_document_printing.specs.trees.Left.{Goes, HasParent, IsBehind, IsSpot, after, class_in, entered, from_child}
+use Rattle.ftl_document_printing.specs.declared.trees.writer_place.WriterPlace.{WriterPlace}
+use Rattle.ftl_document_printing.specs.declared.trees.writer_place.WriterPlace.TheVariants as places
+use Rattle.ftl_document_printing.specs.trees.Left.{Goes, HasParent, IsBehind, IsWriterPlace, after, class_in, entered}
+use Rattle.ftl_document_printing.specs.trees.Left.{from_child}
 use Rattle.ftl_document_printing.specs.trees.Left.{from_kid_on, inputs_written, is_many, left, left_from, node_of}
-use Rattle.ftl_document_printing.proofs.trees.Spots.{child_known, fields_ended, has_node, kid_entered, kid_few, kid_there}
-use Rattle.ftl_document_printing.proofs.trees.Spots.{list_ended, list_opened, node_again, number_within, one_kid, single_entered}
+use Rattle.ftl_document_printing.proofs.trees.WriterPlaces.{child_known, fields_ended, has_node, kid_entered, kid_few}
+use Rattle.ftl_document_printing.proofs.trees.WriterPlaces.{kid_there}
+use Rattle.ftl_document_printing.proofs.trees.WriterPlaces.{list_ended, list_opened, node_again, number_within, one_kid}
+use Rattle.ftl_document_printing.proofs.trees.WriterPlaces.{single_entered}
 
 -- two texts, one after the other
 pub two_texts : (out mid new : List ℕ) (xs ys : List Written) → mid ≡ out ++ text_of xs → new ≡ mid ++ text_of ys
@@ -34,14 +37,14 @@ two_texts out mid new xs ys first later =
     ∙ ap (λ l. out ++ l) (sym (flat_map-append written_bytes xs ys))
 
 -- tokens in front of a turn
-pub in_front : (t : CheckedTree) (out mid new : List ℕ) (xs before rest : List Written) (next : Option Spot)
+pub in_front : (t : CheckedTree) (out mid new : List ℕ) (xs before rest : List Written) (next : Option WriterPlace)
     → mid ≡ out ++ text_of xs → before ≡ xs ++ rest → Goes t mid new rest next → Goes t out new before next
 in_front t out mid new xs before rest next first split goes = record {
   tokens = xs ++ goes.tokens;
   some = omega (arith, goes.some, length-append xs goes.tokens);
   text = two_texts out mid new xs goes.tokens first goes.text;
   rest = split ∙ ap (λ l. xs ++ l) goes.rest ∙ sym (append_assoc xs goes.tokens (left t next));
-  spot = goes.spot;
+  writer_place = goes.writer_place;
 }
 
 -- what is known behind a kid
@@ -89,7 +92,7 @@ facts t is n parent small h =
 pub entering : (t : CheckedTree) (n : ℕ) (name : NameText) (out mid new : List ℕ) → n < size t.tree
     → name ≡ (class_at t.checked.grammar (class_in t (node_of t n))).name
     → mid ≡ out ++ text_of (node_opened name) → new ≡ mid ++ text_of (inputs_written t (node_of t n))
-    → Goes t out new (entered t (node_of t n)) (Some (spots.Field n 0))
+    → Goes t out new (entered t (node_of t n)) (Some (places.Field n 0))
 entering t n name out mid new within named first later =
     let p = node_of t n in
     let opened = node_opened (class_at t.checked.grammar (class_in t p)).name in
@@ -99,7 +102,7 @@ entering t n name out mid new within named first later =
       text = two_texts out mid new opened (inputs_written t p) (first
           ∙ ap (λ x. out ++ text_of (node_opened x)) named) later;
       rest = sym (append_assoc opened (inputs_written t p) (from_child t p 0));
-      spot = within;
+      writer_place = within;
     }
 
 -- the end of the root
@@ -115,7 +118,7 @@ root_closing t is faultless n c out new none past text =
       some = omega arith;
       text = text ∙ ap (λ l. out ++ l) (sym (append-nil (written_bytes last)));
       rest = fields_ended t is faultless (node_of t n) c past ∙ at_top (node_of t n) none;
-      spot = tt;
+      writer_place = tt;
     }
   where
     at_top : (p : Path) → parent_of p ≡ None → after t p ≡ written (fixed kind.RightBrace) (codes "\n") ∷ []
@@ -124,18 +127,18 @@ root_closing t is faultless n c out new none past text =
 
 -- the end of another node
 pub kid_closing : (t : CheckedTree) → IsTreeOf (meant t.checked) t.tree → IsFaultless t.checked.grammar
-    → (n parent c : ℕ) (s : Spot) (out new : List ℕ) → HasParent t n parent
+    → (n parent c : ℕ) (s : WriterPlace) (out new : List ℕ) → HasParent t n parent
     → length (class_at t.checked.grammar (class_in t (node_of t n))).children ≤ c
     → new ≡ out ++ text_of (mark_written kind.RightBrace ∷ [])
-    → IsBehind t (node_of t n) (left_from t s) → IsSpot t s
+    → IsBehind t (node_of t n) (left_from t s) → IsWriterPlace t s
     → Goes t out new (from_child t (node_of t n) c) (Some s)
-kid_closing t is faultless n parent c s out new h past text behind spot = record {
+kid_closing t is faultless n parent c s out new h past text behind writer_place = record {
   tokens = mark_written kind.RightBrace ∷ [];
   some = omega arith;
   text = text;
   rest = fields_ended t is faultless (node_of t n) c past ∙ ap (after t) h.is
       ∙ ap (λ l. mark_written kind.RightBrace ∷ l) (subst (λ p. IsBehind t p (left_from t s)) h.is behind);
-  spot = spot;
+  writer_place = writer_place;
 }
 
 -- a node with a parent
@@ -159,7 +162,7 @@ pub opening_list : (t : CheckedTree) → IsTreeOf (meant t.checked) t.tree → I
     → is_many t (node_of t n) c ≡ true
     → name ≡ (child_in t.checked.grammar (class_in t (node_of t n)) c).name
     → mid ≡ out ++ text_of (field_opened name) → new ≡ mid ++ text_of (mark_written kind.LeftBracket ∷ [])
-    → Goes t out new (from_child t (node_of t n) c) (Some (spots.Kid n c 0))
+    → Goes t out new (from_child t (node_of t n) c) (Some (places.Kid n c 0))
 opening_list t is faultless n c name out mid new at many named first later =
     let p = node_of t n in
     let opened = field_opened (child_in t.checked.grammar (class_in t p) c).name in
@@ -170,12 +173,12 @@ opening_list t is faultless n c name out mid new at many named first later =
           (first ∙ ap (λ x. out ++ text_of (field_opened x)) named) later;
       rest = list_opened t is faultless p c at.declared many
           ∙ sym (append_assoc opened (mark_written kind.LeftBracket ∷ []) (from_kid_on t p c 0));
-      spot = (at, many);
+      writer_place = (at, many);
     }
 
 -- a single child, whose kid is entered
 pub opening_single : (t : CheckedTree) → IsTreeOf (meant t.checked) t.tree → IsFaultless t.checked.grammar
-    → (n c kid : ℕ) (name : NameText) (out mid new : List ℕ) (next : Option Spot)
+    → (n c kid : ℕ) (name : NameText) (out mid new : List ℕ) (next : Option WriterPlace)
     → IsChildOf (meant t.checked) t.tree n c
     → is_many t (node_of t n) c ≡ false
     → name ≡ (child_in t.checked.grammar (class_in t (node_of t n)) c).name
@@ -195,7 +198,7 @@ opening_single t is faultless n c kid name out mid new next at single named numb
 
 -- a node of a list, which is entered
 pub kid_entering : (t : CheckedTree) → IsTreeOf (meant t.checked) t.tree → IsFaultless t.checked.grammar
-    → (n c k kid : ℕ) (out new : List ℕ) (next : Option Spot) → is_many t (node_of t n) c ≡ true
+    → (n c k kid : ℕ) (out new : List ℕ) (next : Option WriterPlace) → is_many t (node_of t n) c ≡ true
     → k < kids_at t.tree (node_of t n) c → kid ≡ number_of t.tree (down c k (node_of t n))
     → Goes t out new (entered t (node_of t kid)) next → Goes t out new (from_kid_on t (node_of t n) c k) next
 kid_entering t is faultless n c k kid out new next many few number goes =
@@ -209,25 +212,25 @@ kid_entering t is faultless n c k kid out new next many few number goes =
 pub list_closing : (t : CheckedTree) → IsTreeOf (meant t.checked) t.tree → IsFaultless t.checked.grammar
     → (n c d k : ℕ) (out new : List ℕ) → n < size t.tree → d ≡ suc c → kids_at t.tree (node_of t n) c ≤ k
     → new ≡ out ++ text_of (mark_written kind.RightBracket ∷ [])
-    → Goes t out new (from_kid_on t (node_of t n) c k) (Some (spots.Field n d))
+    → Goes t out new (from_kid_on t (node_of t n) c k) (Some (places.Field n d))
 list_closing t is faultless n c d k out new within next past text = record {
   tokens = mark_written kind.RightBracket ∷ [];
   some = omega arith;
   text = text;
   rest = list_ended t is faultless (node_of t n) c k past
       ∙ ap (λ m. mark_written kind.RightBracket ∷ from_child t (node_of t n) m) (sym next);
-  spot = within;
+  writer_place = within;
 }
 
 -- what was written and what is left are the whole
-pub goes_on : (t : CheckedTree) (out new : List ℕ) (before : List Written) (next : Option Spot)
+pub goes_on : (t : CheckedTree) (out new : List ℕ) (before : List Written) (next : Option WriterPlace)
     → Goes t out new before next → new ++ text_of (left t next) ≡ out ++ text_of before
 goes_on t out new before next goes =
     two_texts out new (new ++ text_of (left t next)) goes.tokens (left t next) goes.text refl
     ∙ ap (λ l. out ++ text_of l) (sym goes.rest)
 
 -- less is left than before
-pub goes_down : (t : CheckedTree) (out new : List ℕ) (before : List Written) (next : Option Spot)
+pub goes_down : (t : CheckedTree) (out new : List ℕ) (before : List Written) (next : Option WriterPlace)
     → Goes t out new before next → length (left t next) < length before
 goes_down t out new before next goes =
     omega (arith, goes.some, ap length goes.rest, length-append goes.tokens (left t next))

@@ -18,8 +18,8 @@ use Rattle.ftl_tokens.specs.declared.scanner.kind.Kind.TheVariants as kind
 use Rattle.ftl_tree.specs.trees.CheckedTree.{CheckedTree}
 use Rattle.ftl_tree.specs.rows.KidRuns.{IsChildOf}
 use Rattle.ftl_tokens.specs.writing.Written.{Written, text_of, written}
-use Rattle.ftl_document_printing.specs.declared.trees.spot.Spot.{Spot}
-use Rattle.ftl_document_printing.specs.declared.trees.spot.Spot.TheVariants as spots
+use Rattle.ftl_document_printing.specs.declared.trees.writer_place.WriterPlace.{WriterPlace}
+use Rattle.ftl_document_printing.specs.declared.trees.writer_place.WriterPlace.TheVariants as places
 
 -- the class of a node
 abbrev pub class_in : CheckedTree → Path → ℕ
@@ -88,27 +88,27 @@ abbrev pub node_of : CheckedTree → (node : ℕ) → Path
 node_of t n = node_at t.tree n
 
 -- from where the writer stands on
-abbrev pub left_from : CheckedTree → Spot → List Written
-left_from t (spots.Field n c) = from_child t (node_of t n) c
-left_from t (spots.Kid n c k) = from_kid_on t (node_of t n) c k
+abbrev pub left_from : CheckedTree → WriterPlace → List Written
+left_from t (places.Field n c) = from_child t (node_of t n) c
+left_from t (places.Kid n c k) = from_kid_on t (node_of t n) c k
 
-abbrev pub left : CheckedTree → Option Spot → List Written
+abbrev pub left : CheckedTree → Option WriterPlace → List Written
 left t None = []
 left t (Some s) = left_from t s
 
 -- the writer stands at a node, and at a list where it stands in one
-abbrev pub IsSpot : CheckedTree → Spot → Type 0
-IsSpot t (spots.Field n c) = n < size t.tree
-IsSpot t (spots.Kid n c k) =
+abbrev pub IsWriterPlace : CheckedTree → WriterPlace → Type 0
+IsWriterPlace t (places.Field n c) = n < size t.tree
+IsWriterPlace t (places.Kid n c k) =
     IsChildOf (meant t.checked) t.tree n c × (is_many t (node_of t n) c ≡ true)
 
--- tokens were written, at least one, and this is left behind them, at a spot in the tree
-pub record Goes (t : CheckedTree) (out new : List ℕ) (before : List Written) (next : Option Spot) : Type 0 where
+-- tokens were written, at least one, and this is left behind them, at a place in the tree
+pub record Goes (t : CheckedTree) (out new : List ℕ) (before : List Written) (next : Option WriterPlace) : Type 0 where
   pub tokens : List Written
   pub some : 0 < length tokens
   pub text : new ≡ out ++ text_of tokens
   pub rest : before ≡ tokens ++ left t next
-  pub spot : IfSome next (IsSpot t)
+  pub writer_place : IfSome next (IsWriterPlace t)
 
 -- the attributes of each class, by number
 abbrev pub IsAttributeTable : CheckedTree → List (List ℕ) → Type 0

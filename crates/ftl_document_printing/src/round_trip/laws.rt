@@ -3,7 +3,7 @@
 ghost use Rattle.ftl_document_printing.specs.round_trip.ReadBack.{PrintedAreReadBack};
 
 use crate::text::{canonical_documents, shallow_documents};
-use ftl_document::faults::{faultless_documents_are_trees, trees_are_written};
+use ftl_document::{faultless_documents_are_trees, trees_are_written};
 
 /// A law: what is read of a tree's canonical text is the tree.
 pub fn printed_documents()

@@ -6,8 +6,7 @@ ghost use Rattle.ftl_document_printing.specs.text.DocumentText.{node_opened};
 ghost use Rattle.ftl_document_printing.specs.text.DocumentText.{number_written};
 ghost use Rattle.ftl_tokens.specs.writing.Written.{text_of};
 
-use ftl_tokens::scanner::{Kind, Name};
-use ftl_tokens::writing::{write_fixed, write_name, write_number};
+use ftl_tokens::{Kind, Name, write_fixed, write_name, write_number};
 use std::alloc::AllocError;
 
 /// Writes the name of a field and `=`.

@@ -13,8 +13,8 @@ ghost use Rattle.ftl_meaning.specs.lawful.Faultless.{IsFaultless};
 ghost use Rattle.ftl_tokens.specs.writing.Written.{text_of};
 
 use crate::text::{write_field, write_integer};
-use ftl_grammar::syntax::AttrKind;
-use ftl_tree::trees::Tree;
+use ftl_grammar::AttrKind;
+use ftl_tree::Tree;
 use sqlite_items::Items;
 use std::alloc::AllocError;
 

@@ -1,10 +1,11 @@
-//! The printer of trees, which goes from spot to spot.
+//! The printer of trees, which goes from place to place.
 
 ghost use Rattle.std.specs.Prelude.{◌≡◌, ◌++◌, ◌<◌, ◌≤◌, true, string_bytes, length, IfOk, OnOk};
 ghost use Rattle.ftl_deps.specs.reads.Meant.{meant};
 ghost use Rattle.ftl_document_printing.specs.trees.Left.{Goes, HasParent, IsAttributeTable};
 ghost use Rattle.ftl_document_printing.specs.trees.Left.{IsBehind};
-ghost use Rattle.ftl_document_printing.specs.trees.Left.{IsSpot, class_in, entered, from_child};
+ghost use Rattle.ftl_document_printing.specs.trees.Left.{IsWriterPlace, class_in, entered};
+ghost use Rattle.ftl_document_printing.specs.trees.Left.{from_child};
 ghost use Rattle.ftl_document_printing.specs.trees.Left.{from_kid_on};
 ghost use Rattle.ftl_document_printing.specs.trees.Left.{is_many, left_from, node_of};
 ghost use Rattle.ftl_document.specs.faults.WrittenOf.{written_of};
@@ -15,12 +16,11 @@ ghost use Rattle.ftl_tree.specs.rows.KidRuns.{IsChildOf};
 
 use crate::text::{write_field, write_mark, write_open};
 use crate::trees::inputs::{tree_is_lawful, write_inputs};
-use crate::trees::spot::Spot;
-use ftl_checked::grammars::Checked;
-use ftl_tokens::scanner::{Kind, Name};
-use ftl_tokens::writing::write_fixed;
-use ftl_tree::trees::Tree;
-use ftl_visit::rule_tables::class_attributes;
+use crate::trees::writer_place::WriterPlace;
+use ftl_checked::Checked;
+use ftl_tokens::{Kind, Name, write_fixed};
+use ftl_tree::Tree;
+use ftl_visit::class_attributes;
 use sqlite_items::Items;
 use std::alloc::{AllocError, Global};
 
@@ -42,33 +42,33 @@ fn write_nodes(out: &mut String, tree: &Tree, attrs: &[Items<u32>]) -> Result<()
 {
     tree_is_lawful(tree);
     let mut next = enter(out, tree, attrs, 0)?;
-    while let Some(spot) = next {
-        next = step(out, tree, attrs, spot)?;
+    while let Some(writer_place) = next {
+        next = step(out, tree, attrs, writer_place)?;
     }
     Ok(())
 }
 
-/// Writes what comes next at a spot.
+/// Writes what comes next at a place.
 fn step(
     out: &mut String,
     tree: &Tree,
     attrs: &[Items<u32>],
-    spot: Spot,
-) -> Result<Option<Spot>, AllocError>
+    writer_place: WriterPlace,
+) -> Result<Option<WriterPlace>, AllocError>
     requires attrs { IsAttributeTable tree.now attrs.now }
-    requires spot { IsSpot tree.now spot }
+    requires writer_place { IsWriterPlace tree.now writer_place }
     ensures goes { IfOk result (Goes tree.now (string_bytes out.old) (string_bytes out.new)
-        (left_from tree.now spot)) }
+        (left_from tree.now writer_place)) }
 {
-    match spot {
-        Spot::Field { node, child } => {
+    match writer_place {
+        WriterPlace::Field { node, child } => {
             if child < child_count(tree, node) {
                 open_field(out, tree, attrs, node, child)
             } else {
                 close_node(out, tree, node, child)
             }
         }
-        Spot::Kid { node, child, kid } => next_kid(out, tree, attrs, node, child, kid),
+        WriterPlace::Kid { node, child, kid } => next_kid(out, tree, attrs, node, child, kid),
     }
 }
 
@@ -79,7 +79,7 @@ fn open_field(
     attrs: &[Items<u32>],
     node: u32,
     child: u32,
-) -> Result<Option<Spot>, AllocError>
+) -> Result<Option<WriterPlace>, AllocError>
     requires attrs { IsAttributeTable tree.now attrs.now }
     requires at { IsChildOf (meant tree.now.checked) tree.now.tree node child }
     ensures goes { IfOk result (Goes tree.now (string_bytes out.old) (string_bytes out.new)
@@ -90,7 +90,7 @@ fn open_field(
     write_field(out, child_name(tree.checked(), class, child))?;
     if tree.checked().child(class, child).many {
         write_mark(out, Kind::LeftBracket)?;
-        Ok(Some(Spot::Kid {
+        Ok(Some(WriterPlace::Kid {
             node,
             child,
             kid: 0,
@@ -108,7 +108,7 @@ fn next_kid(
     node: u32,
     child: u32,
     kid: u32,
-) -> Result<Option<Spot>, AllocError>
+) -> Result<Option<WriterPlace>, AllocError>
     requires attrs { IsAttributeTable tree.now attrs.now }
     requires at { IsChildOf (meant tree.now.checked) tree.now.tree node child }
     requires many { is_many tree.now (node_of tree.now node) child ≡ true }
@@ -121,7 +121,7 @@ fn next_kid(
     } else {
         child_count(tree, node);
         write_mark(out, Kind::RightBracket)?;
-        Ok(Some(Spot::Field {
+        Ok(Some(WriterPlace::Field {
             node,
             child: child + 1,
         }))
@@ -134,7 +134,7 @@ fn enter(
     tree: &Tree,
     attrs: &[Items<u32>],
     node: u32,
-) -> Result<Option<Spot>, AllocError>
+) -> Result<Option<WriterPlace>, AllocError>
     requires attrs { IsAttributeTable tree.now attrs.now }
     requires node { node < size tree.now.tree }
     ensures goes { IfOk result (Goes tree.now (string_bytes out.old) (string_bytes out.new)
@@ -143,7 +143,7 @@ fn enter(
     tree_is_lawful(tree);
     write_open(out, tree.checked().class_name(tree.row(node).class))?;
     write_inputs(out, tree, attrs, node)?;
-    Ok(Some(Spot::Field { node, child: 0 }))
+    Ok(Some(WriterPlace::Field { node, child: 0 }))
 }
 
 /// Writes the end of a node, none of whose children is left.
@@ -152,7 +152,7 @@ fn close_node(
     tree: &Tree,
     node: u32,
     child: u32,
-) -> Result<Option<Spot>, AllocError>
+) -> Result<Option<WriterPlace>, AllocError>
     requires node { node < size tree.now.tree }
     requires past { length (class_at tree.now.checked.grammar
         (class_in tree.now (node_of tree.now node))).children ≤ child }
@@ -167,7 +167,7 @@ fn close_node(
         }
         Some(parent) => {
             write_mark(out, Kind::RightBrace)?;
-            Ok(Some(spot_behind(tree, node, parent)))
+            Ok(Some(place_behind(tree, node, parent)))
         }
     }
 }
@@ -194,25 +194,25 @@ fn child_name(checked: &Checked, class: u32, child: u32) -> &Name
 }
 
 /// Where the writer stands behind a node that is a kid of this parent.
-fn spot_behind(tree: &Tree, node: u32, parent: u32) -> Spot
+fn place_behind(tree: &Tree, node: u32, parent: u32) -> WriterPlace
     requires node { node < size tree.now.tree }
     requires parent { HasParent tree.now node parent }
     ensures left { IsBehind tree.now (node_of tree.now node) (left_from tree.now result) }
-    ensures spot { IsSpot tree.now result }
+    ensures writer_place { IsWriterPlace tree.now result }
 {
     tree_is_lawful(tree);
     let place = tree.row(node).place;
     let class = tree.row(parent).class;
     if tree.checked().child(class, place.child).many {
         tree.kid_count(parent, place.child);
-        Spot::Kid {
+        WriterPlace::Kid {
             node: parent,
             child: place.child,
             kid: place.kid + 1,
         }
     } else {
         child_count(tree, parent);
-        Spot::Field {
+        WriterPlace::Field {
             node: parent,
             child: place.child + 1,
         }

@@ -3,7 +3,7 @@ use Rattle.std.proofs.Common.{ℕ, zero, suc, ◌≤◌, Bool, true, false, [], 
 use Rattle.ftl_tokens.specs.declared.scanner.kind.Kind.{Kind}
 use Rattle.ftl_tokens.specs.declared.scanner.kind.Kind.TheVariants as kind
 use Rattle.ftl_tokens.specs.reading.Reader.{Reader, next_kind, push}
-use Rattle.ftl_tokens.proofs.reading.Told.{Told}
+use Rattle.ftl_tokens.proofs.reading.KeptPrefix.{KeepsPrefix}
 use Rattle.ftl_tokens.proofs.reading.Alike.{Alike, AlikeAt, pure_alike, look_alike, alike_at_any, bind_alike, map_alike}
 use Rattle.ftl_tokens.proofs.reading.Alike.{none_alike}
 use Rattle.ftl_tokens.proofs.reading.TokenAlike.{past_alike, skip_alike}
@@ -18,21 +18,21 @@ use Rattle.ftl_grammar.specs.syntax.ExpressionReading.{bracketed, test_by, one_t
 use Rattle.ftl_grammar.specs.syntax.ExpressionReading.{or_conj, cond_level, choice, expr_by, expr_level}
 use Rattle.ftl_grammar.proofs.syntax.Heads.{height, past_plain, past_bracket, past_end_bracket}
 use Rattle.ftl_grammar.proofs.syntax.Lengths.{some_and_test, some_or_conj}
-use Rattle.ftl_grammar.proofs.syntax.CondTold.{and_test_told, or_conj_told, expr_told, cond_told}
+use Rattle.ftl_grammar.proofs.syntax.CondPrefix.{and_test_prefix, or_conj_prefix, expr_prefix, cond_prefix}
 use Rattle.ftl_grammar.proofs.syntax.SumAlike.{sum_alike, comparison_alike}
 
-some_tests : {expr : Reader Expr} {cond : Reader Cond} → Told SpellsExpr expr → Told SpellsCond cond
+some_tests : {expr : Reader Expr} {cond : Reader Cond} → KeepsPrefix SpellsExpr expr → KeepsPrefix SpellsCond cond
     → TakesSome (and_test expr cond)
 unfolding and_test next_kind
-some_tests e c = takes_some (and_test_told e c) (λ a x s. some_and_test s) refl
+some_tests e c = takes_some (and_test_prefix e c) (λ a x s. some_and_test s) refl
 
-some_conjs : {expr : Reader Expr} {cond : Reader Cond} → Told SpellsExpr expr → Told SpellsCond cond
+some_conjs : {expr : Reader Expr} {cond : Reader Cond} → KeepsPrefix SpellsExpr expr → KeepsPrefix SpellsCond cond
     → TakesSome (or_conj expr cond)
 unfolding or_conj next_kind
-some_conjs e c = takes_some (or_conj_told e c) (λ a x s. some_or_conj s) refl
+some_conjs e c = takes_some (or_conj_prefix e c) (λ a x s. some_or_conj s) refl
 
 module _ {expr expr' : Reader Expr} {cond cond' : Reader Cond} {n : ℕ}
-    (e : Told SpellsExpr expr) (c : Told SpellsCond cond) (e' : Told SpellsExpr expr') (c' : Told SpellsCond cond')
+    (e : KeepsPrefix SpellsExpr expr) (c : KeepsPrefix SpellsCond cond) (e' : KeepsPrefix SpellsExpr expr') (c' : KeepsPrefix SpellsCond cond')
     (expr_alike : Alike height n n expr expr') (cond_alike : Alike height n n cond cond') where
   bracketed_alike : (is_negated : Bool)
       → Alike height (suc n) (suc n) (bracketed expr cond is_negated) (bracketed expr' cond' is_negated)
@@ -104,12 +104,12 @@ mutual
   expr_alike zero m e = none_alike (reading.expr m)
   expr_alike (suc n) zero e = absurd (omega arith)
   expr_alike (suc n) (suc m) e =
-      expr_level_alike (expr_told n) (cond_told n) (expr_told m) (cond_told m) (expr_alike n m (omega arith))
+      expr_level_alike (expr_prefix n) (cond_prefix n) (expr_prefix m) (cond_prefix m) (expr_alike n m (omega arith))
       (cond_alike n m (omega arith))
 
   pub cond_alike : (n m : ℕ) → n ≤ m → Alike height n n (reading.cond n) (reading.cond m)
   cond_alike zero m e = none_alike (reading.cond m)
   cond_alike (suc n) zero e = absurd (omega arith)
   cond_alike (suc n) (suc m) e =
-      cond_level_alike (expr_told n) (cond_told n) (expr_told m) (cond_told m) (expr_alike n m (omega arith))
+      cond_level_alike (expr_prefix n) (cond_prefix n) (expr_prefix m) (cond_prefix m) (expr_alike n m (omega arith))
       (cond_alike n m (omega arith))

@@ -2,7 +2,7 @@
 use Rattle.std.proofs.Common.{[], ◌∷◌, ◌++◌}
 use Rattle.ftl_tokens.specs.declared.scanner.kind.Kind.TheVariants as kind
 use Rattle.ftl_tokens.specs.scanner.Tokenized.{number, fixed}
-use Rattle.ftl_tokens.proofs.reading.Told.{Example, example}
+use Rattle.ftl_tokens.proofs.reading.KeptPrefix.{Example, example}
 use Rattle.ftl_grammar.specs.declared.syntax.expression.Atom.TheVariants as atoms
 use Rattle.ftl_grammar.specs.syntax.Spelling.{SpellsPlain, SpellsAtom, SpellsUnary, SpellsTerm, SpellsSum, SpellsTest}
 use Rattle.ftl_grammar.specs.syntax.Spelling.{SpellsConj, SpellsCond, SpellsExpr, less, plain_number, plain_atom, unsigned}

@@ -4,7 +4,7 @@ use Rattle.ftl_tokens.specs.declared.scanner.kind.Kind.{Kind}
 use Rattle.ftl_tokens.specs.declared.scanner.kind.Kind.TheVariants as kind
 use Rattle.ftl_tokens.specs.declared.reading.chain_item.ChainItem.TheVariants.{Next, Last}
 use Rattle.ftl_tokens.specs.reading.Reader.{Reader, next_kind, push}
-use Rattle.ftl_tokens.proofs.reading.Told.{Told}
+use Rattle.ftl_tokens.proofs.reading.KeptPrefix.{KeepsPrefix}
 use Rattle.ftl_tokens.proofs.reading.Alike.{Alike, AlikeAt, pure_alike, look_alike, alike_at_any, bind_alike, map_alike}
 use Rattle.ftl_tokens.proofs.reading.TokenAlike.{past_alike, name_alike, skip_alike, at_end_alike}
 use Rattle.ftl_tokens.proofs.reading.ChainAlike.{TakesSome, takes_some, chain_alike}
@@ -27,9 +27,9 @@ use Rattle.ftl_grammar.specs.syntax.InterfaceReading.{single_child, child_by, ch
 use Rattle.ftl_grammar.proofs.syntax.Heads.{height, past_plain, past_bracket, past_end_bracket, past_name}
 use Rattle.ftl_grammar.proofs.syntax.Lengths.{some_comma_name, some_attrs, some_own_attrs, some_rule, some_child}
 use Rattle.ftl_grammar.proofs.syntax.Lengths.{some_declaration}
-use Rattle.ftl_grammar.proofs.syntax.InterfaceTold.{comma_name_told, attrs_told, own_attrs_told}
-use Rattle.ftl_grammar.proofs.syntax.RuleTold.{rule_told, member_told}
-use Rattle.ftl_grammar.proofs.syntax.GrammarTold.{declaration_told}
+use Rattle.ftl_grammar.proofs.syntax.InterfacePrefix.{comma_name_prefix, attrs_prefix, own_attrs_prefix}
+use Rattle.ftl_grammar.proofs.syntax.RulePrefix.{rule_prefix, member_prefix}
+use Rattle.ftl_grammar.proofs.syntax.GrammarPrefix.{declaration_prefix}
 use Rattle.ftl_grammar.proofs.syntax.SumAlike.{dot_name_alike}
 
 -- ---- names and attributes
@@ -45,7 +45,7 @@ comma_name_alike {n} = look_alike comma_name_by comma_name_by each
 
 some_comma_names : TakesSome comma_name
 unfolding comma_name next_kind
-some_comma_names = takes_some comma_name_told (λ a x s. some_comma_name s) refl
+some_comma_names = takes_some comma_name_prefix (λ a x s. some_comma_name s) refl
 
 names_alike : {n : ℕ} → Alike height n n names names
 unfolding names
@@ -80,11 +80,11 @@ own_attrs_alike {n} = look_alike own_attrs_by own_attrs_by each
 
 some_attr_groups : TakesSome attrs
 unfolding attrs next_kind
-some_attr_groups = takes_some attrs_told (λ a x s. some_attrs s) refl
+some_attr_groups = takes_some attrs_prefix (λ a x s. some_attrs s) refl
 
 some_own_groups : TakesSome own_attrs
 unfolding own_attrs next_kind
-some_own_groups = takes_some own_attrs_told (λ a x s. some_own_attrs s) refl
+some_own_groups = takes_some own_attrs_prefix (λ a x s. some_own_attrs s) refl
 
 -- ---- interfaces and children
 
@@ -119,19 +119,19 @@ child_alike {n} c = look_alike (child_by c) (child_by c) each
 
 -- ---- rules and classes
 
-some_rules : {expr : Reader Expr} → Told SpellsExpr expr → TakesSome (reading.rule expr)
+some_rules : {expr : Reader Expr} → KeepsPrefix SpellsExpr expr → TakesSome (reading.rule expr)
 unfolding reading.rule next_kind
-some_rules told = takes_some (rule_told told) (λ a x s. some_rule s) refl
+some_rules told = takes_some (rule_prefix told) (λ a x s. some_rule s) refl
 
-some_members : {expr : Reader Expr} → Told SpellsExpr expr → ChainItemTakesSome (member expr)
+some_members : {expr : Reader Expr} → KeepsPrefix SpellsExpr expr → ChainItemTakesSome (member expr)
 unfolding member next_kind
-some_members told = step_takes_some (member_told told) (λ a x s. some_child s) refl
+some_members told = step_takes_some (member_prefix told) (λ a x s. some_child s) refl
 
-some_declarations : {expr : Reader Expr} → Told SpellsExpr expr → TakesSome (declaration expr)
+some_declarations : {expr : Reader Expr} → KeepsPrefix SpellsExpr expr → TakesSome (declaration expr)
 unfolding declaration next_kind
-some_declarations told = takes_some (declaration_told told) (λ a x s. some_declaration s) refl
+some_declarations told = takes_some (declaration_prefix told) (λ a x s. some_declaration s) refl
 
-module _ {expr other : Reader Expr} {n : ℕ} (expr_told : Told SpellsExpr expr) (other_told : Told SpellsExpr other)
+module _ {expr other : Reader Expr} {n : ℕ} (expr_prefix : KeepsPrefix SpellsExpr expr) (other_prefix : KeepsPrefix SpellsExpr other)
     (expr_alike : Alike height (suc n) (suc n) expr other) where
   fold_alike : Alike height (suc n) (suc n) (reading.fold expr) (reading.fold other)
   unfolding reading.fold
@@ -212,8 +212,8 @@ module _ {expr other : Reader Expr} {n : ℕ} (expr_told : Told SpellsExpr expr)
       (name_alike past_name
       (λ i. past_alike kind.LeftBrace (past_plain kind.LeftBrace refl)
       (bind_alike (chain_alike append own_attrs_alike some_own_groups some_own_groups [])
-      (λ xs. bind_alike (until_alike push member_alike (some_members expr_told) (some_members other_told) [])
-      (λ ys. bind_alike (chain_alike push rule_alike (some_rules expr_told) (some_rules other_told) (list_of ys.1))
+      (λ xs. bind_alike (until_alike push member_alike (some_members expr_prefix) (some_members other_prefix) [])
+      (λ ys. bind_alike (chain_alike push rule_alike (some_rules expr_prefix) (some_rules other_prefix) (list_of ys.1))
       (λ zs. past_alike kind.RightBrace (past_plain kind.RightBrace refl) pure_alike)))))))
 
   declaration_alike : Alike height (suc n) (suc n) (declaration expr) (declaration other)
@@ -237,5 +237,5 @@ module _ {expr other : Reader Expr} {n : ℕ} (expr_told : Told SpellsExpr expr)
       (λ d. past_alike kind.Semicolon (past_plain kind.Semicolon refl)
       (bind_alike
       (chain_alike add_declaration declaration_alike
-      (some_declarations expr_told) (some_declarations other_told) ([], []))
+      (some_declarations expr_prefix) (some_declarations other_prefix) ([], []))
       (λ xs. bind_alike at_end_alike (λ u. pure_alike)))))

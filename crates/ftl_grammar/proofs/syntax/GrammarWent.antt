@@ -6,7 +6,7 @@ use Rattle.ftl_tokens.specs.declared.scanner.kind.Kind.TheVariants as kind
 use Rattle.ftl_tokens.specs.scanner.Tokenized.{name, fixed}
 use Rattle.ftl_tokens.specs.reading.Reader.{Tokens, Reader, ◌>>=◌, ◌>>◌, pure, next_kind, expect, take_name, at_end, push}
 use Rattle.ftl_tokens.specs.reading.Reader.{chain_of, until_of}
-use Rattle.ftl_tokens.proofs.reading.ChainTold.{Chain, none, more, Until, stopped, ended, went_on}
+use Rattle.ftl_tokens.proofs.reading.ChainPrefix.{Chain, none, more, Until, stopped, ended, went_on}
 use Rattle.ftl_tokens.proofs.reading.Went.{got, Went, Complete, went_bind, went_map, went_pure, went_past, went_skip}
 use Rattle.ftl_tokens.proofs.reading.Went.{went_name, went_by, went_grouped}
 use Rattle.ftl_tokens.proofs.reading.ChainWent.{CompleteItem, chain_went}
@@ -32,7 +32,7 @@ use Rattle.ftl_grammar.specs.syntax.GrammarReading.{grammar_level}
 use Rattle.ftl_grammar.specs.syntax.InterfaceReading.{append, own_attrs}
 use Rattle.ftl_grammar.proofs.syntax.RuleParts.{interface_rest, ChildRule, child_rule_of, child_rule_rest, ClassRest}
 use Rattle.ftl_grammar.proofs.syntax.RuleParts.{class_rest, DeclarationOf, interface_of_declaration, class_of_declaration}
-use Rattle.ftl_grammar.proofs.syntax.GrammarTold.{LastRule}
+use Rattle.ftl_grammar.proofs.syntax.GrammarPrefix.{LastRule}
 use Rattle.ftl_grammar.proofs.syntax.Heads as heads
 use Rattle.ftl_grammar.proofs.syntax.Heads.{Looser, Later, height, past_plain, past_name}
 use Rattle.ftl_grammar.proofs.syntax.InterfaceWent.{interface_went, own_groups_went, own_attrs_chain}

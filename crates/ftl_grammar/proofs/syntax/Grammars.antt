@@ -6,8 +6,8 @@ use Rattle.ftl_tokens.specs.declared.scanner.kind.Kind.TheVariants as kind
 use Rattle.ftl_tokens.specs.scanner.Tokenized.{Tokenized, Symbol, symbols_of, name, number, fixed}
 use Rattle.ftl_tokens.specs.reading.Reader.{Tokens, Reader, same_kind, expect, take_name, chain_of}
 use Rattle.ftl_tokens.specs.reading.Depth.{IsShallow, is_among}
-use Rattle.ftl_tokens.specs.reading.Place.{LongestFront, IsPlaceOf, place_of}
-use Rattle.ftl_tokens.proofs.reading.Told.{Taken, Tells}
+use Rattle.ftl_tokens.specs.reading.Place.{LongestFront, IsFaultPlace, place_of}
+use Rattle.ftl_tokens.proofs.reading.KeptPrefix.{Taken, HasPrefix}
 use Rattle.ftl_tokens.proofs.reading.DepthLemmas.{AreApart, peak_le}
 use Rattle.ftl_tokens.proofs.reading.Places.{is_place}
 use Rattle.ftl_tokens.proofs.reading.WholeLists.{ReadsAll, bind_reads_all, end_reads_all, same_value}
@@ -21,7 +21,7 @@ use Rattle.ftl_grammar.specs.syntax.GrammarSpelling.{SpellsGrammar}
 use Rattle.ftl_grammar.specs.syntax.ExpressionReading as expressions
 use Rattle.ftl_grammar.specs.syntax.GrammarReading.{declaration, add_declaration, grammar_level, grammar, bracket_depth}
 use Rattle.ftl_grammar.proofs.syntax.Heads.{height}
-use Rattle.ftl_grammar.proofs.syntax.PlacesGrammar.{NoGrammar, grammar_told, grammar_went, no_grammar}
+use Rattle.ftl_grammar.proofs.syntax.PlacesGrammar.{NoGrammar, grammar_prefix, grammar_went, no_grammar}
 
 -- no token both opens and closes a bracket
 separate : AreApart brackets
@@ -70,7 +70,7 @@ unfolding grammar
 read_grammar tokens left g e =
     let none_left = (all_read (expressions.expr bracket_depth)).none_left tokens left g e in
     let taken : Taken SpellsGrammar tokens g left =
-    subst (λ o. Tells SpellsGrammar o tokens) e (grammar_told.tells tokens) in
+    subst (λ o. HasPrefix SpellsGrammar o tokens) e (grammar_prefix.keeps tokens) in
     let whole : tokens ≡ taken.front = taken.split ∙ ap (λ l. taken.front ++ l) none_left ∙ append-nil taken.front in
     record { spells = subst (λ l. SpellsGrammar l g) (sym whole) taken.spells; none_left = none_left }
 
@@ -98,6 +98,6 @@ refused_longest_front tokens rest shallow e = (refused tokens rest shallow e).wr
 -- the byte at which they go wrong, from the number of tokens that are left
 pub refused_place : {scanned : Tokenized} {at : ℕ} (rest : Tokens) → IsShallow brackets limit (symbols_of scanned)
     → grammar (symbols_of scanned) ≡ Err rest → (kept : ℕ) → kept ≡ length rest
-    → at ≡ place_of scanned.tokens (length scanned.tokens - kept) → IsPlaceOf SpellsGrammar scanned at
+    → at ≡ place_of scanned.tokens (length scanned.tokens - kept) → IsFaultPlace SpellsGrammar scanned at
 refused_place {scanned} rest shallow e kept count place =
     is_place rest (refused_longest_front (symbols_of scanned) rest shallow e) kept count place

@@ -3,15 +3,15 @@
 use Rattle.std.proofs.Common.{◌≡◌, ℕ, zero, suc, ◌+◌, ◌<◌, [], Err, subst, arith}
 use Rattle.ftl_tokens.specs.reading.Reader.{Tokens}
 use Rattle.ftl_tokens.specs.reading.Place.{LongestFront}
-use Rattle.ftl_tokens.proofs.reading.Told.{Tells, Told, Grown}
+use Rattle.ftl_tokens.proofs.reading.KeptPrefix.{HasPrefix, KeepsPrefix, Grown}
 use Rattle.ftl_tokens.proofs.reading.Went.{got}
 use Rattle.ftl_tokens.proofs.reading.Places.{Placed, none_spelled, longest_front}
 use Rattle.ftl_grammar.specs.declared.syntax.rules.Grammar.{Grammar}
 use Rattle.ftl_grammar.specs.syntax.GrammarSpelling.{SpellsGrammar}
 use Rattle.ftl_grammar.specs.syntax.ExpressionReading.{expr}
 use Rattle.ftl_grammar.specs.syntax.GrammarReading.{bracket_depth, grammar, grammar_level}
-use Rattle.ftl_grammar.proofs.syntax.CondTold.{expr_told}
-use Rattle.ftl_grammar.proofs.syntax.GrammarTold.{grammar_level_told}
+use Rattle.ftl_grammar.proofs.syntax.CondPrefix.{expr_prefix}
+use Rattle.ftl_grammar.proofs.syntax.GrammarPrefix.{grammar_level_prefix}
 use Rattle.ftl_grammar.proofs.syntax.Heads.{height}
 use Rattle.ftl_grammar.proofs.syntax.CondWent.{expr_went}
 use Rattle.ftl_grammar.proofs.syntax.GrammarWent.{grammar_level_went}
@@ -24,9 +24,9 @@ pub record NoGrammar (ts rest : Tokens) : Type 0 where
   pub wrong : LongestFront SpellsGrammar ts rest
 
 -- what the reader of grammars reads is spelled, and what stands before a refused token goes on to a grammar
-pub grammar_told : Told SpellsGrammar grammar
+pub grammar_prefix : KeepsPrefix SpellsGrammar grammar
 unfolding grammar
-grammar_told = grammar_level_told (expr_told bracket_depth)
+grammar_prefix = grammar_level_prefix (expr_prefix bracket_depth)
 
 -- at each depth that is more than the brackets that are open at once, what spells a grammar is read to its end
 pub grammar_went : {ts : Tokens} {g : Grammar} → SpellsGrammar ts g → (n : ℕ) → height ts < n
@@ -41,14 +41,14 @@ unfolding grammar
 grammar_placed = record {
   alike = λ k.
       let deeper = expr_alike bracket_depth (bracket_depth + k) (omega arith) in
-      grammar_level_alike {n = 64} (expr_told bracket_depth) (expr_told (bracket_depth + k)) deeper;
+      grammar_level_alike {n = 64} (expr_prefix bracket_depth) (expr_prefix (bracket_depth + k)) deeper;
   reads = λ spells k small. grammar_went spells (bracket_depth + k) (omega arith);
 }
 
 -- where the reader of grammars refuses a token
 pub no_grammar : (ts rest : Tokens) → height ts < bracket_depth → grammar ts ≡ Err rest → NoGrammar ts rest
 no_grammar ts rest small e =
-    let grown : Grown SpellsGrammar ts rest = subst (λ o. Tells SpellsGrammar o ts) e (grammar_told.tells ts) in
+    let grown : Grown SpellsGrammar ts rest = subst (λ o. HasPrefix SpellsGrammar o ts) e (grammar_prefix.keeps ts) in
     record {
       none = λ g spells. none_spelled grammar_placed ts rest g small e grown spells;
       wrong = longest_front grammar_placed ts rest small e grown;

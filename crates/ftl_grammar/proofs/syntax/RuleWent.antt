@@ -6,7 +6,7 @@ use Rattle.ftl_tokens.specs.declared.scanner.kind.Kind.TheVariants as kind
 use Rattle.ftl_tokens.specs.scanner.Tokenized.{name, fixed}
 use Rattle.ftl_tokens.specs.declared.reading.chain_item.ChainItem.TheVariants.{Stop, Next, Last}
 use Rattle.ftl_tokens.specs.reading.Reader.{Tokens, Reader, ◌>>=◌, ◌>>◌, ◌<$>◌, pure, next_kind, expect, push}
-use Rattle.ftl_tokens.proofs.reading.ChainTold.{Chain, chain_none, chain_more}
+use Rattle.ftl_tokens.proofs.reading.ChainPrefix.{Chain, chain_none, chain_more}
 use Rattle.ftl_tokens.proofs.reading.Went.{got, Went, Complete, went_bind, went_map, went_pure, went_past, went_skip}
 use Rattle.ftl_tokens.proofs.reading.Went.{went_name, went_by, went_grouped}
 use Rattle.ftl_tokens.proofs.reading.ChainWent.{CompleteItem}

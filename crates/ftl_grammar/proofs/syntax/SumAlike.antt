@@ -3,7 +3,7 @@ use Rattle.std.proofs.Common.{ℕ, suc, true, false, [], Option, Some, refl}
 use Rattle.ftl_tokens.specs.declared.scanner.kind.Kind.{Kind}
 use Rattle.ftl_tokens.specs.declared.scanner.kind.Kind.TheVariants as kind
 use Rattle.ftl_tokens.specs.reading.Reader.{Reader, next_kind, push}
-use Rattle.ftl_tokens.proofs.reading.Told.{Told}
+use Rattle.ftl_tokens.proofs.reading.KeptPrefix.{KeepsPrefix}
 use Rattle.ftl_tokens.proofs.reading.Alike.{Alike, AlikeAt, pure_alike, refuse_alike, look_alike, alike_at_any, bind_alike}
 use Rattle.ftl_tokens.proofs.reading.Alike.{map_alike}
 use Rattle.ftl_tokens.proofs.reading.TokenAlike.{past_alike, name_alike, last_name_alike, number_alike, positive_alike}
@@ -22,7 +22,7 @@ use Rattle.ftl_grammar.specs.syntax.SumReading.{pair, atom_by, atom, unary_by, u
 use Rattle.ftl_grammar.specs.syntax.SumReading.{signed, sum, comparison}
 use Rattle.ftl_grammar.proofs.syntax.Heads.{height, past_plain, past_paren, past_end_paren, past_name, past_number}
 use Rattle.ftl_grammar.proofs.syntax.Lengths.{some_factor, some_signed}
-use Rattle.ftl_grammar.proofs.syntax.SumTold.{factor_told, signed_told}
+use Rattle.ftl_grammar.proofs.syntax.SumPrefix.{factor_prefix, signed_prefix}
 
 pub dot_name_alike : {n : ℕ} → Alike height n n dot_name dot_name
 unfolding dot_name
@@ -54,15 +54,15 @@ comparator_alike {n} = look_alike comparator_by comparator_by each
     each _ = alike_at_any refuse_alike
 
 -- each item of the chains takes a token
-some_factors : {expr : Reader Expr} → Told SpellsExpr expr → TakesSome (factor expr)
+some_factors : {expr : Reader Expr} → KeepsPrefix SpellsExpr expr → TakesSome (factor expr)
 unfolding factor next_kind
-some_factors told = takes_some (factor_told told) (λ a x s. some_factor s) refl
+some_factors told = takes_some (factor_prefix told) (λ a x s. some_factor s) refl
 
-some_terms : {expr : Reader Expr} → Told SpellsExpr expr → TakesSome (signed expr)
+some_terms : {expr : Reader Expr} → KeepsPrefix SpellsExpr expr → TakesSome (signed expr)
 unfolding signed next_kind
-some_terms told = takes_some (signed_told told) (λ a x s. some_signed s) refl
+some_terms told = takes_some (signed_prefix told) (λ a x s. some_signed s) refl
 
-module _ {expr other : Reader Expr} {n : ℕ} (expr_told : Told SpellsExpr expr) (other_told : Told SpellsExpr other)
+module _ {expr other : Reader Expr} {n : ℕ} (expr_prefix : KeepsPrefix SpellsExpr expr) (other_prefix : KeepsPrefix SpellsExpr other)
     (expr_alike : Alike height n n expr other) where
   group_alike : Alike height n (suc n) (group expr) (group other)
   unfolding group
@@ -130,7 +130,7 @@ module _ {expr other : Reader Expr} {n : ℕ} (expr_told : Told SpellsExpr expr)
   term_alike =
       bind_alike unary_alike
       (λ x. map_alike (trees.term x)
-      (chain_alike push factor_alike (some_factors expr_told) (some_factors other_told) []))
+      (chain_alike push factor_alike (some_factors expr_prefix) (some_factors other_prefix) []))
 
   signed_alike : Alike height (suc n) (suc n) (signed expr) (signed other)
   unfolding signed
@@ -149,7 +149,7 @@ module _ {expr other : Reader Expr} {n : ℕ} (expr_told : Told SpellsExpr expr)
   unfolding sum
   sum_alike =
       bind_alike term_alike
-      (λ x. map_alike (trees.sum x) (chain_alike push signed_alike (some_terms expr_told) (some_terms other_told) []))
+      (λ x. map_alike (trees.sum x) (chain_alike push signed_alike (some_terms expr_prefix) (some_terms other_prefix) []))
 
   pub comparison_alike : Alike height (suc n) (suc n) (comparison expr) (comparison other)
   unfolding comparison

@@ -2,7 +2,7 @@
 use Rattle.std.specs.Prelude.{ℕ, Result, Ok, Err}
 use Rattle.ftl_tokens.specs.scanner.Tokenized.{Tokenized, symbols_of}
 use Rattle.ftl_tokens.specs.reading.Depth.{IsShallow, IsTooDeepAt}
-use Rattle.ftl_tokens.specs.reading.Place.{IsPlaceOf}
+use Rattle.ftl_tokens.specs.reading.Place.{IsFaultPlace}
 use Rattle.ftl_grammar.specs.declared.syntax.rules.Grammar.{Grammar}
 use Rattle.ftl_grammar.specs.syntax.Brackets.{brackets, limit}
 use Rattle.ftl_grammar.specs.syntax.GrammarSpelling.{SpellsGrammar}
@@ -18,7 +18,7 @@ pub record IsGrammar (scanned : Tokenized) (g : Grammar) : Type 0 where
 pub record IsNoGrammar (scanned : Tokenized) (at : ℕ) : Type 0 where
   pub shallow : IsShallow brackets limit (symbols_of scanned)
   pub none : (g : Grammar) → SpellsGrammar (symbols_of scanned) g → ⊥
-  pub place : IsPlaceOf SpellsGrammar scanned at
+  pub place : IsFaultPlace SpellsGrammar scanned at
 
 -- a grammar is the one that the tokens spell, and a fault has its cause at its place
 abbrev pub ReadsGrammar : Tokenized → Result Grammar SyntaxFault → Type 0

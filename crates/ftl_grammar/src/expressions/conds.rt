@@ -7,8 +7,7 @@ ghost use Rattle.ftl_grammar.specs.expressions.Nests.{IsNested};
 
 use crate::expressions::nested::Nested;
 use crate::syntax::{Cond, Conj, ConjList, Expr, Test, TestList};
-use ftl_tokens::reading::{Input, ReadFault};
-use ftl_tokens::scanner::Kind;
+use ftl_tokens::{Input, Kind, ReadFault};
 use sqlite_items::{Boxed, Items};
 use std::alloc::Global;
 
@@ -24,8 +23,8 @@ impl<
         input: &mut Input<'_>,
         negated: bool,
     ) -> Result<Test, ReadFault>
-        requires { IsNested E.Fn C.Fn self.now }
-        ensures { Reads (spec.bracketed (spec.expr self.now.depth) (spec.cond self.now.depth)
+        requires nested { IsNested E.Fn C.Fn self.now }
+        ensures reads { Reads (spec.bracketed (spec.expr self.now.depth) (spec.cond self.now.depth)
             negated input.old) result input.new }
     {
         input.expect(Kind::LeftBracket)?;
@@ -36,8 +35,8 @@ impl<
 
     #[tactic(auto, unfolding(crate::specs::syntax::ExpressionReading::one_test))]
     fn one_test(&self, alloc: Global, input: &mut Input<'_>) -> Result<Test, ReadFault>
-        requires { IsNested E.Fn C.Fn self.now }
-        ensures { Reads (spec.one_test (spec.expr self.now.depth) (spec.cond self.now.depth)
+        requires nested { IsNested E.Fn C.Fn self.now }
+        ensures reads { Reads (spec.one_test (spec.expr self.now.depth) (spec.cond self.now.depth)
             input.old) result input.new }
     {
         match input.peek() {
@@ -53,8 +52,8 @@ impl<
     // `&&` and one more test, if they are there.
     #[tactic(auto, unfolding(crate::specs::syntax::ExpressionReading::and_test))]
     fn and_test(&self, alloc: Global, input: &mut Input<'_>) -> Result<Option<Test>, ReadFault>
-        requires { IsNested E.Fn C.Fn self.now }
-        ensures { Reads (spec.and_test (spec.expr self.now.depth) (spec.cond self.now.depth)
+        requires nested { IsNested E.Fn C.Fn self.now }
+        ensures reads { Reads (spec.and_test (spec.expr self.now.depth) (spec.cond self.now.depth)
             input.old) result input.new }
     {
         match input.peek() {
@@ -73,8 +72,8 @@ impl<
         input: &mut Input<'_>,
         first: Test,
     ) -> Result<TestList, ReadFault>
-        requires { IsNested E.Fn C.Fn self.now }
-        ensures { Reads (chain_of push
+        requires nested { IsNested E.Fn C.Fn self.now }
+        ensures reads { Reads (chain_of push
             (spec.and_test (spec.expr self.now.depth) (spec.cond self.now.depth))
             (first ∷ []) input.old) result input.new }
     {
@@ -91,8 +90,8 @@ impl<
 
     #[tactic(auto, unfolding(crate::specs::syntax::ExpressionReading::conj))]
     fn conj(&self, alloc: Global, input: &mut Input<'_>) -> Result<Conj, ReadFault>
-        requires { IsNested E.Fn C.Fn self.now }
-        ensures { Reads (spec.conj (spec.expr self.now.depth) (spec.cond self.now.depth)
+        requires nested { IsNested E.Fn C.Fn self.now }
+        ensures reads { Reads (spec.conj (spec.expr self.now.depth) (spec.cond self.now.depth)
             input.old) result input.new }
     {
         let first = self.one_test(alloc, input)?;
@@ -103,8 +102,8 @@ impl<
     // `||` and one more conj, if they are there.
     #[tactic(auto, unfolding(crate::specs::syntax::ExpressionReading::or_conj))]
     fn or_conj(&self, alloc: Global, input: &mut Input<'_>) -> Result<Option<Conj>, ReadFault>
-        requires { IsNested E.Fn C.Fn self.now }
-        ensures { Reads (spec.or_conj (spec.expr self.now.depth) (spec.cond self.now.depth)
+        requires nested { IsNested E.Fn C.Fn self.now }
+        ensures reads { Reads (spec.or_conj (spec.expr self.now.depth) (spec.cond self.now.depth)
             input.old) result input.new }
     {
         match input.peek() {
@@ -123,8 +122,8 @@ impl<
         input: &mut Input<'_>,
         first: Conj,
     ) -> Result<ConjList, ReadFault>
-        requires { IsNested E.Fn C.Fn self.now }
-        ensures { Reads (chain_of push
+        requires nested { IsNested E.Fn C.Fn self.now }
+        ensures reads { Reads (chain_of push
             (spec.or_conj (spec.expr self.now.depth) (spec.cond self.now.depth))
             (first ∷ []) input.old) result input.new }
     {
@@ -141,8 +140,8 @@ impl<
 
     #[tactic(auto, unfolding(crate::specs::syntax::ExpressionReading::cond_level))]
     pub fn cond_level(&self, alloc: Global, input: &mut Input<'_>) -> Result<Cond, ReadFault>
-        requires { IsNested E.Fn C.Fn self.now }
-        ensures { Reads (spec.cond_level (spec.expr self.now.depth) (spec.cond self.now.depth)
+        requires nested { IsNested E.Fn C.Fn self.now }
+        ensures reads { Reads (spec.cond_level (spec.expr self.now.depth) (spec.cond self.now.depth)
             input.old) result input.new }
     {
         let first = self.conj(alloc, input)?;
@@ -153,8 +152,8 @@ impl<
     // A condition and two sums, after `if`.
     #[tactic(auto, unfolding(crate::specs::syntax::ExpressionReading::choice))]
     fn choice(&self, alloc: Global, input: &mut Input<'_>) -> Result<Expr, ReadFault>
-        requires { IsNested E.Fn C.Fn self.now }
-        ensures { Reads (spec.choice (spec.expr self.now.depth) (spec.cond self.now.depth)
+        requires nested { IsNested E.Fn C.Fn self.now }
+        ensures reads { Reads (spec.choice (spec.expr self.now.depth) (spec.cond self.now.depth)
             input.old) result input.new }
     {
         let cond = self.cond_level(alloc, input)?;
@@ -167,8 +166,8 @@ impl<
 
     #[tactic(auto, unfolding(crate::specs::syntax::ExpressionReading::expr_level))]
     pub fn expr_level(&self, alloc: Global, input: &mut Input<'_>) -> Result<Expr, ReadFault>
-        requires { IsNested E.Fn C.Fn self.now }
-        ensures { Reads (spec.expr_level (spec.expr self.now.depth) (spec.cond self.now.depth)
+        requires nested { IsNested E.Fn C.Fn self.now }
+        ensures reads { Reads (spec.expr_level (spec.expr self.now.depth) (spec.cond self.now.depth)
             input.old) result input.new }
     {
         match input.peek() {

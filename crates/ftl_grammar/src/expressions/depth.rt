@@ -5,7 +5,7 @@ ghost use Rattle.ftl_grammar.specs.syntax.ExpressionReading as spec;
 
 use crate::expressions::nested::Nested;
 use crate::syntax::{Cond, Expr};
-use ftl_tokens::reading::{Input, ReadFault};
+use ftl_tokens::{Input, ReadFault};
 use std::alloc::Global;
 
 /// An expression with fewer than `depth` brackets in one another.
@@ -27,7 +27,7 @@ pub fn expr(alloc: Global, input: &mut Input<'_>, depth: usize) -> Result<Expr, 
 /// A condition with fewer than `depth` brackets in one another.
 #[cycle(nested)]
 fn cond(alloc: Global, input: &mut Input<'_>, depth: usize) -> Result<Cond, ReadFault>
-    ensures { Reads (spec.cond depth input.old) result input.new }
+    ensures reads { Reads (spec.cond depth input.old) result input.new }
 {
     if depth == 0 {
         return Err(ReadFault::Refused);

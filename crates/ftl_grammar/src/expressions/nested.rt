@@ -6,7 +6,7 @@ ghost use Rattle.ftl_grammar.specs.syntax.ExpressionReading as spec;
 ghost use Rattle.ftl_grammar.specs.expressions.Nests.{IsNested};
 
 use crate::syntax::{Cond, Expr};
-use ftl_tokens::reading::{Input, ReadFault};
+use ftl_tokens::{Input, ReadFault};
 use std::alloc::Global;
 
 /// What reads expressions and conditions between brackets.
@@ -23,15 +23,15 @@ impl<
     C: Fn(Global, &mut Input<'_>, usize) -> Result<Cond, ReadFault>,
 > Nested<E, C> {
     pub fn expr(&self, alloc: Global, input: &mut Input<'_>) -> Result<Expr, ReadFault>
-        requires { IsNested E.Fn C.Fn self.now }
-        ensures { Reads (spec.expr self.now.depth input.old) result input.new }
+        requires nested { IsNested E.Fn C.Fn self.now }
+        ensures reads { Reads (spec.expr self.now.depth input.old) result input.new }
     {
         (self.expr)(alloc, input, self.depth)
     }
 
     pub fn cond(&self, alloc: Global, input: &mut Input<'_>) -> Result<Cond, ReadFault>
-        requires { IsNested E.Fn C.Fn self.now }
-        ensures { Reads (spec.cond self.now.depth input.old) result input.new }
+        requires nested { IsNested E.Fn C.Fn self.now }
+        ensures reads { Reads (spec.cond self.now.depth input.old) result input.new }
     {
         (self.cond)(alloc, input, self.depth)
     }

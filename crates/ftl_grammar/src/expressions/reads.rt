@@ -5,8 +5,7 @@ ghost use Rattle.ftl_grammar.specs.syntax.SumReading as spec;
 
 use crate::syntax::Read;
 use ftl_base::Cmp;
-use ftl_tokens::reading::{Input, ReadFault};
-use ftl_tokens::scanner::{Kind, Name};
+use ftl_tokens::{Input, Kind, Name, ReadFault};
 use std::alloc::Global;
 
 /// A dot and a name.
@@ -20,7 +19,7 @@ pub fn dot_name(alloc: Global, input: &mut Input<'_>) -> Result<Name, ReadFault>
 
 #[tactic(auto, unfolding(crate::specs::syntax::SumReading::read))]
 pub fn read(alloc: Global, input: &mut Input<'_>) -> Result<Read, ReadFault>
-    ensures { Reads (spec.read input.old) result input.new }
+    ensures reads { Reads (spec.read input.old) result input.new }
 {
     match input.peek() {
         Some(Kind::SelfWord) => {
@@ -45,7 +44,7 @@ pub fn read(alloc: Global, input: &mut Input<'_>) -> Result<Read, ReadFault>
 
 #[tactic(auto, unfolding(crate::specs::syntax::SumReading::comparator))]
 pub fn comparator(input: &mut Input<'_>) -> Result<Cmp, ReadFault>
-    ensures { Reads (spec.comparator input.old) result input.new }
+    ensures reads { Reads (spec.comparator input.old) result input.new }
 {
     let cmp = match input.peek() {
         Some(Kind::Less) => Cmp::Less,

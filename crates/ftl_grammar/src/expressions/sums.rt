@@ -11,8 +11,7 @@ use crate::expressions::reads::{comparator, dot_name, read};
 use crate::syntax::{
     Atom, Cond, Expr, Factor, Factors, SignedTerm, SignedTerms, Sum, Term, Test, Unary,
 };
-use ftl_tokens::reading::{Input, ReadFault};
-use ftl_tokens::scanner::Kind;
+use ftl_tokens::{Input, Kind, ReadFault};
 use sqlite_items::{Boxed, Items};
 use std::alloc::Global;
 
@@ -21,8 +20,8 @@ impl<
     C: Fn(Global, &mut Input<'_>, usize) -> Result<Cond, ReadFault>,
 > Nested<E, C> {
     fn boxed_expr(&self, alloc: Global, input: &mut Input<'_>) -> Result<Boxed<Expr>, ReadFault>
-        requires { IsNested E.Fn C.Fn self.now }
-        ensures { Reads (reading.expr self.now.depth input.old) result input.new }
+        requires nested { IsNested E.Fn C.Fn self.now }
+        ensures reads { Reads (reading.expr self.now.depth input.old) result input.new }
     {
         let inner = self.expr(alloc, input)?;
         Ok(Boxed::new(alloc, inner)?)
@@ -31,8 +30,9 @@ impl<
     // An expression and `)`, after `(`.
     #[tactic(auto, unfolding(crate::specs::syntax::SumReading::group))]
     fn group(&self, alloc: Global, input: &mut Input<'_>) -> Result<Boxed<Expr>, ReadFault>
-        requires { IsNested E.Fn C.Fn self.now }
-        ensures { Reads (spec.group (reading.expr self.now.depth) input.old) result input.new }
+        requires nested { IsNested E.Fn C.Fn self.now }
+        ensures reads { Reads (spec.group (reading.expr self.now.depth) input.old)
+            result input.new }
     {
         let inner = self.boxed_expr(alloc, input)?;
         input.expect(Kind::RightParen)?;
@@ -41,8 +41,9 @@ impl<
 
     #[tactic(auto, unfolding(crate::specs::syntax::SumReading::plain))]
     fn plain(&self, alloc: Global, input: &mut Input<'_>) -> Result<Atom, ReadFault>
-        requires { IsNested E.Fn C.Fn self.now }
-        ensures { Reads (spec.plain (reading.expr self.now.depth) input.old) result input.new }
+        requires nested { IsNested E.Fn C.Fn self.now }
+        ensures reads { Reads (spec.plain (reading.expr self.now.depth) input.old)
+            result input.new }
     {
         match input.peek() {
             Some(Kind::Number) => Ok(Atom::Number(input.number()?)),
@@ -65,8 +66,8 @@ impl<
         alloc: Global,
         input: &mut Input<'_>,
     ) -> Result<(Boxed<Expr>, Boxed<Expr>), ReadFault>
-        requires { IsNested E.Fn C.Fn self.now }
-        ensures { Reads (spec.pair (reading.expr self.now.depth) input.old) result input.new }
+        requires nested { IsNested E.Fn C.Fn self.now }
+        ensures reads { Reads (spec.pair (reading.expr self.now.depth) input.old) result input.new }
     {
         input.expect(Kind::LeftParen)?;
         let first = self.boxed_expr(alloc, input)?;
@@ -79,8 +80,9 @@ impl<
     // A child, its attribute, and what stands after `or`, after `last`.
     #[tactic(auto, unfolding(crate::specs::syntax::SumReading::last_or))]
     fn last_or(&self, alloc: Global, input: &mut Input<'_>) -> Result<Atom, ReadFault>
-        requires { IsNested E.Fn C.Fn self.now }
-        ensures { Reads (spec.last_or (reading.expr self.now.depth) input.old) result input.new }
+        requires nested { IsNested E.Fn C.Fn self.now }
+        ensures reads { Reads (spec.last_or (reading.expr self.now.depth) input.old)
+            result input.new }
     {
         let child = input.name(alloc)?;
         let attr = dot_name(alloc, input)?;
@@ -91,8 +93,8 @@ impl<
 
     #[tactic(auto, unfolding(crate::specs::syntax::SumReading::atom))]
     fn atom(&self, alloc: Global, input: &mut Input<'_>) -> Result<Atom, ReadFault>
-        requires { IsNested E.Fn C.Fn self.now }
-        ensures { Reads (spec.atom (reading.expr self.now.depth) input.old) result input.new }
+        requires nested { IsNested E.Fn C.Fn self.now }
+        ensures reads { Reads (spec.atom (reading.expr self.now.depth) input.old) result input.new }
     {
         match input.peek() {
             Some(Kind::Min) => {
@@ -115,8 +117,9 @@ impl<
 
     #[tactic(auto, unfolding(crate::specs::syntax::SumReading::unary))]
     fn unary(&self, alloc: Global, input: &mut Input<'_>) -> Result<Unary, ReadFault>
-        requires { IsNested E.Fn C.Fn self.now }
-        ensures { Reads (spec.unary (reading.expr self.now.depth) input.old) result input.new }
+        requires nested { IsNested E.Fn C.Fn self.now }
+        ensures reads { Reads (spec.unary (reading.expr self.now.depth) input.old)
+            result input.new }
     {
         match input.peek() {
             Some(Kind::Minus) => {
@@ -134,8 +137,9 @@ impl<
     // One more factor, if there is one.
     #[tactic(auto, unfolding(crate::specs::syntax::SumReading::factor))]
     fn factor(&self, alloc: Global, input: &mut Input<'_>) -> Result<Option<Factor>, ReadFault>
-        requires { IsNested E.Fn C.Fn self.now }
-        ensures { Reads (spec.factor (reading.expr self.now.depth) input.old) result input.new }
+        requires nested { IsNested E.Fn C.Fn self.now }
+        ensures reads { Reads (spec.factor (reading.expr self.now.depth) input.old)
+            result input.new }
     {
         match input.peek() {
             Some(Kind::Star) => {
@@ -151,8 +155,8 @@ impl<
     }
 
     fn factors(&self, alloc: Global, input: &mut Input<'_>) -> Result<Factors, ReadFault>
-        requires { IsNested E.Fn C.Fn self.now }
-        ensures { Reads (chain_of push (spec.factor (reading.expr self.now.depth)) []
+        requires nested { IsNested E.Fn C.Fn self.now }
+        ensures reads { Reads (chain_of push (spec.factor (reading.expr self.now.depth)) []
             input.old) result input.new }
     {
         let mut found = Items::new(alloc);
@@ -167,8 +171,8 @@ impl<
 
     #[tactic(auto, unfolding(crate::specs::syntax::SumReading::term))]
     fn term(&self, alloc: Global, input: &mut Input<'_>) -> Result<Term, ReadFault>
-        requires { IsNested E.Fn C.Fn self.now }
-        ensures { Reads (spec.term (reading.expr self.now.depth) input.old) result input.new }
+        requires nested { IsNested E.Fn C.Fn self.now }
+        ensures reads { Reads (spec.term (reading.expr self.now.depth) input.old) result input.new }
     {
         let head = self.unary(alloc, input)?;
         let tail = self.factors(alloc, input)?;
@@ -178,8 +182,9 @@ impl<
     // One more term with its sign, if there is one.
     #[tactic(auto, unfolding(crate::specs::syntax::SumReading::signed))]
     fn signed(&self, alloc: Global, input: &mut Input<'_>) -> Result<Option<SignedTerm>, ReadFault>
-        requires { IsNested E.Fn C.Fn self.now }
-        ensures { Reads (spec.signed (reading.expr self.now.depth) input.old) result input.new }
+        requires nested { IsNested E.Fn C.Fn self.now }
+        ensures reads { Reads (spec.signed (reading.expr self.now.depth) input.old)
+            result input.new }
     {
         let minus = match input.peek() {
             Some(Kind::Plus) => false,
@@ -192,8 +197,8 @@ impl<
     }
 
     fn signed_terms(&self, alloc: Global, input: &mut Input<'_>) -> Result<SignedTerms, ReadFault>
-        requires { IsNested E.Fn C.Fn self.now }
-        ensures { Reads (chain_of push (spec.signed (reading.expr self.now.depth)) []
+        requires nested { IsNested E.Fn C.Fn self.now }
+        ensures reads { Reads (chain_of push (spec.signed (reading.expr self.now.depth)) []
             input.old) result input.new }
     {
         let mut found = Items::new(alloc);
@@ -208,8 +213,8 @@ impl<
 
     #[tactic(auto, unfolding(crate::specs::syntax::SumReading::sum))]
     pub fn sum(&self, alloc: Global, input: &mut Input<'_>) -> Result<Sum, ReadFault>
-        requires { IsNested E.Fn C.Fn self.now }
-        ensures { Reads (spec.sum (reading.expr self.now.depth) input.old) result input.new }
+        requires nested { IsNested E.Fn C.Fn self.now }
+        ensures reads { Reads (spec.sum (reading.expr self.now.depth) input.old) result input.new }
     {
         let head = self.term(alloc, input)?;
         let tail = self.signed_terms(alloc, input)?;
@@ -217,8 +222,8 @@ impl<
     }
 
     pub fn boxed_sum(&self, alloc: Global, input: &mut Input<'_>) -> Result<Boxed<Sum>, ReadFault>
-        requires { IsNested E.Fn C.Fn self.now }
-        ensures { Reads (spec.sum (reading.expr self.now.depth) input.old) result input.new }
+        requires nested { IsNested E.Fn C.Fn self.now }
+        ensures reads { Reads (spec.sum (reading.expr self.now.depth) input.old) result input.new }
     {
         let sum = self.sum(alloc, input)?;
         Ok(Boxed::new(alloc, sum)?)
@@ -226,8 +231,9 @@ impl<
 
     #[tactic(auto, unfolding(crate::specs::syntax::SumReading::comparison))]
     pub fn comparison(&self, alloc: Global, input: &mut Input<'_>) -> Result<Test, ReadFault>
-        requires { IsNested E.Fn C.Fn self.now }
-        ensures { Reads (spec.comparison (reading.expr self.now.depth) input.old) result input.new }
+        requires nested { IsNested E.Fn C.Fn self.now }
+        ensures reads { Reads (spec.comparison (reading.expr self.now.depth) input.old)
+            result input.new }
     {
         let left = self.boxed_sum(alloc, input)?;
         let cmp = comparator(input)?;

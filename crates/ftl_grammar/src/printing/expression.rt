@@ -15,13 +15,13 @@ ghost use Rattle.ftl_grammar.specs.printing.GrammarTokens.{spaced_text};
 use crate::printing::token::{fixed, name, number};
 use crate::syntax::{Atom, Cond, Conj, Expr, Factor, Read, SignedTerm, Sum, Term, Test, Unary};
 use ftl_base::Cmp;
-use ftl_tokens::scanner::{Kind, Name};
+use ftl_tokens::{Kind, Name};
 use std::alloc::AllocError;
 
 #[cycle(printing)]
 #[tactic(auto, unfolding(crate::specs::printing::ExpressionTokens::expr_tokens, crate::specs::printing::ExpressionTokens::sum_tokens, crate::specs::printing::ExpressionTokens::cond_tokens))]
 pub fn print_expr(out: &mut String, expr: &Expr) -> Result<(), AllocError>
-    ensures { OnOk result (string_bytes out.new
+    ensures text { OnOk result (string_bytes out.new
         ≡ string_bytes out.old ++ spaced_text (expr_tokens expr.now)) }
 {
     match expr {
@@ -40,7 +40,7 @@ pub fn print_expr(out: &mut String, expr: &Expr) -> Result<(), AllocError>
 #[cycle(printing)]
 #[tactic(auto, unfolding(crate::specs::printing::ExpressionTokens::sum_tokens, crate::specs::printing::ExpressionTokens::term_tokens, crate::specs::printing::ExpressionTokens::signed_tokens))]
 fn print_sum(out: &mut String, sum: &Sum) -> Result<(), AllocError>
-    ensures { OnOk result (string_bytes out.new
+    ensures text { OnOk result (string_bytes out.new
         ≡ string_bytes out.old ++ spaced_text (sum_tokens sum.now)) }
 {
     print_term(out, &sum.head)?;
@@ -53,7 +53,7 @@ fn print_sum(out: &mut String, sum: &Sum) -> Result<(), AllocError>
 #[cycle(printing)]
 #[tactic(auto, unfolding(crate::specs::printing::ExpressionTokens::signed_tokens, crate::specs::printing::ExpressionTokens::term_tokens))]
 fn print_signed_term(out: &mut String, signed: &SignedTerm) -> Result<(), AllocError>
-    ensures { OnOk result (string_bytes out.new
+    ensures text { OnOk result (string_bytes out.new
         ≡ string_bytes out.old ++ spaced_text (signed_tokens signed.now)) }
 {
     if signed.minus {
@@ -67,7 +67,7 @@ fn print_signed_term(out: &mut String, signed: &SignedTerm) -> Result<(), AllocE
 #[cycle(printing)]
 #[tactic(auto, unfolding(crate::specs::printing::ExpressionTokens::term_tokens, crate::specs::printing::ExpressionTokens::unary_tokens, crate::specs::printing::ExpressionTokens::factor_tokens))]
 fn print_term(out: &mut String, term: &Term) -> Result<(), AllocError>
-    ensures { OnOk result (string_bytes out.new
+    ensures text { OnOk result (string_bytes out.new
         ≡ string_bytes out.old ++ spaced_text (term_tokens term.now)) }
 {
     print_unary(out, &term.head)?;
@@ -80,7 +80,7 @@ fn print_term(out: &mut String, term: &Term) -> Result<(), AllocError>
 #[cycle(printing)]
 #[tactic(auto, unfolding(crate::specs::printing::ExpressionTokens::factor_tokens, crate::specs::printing::ExpressionTokens::unary_tokens))]
 fn print_factor(out: &mut String, factor: &Factor) -> Result<(), AllocError>
-    ensures { OnOk result (string_bytes out.new
+    ensures text { OnOk result (string_bytes out.new
         ≡ string_bytes out.old ++ spaced_text (factor_tokens factor.now)) }
 {
     match factor {
@@ -98,7 +98,7 @@ fn print_factor(out: &mut String, factor: &Factor) -> Result<(), AllocError>
 #[cycle(printing)]
 #[tactic(auto, unfolding(crate::specs::printing::ExpressionTokens::unary_tokens, crate::specs::printing::ExpressionTokens::atom_tokens))]
 fn print_unary(out: &mut String, unary: &Unary) -> Result<(), AllocError>
-    ensures { OnOk result (string_bytes out.new
+    ensures text { OnOk result (string_bytes out.new
         ≡ string_bytes out.old ++ spaced_text (unary_tokens unary.now)) }
 {
     if unary.minus {
@@ -110,7 +110,7 @@ fn print_unary(out: &mut String, unary: &Unary) -> Result<(), AllocError>
 #[cycle(printing)]
 #[tactic(auto, unfolding(crate::specs::printing::ExpressionTokens::atom_tokens, crate::specs::printing::ExpressionTokens::expr_tokens))]
 fn print_atom(out: &mut String, atom: &Atom) -> Result<(), AllocError>
-    ensures { OnOk result (string_bytes out.new
+    ensures text { OnOk result (string_bytes out.new
         ≡ string_bytes out.old ++ spaced_text (atom_tokens atom.now)) }
 {
     match atom {
@@ -149,7 +149,7 @@ fn print_atom(out: &mut String, atom: &Atom) -> Result<(), AllocError>
 
 /// The attribute of a child, or of a kid.
 fn print_of_child(out: &mut String, child: &Name, attr: &Name) -> Result<(), AllocError>
-    ensures { OnOk result (string_bytes out.new ≡ string_bytes out.old
+    ensures text { OnOk result (string_bytes out.new ≡ string_bytes out.old
         ++ spaced_text (said.name child.now ∷ said.fixed Kind.Dot ∷ said.name attr.now ∷ [])) }
 {
     name(out, child)?;
@@ -159,7 +159,7 @@ fn print_of_child(out: &mut String, child: &Name, attr: &Name) -> Result<(), All
 
 /// The attribute that a word reads.
 fn print_of_word(out: &mut String, word: Kind, attr: &Name) -> Result<(), AllocError>
-    ensures { OnOk result (string_bytes out.new ≡ string_bytes out.old
+    ensures text { OnOk result (string_bytes out.new ≡ string_bytes out.old
         ++ spaced_text (said.fixed word ∷ said.fixed Kind.Dot ∷ said.name attr.now ∷ [])) }
 {
     fixed(out, word)?;
@@ -168,7 +168,7 @@ fn print_of_word(out: &mut String, word: Kind, attr: &Name) -> Result<(), AllocE
 }
 
 fn print_read(out: &mut String, read: &Read) -> Result<(), AllocError>
-    ensures { OnOk result (string_bytes out.new
+    ensures text { OnOk result (string_bytes out.new
         ≡ string_bytes out.old ++ spaced_text (read_tokens read.now)) }
 {
     match read {
@@ -182,7 +182,7 @@ fn print_read(out: &mut String, read: &Read) -> Result<(), AllocError>
 #[cycle(printing)]
 #[tactic(auto, unfolding(crate::specs::printing::ExpressionTokens::cond_tokens, crate::specs::printing::ExpressionTokens::conj_tokens))]
 fn print_cond(out: &mut String, cond: &Cond) -> Result<(), AllocError>
-    ensures { OnOk result (string_bytes out.new
+    ensures text { OnOk result (string_bytes out.new
         ≡ string_bytes out.old ++ spaced_text (cond_tokens cond.now)) }
 {
     let Some((head, tail)) = cond.any.as_slice().split_first() else {
@@ -199,7 +199,7 @@ fn print_cond(out: &mut String, cond: &Cond) -> Result<(), AllocError>
 #[cycle(printing)]
 #[tactic(auto, unfolding(crate::specs::printing::ExpressionTokens::conj_tokens, crate::specs::printing::ExpressionTokens::test_tokens))]
 fn print_conj(out: &mut String, conj: &Conj) -> Result<(), AllocError>
-    ensures { OnOk result (string_bytes out.new
+    ensures text { OnOk result (string_bytes out.new
         ≡ string_bytes out.old ++ spaced_text (conj_tokens conj.now)) }
 {
     let Some((head, tail)) = conj.every.as_slice().split_first() else {
@@ -216,7 +216,7 @@ fn print_conj(out: &mut String, conj: &Conj) -> Result<(), AllocError>
 #[cycle(printing)]
 #[tactic(auto, unfolding(crate::specs::printing::ExpressionTokens::test_tokens, crate::specs::printing::ExpressionTokens::cond_tokens, crate::specs::printing::ExpressionTokens::sum_tokens))]
 fn print_test(out: &mut String, test: &Test) -> Result<(), AllocError>
-    ensures { OnOk result (string_bytes out.new
+    ensures text { OnOk result (string_bytes out.new
         ≡ string_bytes out.old ++ spaced_text (test_tokens test.now)) }
 {
     match test {
@@ -237,7 +237,7 @@ fn print_test(out: &mut String, test: &Test) -> Result<(), AllocError>
 }
 
 fn comparison_mark(cmp: Cmp) -> Kind
-    ensures { result ≡ comparison_mark cmp }
+    ensures mark { result ≡ comparison_mark cmp }
 {
     match cmp {
         Cmp::Less => Kind::Less,

@@ -15,7 +15,7 @@ ghost use Rattle.ftl_grammar.specs.printing.TextOf.{IsTextOf};
 use crate::printing::expression::print_expr;
 use crate::printing::token::{fixed, name};
 use crate::syntax::{AttrDecl, AttrKind, Body, Child, Class, Grammar, Interface, Rule, Target};
-use ftl_tokens::scanner::{Kind, Name};
+use ftl_tokens::{Kind, Name};
 use std::alloc::{AllocError, Global};
 
 /// The canonical text of a grammar. Where any text spells the grammar, this one does.
@@ -30,7 +30,7 @@ pub fn print_grammar(alloc: Global, grammar: &Grammar) -> Result<String, AllocEr
 }
 
 fn print_whole(out: &mut String, grammar: &Grammar) -> Result<(), AllocError>
-    ensures { OnOk result (string_bytes out.new
+    ensures text { OnOk result (string_bytes out.new
         ≡ string_bytes out.old ++ grammar_text grammar.now) }
 {
     print_root(out, &grammar.root)?;
@@ -39,7 +39,7 @@ fn print_whole(out: &mut String, grammar: &Grammar) -> Result<(), AllocError>
 }
 
 fn print_root(out: &mut String, root: &Name) -> Result<(), AllocError>
-    ensures { OnOk result (string_bytes out.new ≡ string_bytes out.old
+    ensures text { OnOk result (string_bytes out.new ≡ string_bytes out.old
         ++ spaced_text (said.fixed Kind.Root ∷ said.name root.now
         ∷ said.fixed Kind.Semicolon ∷ [])) }
 {
@@ -49,7 +49,7 @@ fn print_root(out: &mut String, root: &Name) -> Result<(), AllocError>
 }
 
 fn print_interfaces(out: &mut String, interfaces: &[Interface]) -> Result<(), AllocError>
-    ensures { OnOk result (string_bytes out.new
+    ensures text { OnOk result (string_bytes out.new
         ≡ string_bytes out.old ++ spaced_text (flat_map interface_tokens interfaces.now)) }
 {
     for interface in interfaces {
@@ -59,7 +59,7 @@ fn print_interfaces(out: &mut String, interfaces: &[Interface]) -> Result<(), Al
 }
 
 fn print_interface(out: &mut String, interface: &Interface) -> Result<(), AllocError>
-    ensures { OnOk result (string_bytes out.new
+    ensures text { OnOk result (string_bytes out.new
         ≡ string_bytes out.old ++ spaced_text (interface_tokens interface.now)) }
 {
     fixed(out, Kind::Interface)?;
@@ -71,7 +71,7 @@ fn print_interface(out: &mut String, interface: &Interface) -> Result<(), AllocE
 }
 
 fn print_attrs(out: &mut String, attrs: &[AttrDecl]) -> Result<(), AllocError>
-    ensures { OnOk result (string_bytes out.new
+    ensures text { OnOk result (string_bytes out.new
         ≡ string_bytes out.old ++ spaced_text (flat_map attr_tokens attrs.now)) }
 {
     for attr in attrs {
@@ -81,7 +81,7 @@ fn print_attrs(out: &mut String, attrs: &[AttrDecl]) -> Result<(), AllocError>
 }
 
 fn print_attr(out: &mut String, attr: &AttrDecl) -> Result<(), AllocError>
-    ensures { OnOk result (string_bytes out.new
+    ensures text { OnOk result (string_bytes out.new
         ≡ string_bytes out.old ++ spaced_text (attr_tokens attr.now)) }
 {
     fixed(out, attr_word(attr.kind))?;
@@ -90,7 +90,7 @@ fn print_attr(out: &mut String, attr: &AttrDecl) -> Result<(), AllocError>
 }
 
 fn attr_word(kind: AttrKind) -> Kind
-    ensures { result ≡ attr_word kind }
+    ensures word { result ≡ attr_word kind }
 {
     match kind {
         AttrKind::Inh => Kind::Inh,
@@ -101,7 +101,7 @@ fn attr_word(kind: AttrKind) -> Kind
 }
 
 fn print_shown(out: &mut String, shown: &[Name]) -> Result<(), AllocError>
-    ensures { OnOk result (string_bytes out.new
+    ensures text { OnOk result (string_bytes out.new
         ≡ string_bytes out.old ++ spaced_text (shown_tokens shown.now)) }
 {
     let Some((first, others)) = shown.split_first() else {
@@ -114,7 +114,7 @@ fn print_shown(out: &mut String, shown: &[Name]) -> Result<(), AllocError>
 }
 
 fn print_next_names(out: &mut String, names: &[Name]) -> Result<(), AllocError>
-    ensures { OnOk result (string_bytes out.new
+    ensures text { OnOk result (string_bytes out.new
         ≡ string_bytes out.old ++ spaced_text (flat_map next_name names.now)) }
 {
     for next in names {
@@ -125,7 +125,7 @@ fn print_next_names(out: &mut String, names: &[Name]) -> Result<(), AllocError>
 }
 
 fn print_classes(out: &mut String, classes: &[Class]) -> Result<(), AllocError>
-    ensures { OnOk result (string_bytes out.new
+    ensures text { OnOk result (string_bytes out.new
         ≡ string_bytes out.old ++ spaced_text (flat_map class_tokens classes.now)) }
 {
     for class in classes {
@@ -135,7 +135,7 @@ fn print_classes(out: &mut String, classes: &[Class]) -> Result<(), AllocError>
 }
 
 fn print_class(out: &mut String, class: &Class) -> Result<(), AllocError>
-    ensures { OnOk result (string_bytes out.new
+    ensures text { OnOk result (string_bytes out.new
         ≡ string_bytes out.old ++ spaced_text (class_tokens class.now)) }
 {
     print_class_head(out, &class.name, &class.interface)?;
@@ -146,7 +146,7 @@ fn print_class(out: &mut String, class: &Class) -> Result<(), AllocError>
 }
 
 fn print_class_head(out: &mut String, class: &Name, interface: &Name) -> Result<(), AllocError>
-    ensures { OnOk result (string_bytes out.new ≡ string_bytes out.old
+    ensures text { OnOk result (string_bytes out.new ≡ string_bytes out.old
         ++ spaced_text (said.fixed Kind.Class ∷ said.name class.now ∷ said.fixed Kind.Colon
         ∷ said.name interface.now ∷ said.fixed Kind.LeftBrace ∷ [])) }
 {
@@ -158,7 +158,7 @@ fn print_class_head(out: &mut String, class: &Name, interface: &Name) -> Result<
 }
 
 fn print_children(out: &mut String, children: &[Child]) -> Result<(), AllocError>
-    ensures { OnOk result (string_bytes out.new
+    ensures text { OnOk result (string_bytes out.new
         ≡ string_bytes out.old ++ spaced_text (flat_map child_tokens children.now)) }
 {
     for child in children {
@@ -168,7 +168,7 @@ fn print_children(out: &mut String, children: &[Child]) -> Result<(), AllocError
 }
 
 fn print_child(out: &mut String, child: &Child) -> Result<(), AllocError>
-    ensures { OnOk result (string_bytes out.new
+    ensures text { OnOk result (string_bytes out.new
         ≡ string_bytes out.old ++ spaced_text (child_tokens child.now)) }
 {
     name(out, &child.name)?;
@@ -184,7 +184,7 @@ fn print_child(out: &mut String, child: &Child) -> Result<(), AllocError>
 }
 
 fn print_rules(out: &mut String, rules: &[Rule]) -> Result<(), AllocError>
-    ensures { OnOk result (string_bytes out.new
+    ensures text { OnOk result (string_bytes out.new
         ≡ string_bytes out.old ++ spaced_text (flat_map rule_tokens rules.now)) }
 {
     for rule in rules {
@@ -194,7 +194,7 @@ fn print_rules(out: &mut String, rules: &[Rule]) -> Result<(), AllocError>
 }
 
 fn print_rule(out: &mut String, rule: &Rule) -> Result<(), AllocError>
-    ensures { OnOk result (string_bytes out.new
+    ensures text { OnOk result (string_bytes out.new
         ≡ string_bytes out.old ++ spaced_text (rule_tokens rule.now)) }
 {
     print_target(out, &rule.target)?;
@@ -204,7 +204,7 @@ fn print_rule(out: &mut String, rule: &Rule) -> Result<(), AllocError>
 }
 
 fn print_target(out: &mut String, target: &Target) -> Result<(), AllocError>
-    ensures { OnOk result (string_bytes out.new
+    ensures text { OnOk result (string_bytes out.new
         ≡ string_bytes out.old ++ spaced_text (target_tokens target.now)) }
 {
     match target {
@@ -222,7 +222,7 @@ fn print_target(out: &mut String, target: &Target) -> Result<(), AllocError>
 }
 
 fn print_body(out: &mut String, body: &Body) -> Result<(), AllocError>
-    ensures { OnOk result (string_bytes out.new
+    ensures text { OnOk result (string_bytes out.new
         ≡ string_bytes out.old ++ spaced_text (body_tokens body.now)) }
 {
     match body {

@@ -4,12 +4,11 @@ ghost use Rattle.std.specs.Prelude.{◌≡◌, ◌++◌, string_bytes, OnOk};
 ghost use Rattle.ftl_tokens.specs.scanner.Tokenized as said;
 ghost use Rattle.ftl_grammar.specs.printing.GrammarTokens.{gap_after, spaced_bytes};
 
-use ftl_tokens::scanner::{Kind, Name};
-use ftl_tokens::writing::{write_fixed, write_name, write_number};
+use ftl_tokens::{Kind, Name, write_fixed, write_name, write_number};
 use std::alloc::AllocError;
 
 fn gap_after(kind: Kind) -> &'static str
-    ensures { result.now ≡ gap_after (said.fixed kind) }
+    ensures gap { result.now ≡ gap_after (said.fixed kind) }
 {
     match kind {
         Kind::Semicolon | Kind::LeftBrace | Kind::RightBrace => "\n",
@@ -20,7 +19,7 @@ fn gap_after(kind: Kind) -> &'static str
 /// A reserved word or a mark.
 #[tactic(auto, unfolding(crate::specs::printing::GrammarTokens::spaced_bytes))]
 pub fn fixed(out: &mut String, kind: Kind) -> Result<(), AllocError>
-    ensures { OnOk result (string_bytes out.new
+    ensures text { OnOk result (string_bytes out.new
         ≡ string_bytes out.old ++ spaced_bytes (said.fixed kind)) }
 {
     write_fixed(out, kind, gap_after(kind))
@@ -28,7 +27,7 @@ pub fn fixed(out: &mut String, kind: Kind) -> Result<(), AllocError>
 
 #[tactic(auto, unfolding(crate::specs::printing::GrammarTokens::spaced_bytes))]
 pub fn name(out: &mut String, name: &Name) -> Result<(), AllocError>
-    ensures { OnOk result (string_bytes out.new
+    ensures text { OnOk result (string_bytes out.new
         ≡ string_bytes out.old ++ spaced_bytes (said.name name.now)) }
 {
     write_name(out, name, " ")
@@ -36,7 +35,7 @@ pub fn name(out: &mut String, name: &Name) -> Result<(), AllocError>
 
 #[tactic(auto, unfolding(crate::specs::printing::GrammarTokens::spaced_bytes))]
 pub fn number(out: &mut String, number: u32) -> Result<(), AllocError>
-    ensures { OnOk result (string_bytes out.new
+    ensures text { OnOk result (string_bytes out.new
         ≡ string_bytes out.old ++ spaced_bytes (said.number number)) }
 {
     write_number(out, number as u64, " ")

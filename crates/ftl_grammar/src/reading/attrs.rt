@@ -8,15 +8,14 @@ ghost use Rattle.ftl_grammar.specs.syntax.InterfaceReading.{append};
 ghost use Rattle.ftl_grammar.specs.reading.View.{ReadsAs};
 
 use crate::syntax::{AttrDecl, AttrDecls, AttrKind, NameList};
-use ftl_tokens::reading::{Input, ReadFault};
-use ftl_tokens::scanner::{Kind, Name};
+use ftl_tokens::{Input, Kind, Name, ReadFault};
 use sqlite_items::Items;
 use std::alloc::{AllocError, Global};
 
 // `,` and one more name, if they are there.
 #[tactic(auto, unfolding(crate::specs::syntax::InterfaceReading::comma_name))]
 fn comma_name(alloc: Global, input: &mut Input<'_>) -> Result<Option<Name>, ReadFault>
-    ensures { Reads (spec.comma_name input.old) result input.new }
+    ensures reads { Reads (spec.comma_name input.old) result input.new }
 {
     match input.peek() {
         Some(Kind::Comma) => {
@@ -29,7 +28,7 @@ fn comma_name(alloc: Global, input: &mut Input<'_>) -> Result<Option<Name>, Read
 
 // The names of a list, of which the first was read.
 fn more_names(alloc: Global, input: &mut Input<'_>, first: Name) -> Result<Vec<Name>, ReadFault>
-    ensures { ReadsAs (λ v. v.items) (chain_of push spec.comma_name (first ∷ []) input.old)
+    ensures reads { ReadsAs (λ v. v.items) (chain_of push spec.comma_name (first ∷ []) input.old)
         result input.new }
 {
     let mut found = Vec::new(alloc);
@@ -45,7 +44,7 @@ fn more_names(alloc: Global, input: &mut Input<'_>, first: Name) -> Result<Vec<N
 
 #[tactic(auto, unfolding(crate::specs::syntax::InterfaceReading::names))]
 fn names(alloc: Global, input: &mut Input<'_>) -> Result<Vec<Name>, ReadFault>
-    ensures { ReadsAs (λ v. v.items) (spec.names input.old) result input.new }
+    ensures reads { ReadsAs (λ v. v.items) (spec.names input.old) result input.new }
 {
     let first = input.name(alloc)?;
     more_names(alloc, input, first)
@@ -54,7 +53,7 @@ fn names(alloc: Global, input: &mut Input<'_>) -> Result<Vec<Name>, ReadFault>
 // Names and `;`.
 #[tactic(auto, unfolding(crate::specs::syntax::InterfaceReading::name_line))]
 fn name_line(alloc: Global, input: &mut Input<'_>) -> Result<Vec<Name>, ReadFault>
-    ensures { ReadsAs (λ v. v.items) (spec.name_line input.old) result input.new }
+    ensures reads { ReadsAs (λ v. v.items) (spec.name_line input.old) result input.new }
 {
     let found = names(alloc, input)?;
     input.expect(Kind::Semicolon)?;
@@ -63,7 +62,7 @@ fn name_line(alloc: Global, input: &mut Input<'_>) -> Result<Vec<Name>, ReadFaul
 
 // An attribute of this kind for each name.
 fn decls_of(alloc: Global, kind: AttrKind, names: Vec<Name>) -> Result<AttrDecls, AllocError>
-    ensures { IfOk result (λ xs. xs ≡ map (attr_decl kind) names.items) }
+    ensures declarations { IfOk result (λ xs. xs ≡ map (attr_decl kind) names.items) }
 {
     let mut found = Items::new(alloc);
     for name in names {
@@ -79,7 +78,7 @@ fn attr_group(
     input: &mut Input<'_>,
     kind: AttrKind,
 ) -> Result<Option<AttrDecls>, ReadFault>
-    ensures { Reads (spec.attr_group kind input.old) result input.new }
+    ensures reads { Reads (spec.attr_group kind input.old) result input.new }
 {
     let names = name_line(alloc, input)?;
     Ok(Some(decls_of(alloc, kind, names)?))
@@ -88,7 +87,7 @@ fn attr_group(
 // One more group of attributes of an interface, if there is one.
 #[tactic(auto, unfolding(crate::specs::syntax::InterfaceReading::attrs))]
 fn group_of_interface(alloc: Global, input: &mut Input<'_>) -> Result<Option<AttrDecls>, ReadFault>
-    ensures { Reads (spec.attrs input.old) result input.new }
+    ensures reads { Reads (spec.attrs input.old) result input.new }
 {
     let kind = match input.peek() {
         Some(Kind::Inh) => AttrKind::Inh,
@@ -103,7 +102,7 @@ fn group_of_interface(alloc: Global, input: &mut Input<'_>) -> Result<Option<Att
 // One more group of a class's own attributes, if there is one.
 #[tactic(auto, unfolding(crate::specs::syntax::InterfaceReading::own_attrs))]
 fn group_of_class(alloc: Global, input: &mut Input<'_>) -> Result<Option<AttrDecls>, ReadFault>
-    ensures { Reads (spec.own_attrs input.old) result input.new }
+    ensures reads { Reads (spec.own_attrs input.old) result input.new }
 {
     let kind = match input.peek() {
         Some(Kind::Input) => AttrKind::Input,
@@ -116,7 +115,7 @@ fn group_of_class(alloc: Global, input: &mut Input<'_>) -> Result<Option<AttrDec
 
 /// The attributes of an interface.
 pub fn attrs(alloc: Global, input: &mut Input<'_>) -> Result<AttrDecls, ReadFault>
-    ensures { Reads (chain_of append spec.attrs [] input.old) result input.new }
+    ensures reads { Reads (chain_of append spec.attrs [] input.old) result input.new }
 {
     let mut found = Items::new(alloc);
     for _turn in 0..input.left() {
@@ -130,7 +129,7 @@ pub fn attrs(alloc: Global, input: &mut Input<'_>) -> Result<AttrDecls, ReadFaul
 
 /// The own attributes of a class.
 pub fn own_attrs(alloc: Global, input: &mut Input<'_>) -> Result<AttrDecls, ReadFault>
-    ensures { Reads (chain_of append spec.own_attrs [] input.old) result input.new }
+    ensures reads { Reads (chain_of append spec.own_attrs [] input.old) result input.new }
 {
     let mut found = Items::new(alloc);
     for _turn in 0..input.left() {
@@ -145,7 +144,7 @@ pub fn own_attrs(alloc: Global, input: &mut Input<'_>) -> Result<AttrDecls, Read
 /// The names after `show`, if it is there.
 #[tactic(auto, unfolding(crate::specs::syntax::InterfaceReading::shown))]
 pub fn shown(alloc: Global, input: &mut Input<'_>) -> Result<NameList, ReadFault>
-    ensures { Reads (spec.shown input.old) result input.new }
+    ensures reads { Reads (spec.shown input.old) result input.new }
 {
     match input.peek() {
         Some(Kind::Show) => {

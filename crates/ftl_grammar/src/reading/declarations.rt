@@ -10,15 +10,14 @@ use crate::reading::rules::{child_rule, rules};
 use crate::syntax::{
     Child, ChildList, Class, ClassList, Declaration, Grammar, Interface, InterfaceList, Rule,
 };
-use ftl_tokens::reading::{ChainItem, Input, ReadFault};
-use ftl_tokens::scanner::{Kind, Name};
+use ftl_tokens::{ChainItem, Input, Kind, Name, ReadFault};
 use sqlite_items::Items;
 use std::alloc::Global;
 
 // The rest of an interface, after `interface`.
 #[tactic(auto, unfolding(crate::specs::syntax::InterfaceReading::interface))]
 fn interface(alloc: Global, input: &mut Input<'_>) -> Result<Interface, ReadFault>
-    ensures { Reads (interfaces.interface input.old) result input.new }
+    ensures reads { Reads (interfaces.interface input.old) result input.new }
 {
     let name = input.name(alloc)?;
     input.expect(Kind::LeftBrace)?;
@@ -31,7 +30,7 @@ fn interface(alloc: Global, input: &mut Input<'_>) -> Result<Interface, ReadFaul
 // The interface of a list child, after `:` and `[`.
 #[tactic(auto, unfolding(crate::specs::syntax::InterfaceReading::list_child))]
 fn list_child(alloc: Global, input: &mut Input<'_>, name: Name) -> Result<Child, ReadFault>
-    ensures { Reads (interfaces.list_child name input.old) result input.new }
+    ensures reads { Reads (interfaces.list_child name input.old) result input.new }
 {
     let interface = input.name(alloc)?;
     input.expect(Kind::RightBracket)?;
@@ -46,7 +45,7 @@ fn list_child(alloc: Global, input: &mut Input<'_>, name: Name) -> Result<Child,
 // The interface of a single child, after `:`.
 #[tactic(auto, unfolding(crate::specs::syntax::InterfaceReading::single_child))]
 fn single_child(alloc: Global, input: &mut Input<'_>, name: Name) -> Result<Child, ReadFault>
-    ensures { Reads (interfaces.single_child name input.old) result input.new }
+    ensures reads { Reads (interfaces.single_child name input.old) result input.new }
 {
     let interface = input.name(alloc)?;
     input.expect(Kind::Semicolon)?;
@@ -59,7 +58,7 @@ fn single_child(alloc: Global, input: &mut Input<'_>, name: Name) -> Result<Chil
 
 #[tactic(auto, unfolding(crate::specs::syntax::InterfaceReading::child))]
 fn child(alloc: Global, input: &mut Input<'_>, name: Name) -> Result<Child, ReadFault>
-    ensures { Reads (interfaces.child name input.old) result input.new }
+    ensures reads { Reads (interfaces.child name input.old) result input.new }
 {
     match input.peek() {
         Some(Kind::LeftBracket) => {
@@ -77,7 +76,7 @@ fn named(
     input: &mut Input<'_>,
     name: Name,
 ) -> Result<ChainItem<Child, Rule>, ReadFault>
-    ensures { Reads (spec.named spec.any_expr name input.old) result input.new }
+    ensures reads { Reads (spec.named spec.any_expr name input.old) result input.new }
 {
     match input.peek() {
         Some(Kind::Colon) => {
@@ -91,7 +90,7 @@ fn named(
 // One more child, or the first rule if it is a child's.
 #[tactic(auto, unfolding(crate::specs::syntax::GrammarReading::member))]
 fn member(alloc: Global, input: &mut Input<'_>) -> Result<ChainItem<Child, Rule>, ReadFault>
-    ensures { Reads (spec.member spec.any_expr input.old) result input.new }
+    ensures reads { Reads (spec.member spec.any_expr input.old) result input.new }
 {
     match input.peek() {
         Some(Kind::Name) => {
@@ -104,7 +103,8 @@ fn member(alloc: Global, input: &mut Input<'_>) -> Result<ChainItem<Child, Rule>
 
 // The children of a class, and the rule that ended them, if it was a child's.
 fn children(alloc: Global, input: &mut Input<'_>) -> Result<(ChildList, Option<Rule>), ReadFault>
-    ensures { Reads (until_of push (spec.member spec.any_expr) [] input.old) result input.new }
+    ensures reads { Reads (until_of push (spec.member spec.any_expr) [] input.old)
+        result input.new }
 {
     let mut found = Items::new(alloc);
     for _turn in 0..input.left() {
@@ -120,7 +120,7 @@ fn children(alloc: Global, input: &mut Input<'_>) -> Result<(ChildList, Option<R
 // The rest of a class, after `class`.
 #[tactic(auto, unfolding(crate::specs::syntax::GrammarReading::class))]
 fn class(alloc: Global, input: &mut Input<'_>) -> Result<Class, ReadFault>
-    ensures { Reads (spec.class spec.any_expr input.old) result input.new }
+    ensures reads { Reads (spec.class spec.any_expr input.old) result input.new }
 {
     let name = input.name(alloc)?;
     input.expect(Kind::Colon)?;
@@ -142,7 +142,7 @@ fn class(alloc: Global, input: &mut Input<'_>) -> Result<Class, ReadFault>
 // One more interface or class, if there is one.
 #[tactic(auto, unfolding(crate::specs::syntax::GrammarReading::declaration))]
 fn declaration(alloc: Global, input: &mut Input<'_>) -> Result<Option<Declaration>, ReadFault>
-    ensures { Reads (spec.declaration spec.any_expr input.old) result input.new }
+    ensures reads { Reads (spec.declaration spec.any_expr input.old) result input.new }
 {
     match input.peek() {
         Some(Kind::Interface) => {
@@ -162,7 +162,7 @@ fn declarations(
     alloc: Global,
     input: &mut Input<'_>,
 ) -> Result<(InterfaceList, ClassList), ReadFault>
-    ensures { Reads (chain_of spec.add_declaration (spec.declaration spec.any_expr) ([], [])
+    ensures reads { Reads (chain_of spec.add_declaration (spec.declaration spec.any_expr) ([], [])
         input.old) result input.new }
 {
     let mut interfaces = Items::new(alloc);
@@ -182,14 +182,14 @@ fn declarations(
 /// A grammar, to the end of the text.
 #[tactic(auto, unfolding(crate::specs::syntax::GrammarReading::grammar))]
 pub fn grammar(alloc: Global, input: &mut Input<'_>) -> Result<Grammar, ReadFault>
-    ensures { Reads (spec.grammar input.old) result input.new }
+    ensures reads { Reads (spec.grammar input.old) result input.new }
 {
     grammar_level(alloc, input)
 }
 
 #[tactic(auto, unfolding(crate::specs::syntax::GrammarReading::grammar_level))]
 fn grammar_level(alloc: Global, input: &mut Input<'_>) -> Result<Grammar, ReadFault>
-    ensures { Reads (spec.grammar_level spec.any_expr input.old) result input.new }
+    ensures reads { Reads (spec.grammar_level spec.any_expr input.old) result input.new }
 {
     input.expect(Kind::Root)?;
     let root = input.name(alloc)?;

@@ -5,8 +5,7 @@ ghost use Rattle.ftl_grammar.specs.reading.Read.{ReadsGrammar};
 use crate::reading::declarations::grammar;
 use crate::reading::fault::SyntaxFault;
 use crate::syntax::Grammar;
-use ftl_tokens::reading::{Input, ReadFault, first_too_deep, place};
-use ftl_tokens::scanner::{Kind, Scanned};
+use ftl_tokens::{Input, Kind, ReadFault, Scanned, first_too_deep, place};
 use std::alloc::Global;
 
 const OPENING: [Kind; 2] = [Kind::LeftParen, Kind::LeftBracket];

@@ -6,8 +6,7 @@ ghost use Rattle.ftl_grammar.specs.syntax.GrammarReading as spec;
 
 use crate::expressions::{dot_name, expr};
 use crate::syntax::{Body, Expr, Rule, RuleList, Target};
-use ftl_tokens::reading::{Input, ReadFault};
-use ftl_tokens::scanner::{Kind, Name};
+use ftl_tokens::{Input, Kind, Name, ReadFault};
 use sqlite_items::Items;
 use std::alloc::{AllocError, Global};
 
@@ -15,7 +14,7 @@ use std::alloc::{AllocError, Global};
 const DEPTH: usize = 65;
 
 fn any_expr(alloc: Global, input: &mut Input<'_>) -> Result<Expr, ReadFault>
-    ensures { Reads (spec.any_expr input.old) result input.new }
+    ensures reads { Reads (spec.any_expr input.old) result input.new }
 {
     expr(alloc, input, DEPTH)
 }
@@ -23,7 +22,7 @@ fn any_expr(alloc: Global, input: &mut Input<'_>) -> Result<Expr, ReadFault>
 // The rest of a fold, after `fold`.
 #[tactic(auto, unfolding(crate::specs::syntax::GrammarReading::fold))]
 fn fold(alloc: Global, input: &mut Input<'_>) -> Result<Body, ReadFault>
-    ensures { Reads (spec.fold spec.any_expr input.old) result input.new }
+    ensures reads { Reads (spec.fold spec.any_expr input.old) result input.new }
 {
     let child = input.name(alloc)?;
     input.expect(Kind::From)?;
@@ -35,7 +34,7 @@ fn fold(alloc: Global, input: &mut Input<'_>) -> Result<Body, ReadFault>
 
 #[tactic(auto, unfolding(crate::specs::syntax::GrammarReading::own_body))]
 fn own_body(alloc: Global, input: &mut Input<'_>) -> Result<Body, ReadFault>
-    ensures { Reads (spec.own_body spec.any_expr input.old) result input.new }
+    ensures reads { Reads (spec.own_body spec.any_expr input.old) result input.new }
 {
     match input.peek() {
         Some(Kind::Fold) => {
@@ -49,7 +48,7 @@ fn own_body(alloc: Global, input: &mut Input<'_>) -> Result<Body, ReadFault>
 // Two expressions with `then` between them, after `first`.
 #[tactic(auto, unfolding(crate::specs::syntax::GrammarReading::first_then))]
 fn first_then(alloc: Global, input: &mut Input<'_>) -> Result<Body, ReadFault>
-    ensures { Reads (spec.first_then spec.any_expr input.old) result input.new }
+    ensures reads { Reads (spec.first_then spec.any_expr input.old) result input.new }
 {
     let first = any_expr(alloc, input)?;
     input.expect(Kind::Then)?;
@@ -59,7 +58,7 @@ fn first_then(alloc: Global, input: &mut Input<'_>) -> Result<Body, ReadFault>
 
 #[tactic(auto, unfolding(crate::specs::syntax::GrammarReading::child_body))]
 fn child_body(alloc: Global, input: &mut Input<'_>) -> Result<Body, ReadFault>
-    ensures { Reads (spec.child_body spec.any_expr input.old) result input.new }
+    ensures reads { Reads (spec.child_body spec.any_expr input.old) result input.new }
 {
     match input.peek() {
         Some(Kind::First) => {
@@ -73,7 +72,7 @@ fn child_body(alloc: Global, input: &mut Input<'_>) -> Result<Body, ReadFault>
 // The rest of a rule for the node itself, after `self`.
 #[tactic(auto, unfolding(crate::specs::syntax::GrammarReading::own_rule))]
 fn own_rule(alloc: Global, input: &mut Input<'_>) -> Result<Rule, ReadFault>
-    ensures { Reads (spec.own_rule spec.any_expr input.old) result input.new }
+    ensures reads { Reads (spec.own_rule spec.any_expr input.old) result input.new }
 {
     let attr = dot_name(alloc, input)?;
     input.expect(Kind::Assign)?;
@@ -88,7 +87,7 @@ fn own_rule(alloc: Global, input: &mut Input<'_>) -> Result<Rule, ReadFault>
 /// The rest of a rule for a child, after the child's name.
 #[tactic(auto, unfolding(crate::specs::syntax::GrammarReading::child_rule))]
 pub fn child_rule(alloc: Global, input: &mut Input<'_>, child: Name) -> Result<Rule, ReadFault>
-    ensures { Reads (spec.child_rule spec.any_expr child input.old) result input.new }
+    ensures reads { Reads (spec.child_rule spec.any_expr child input.old) result input.new }
 {
     let attr = dot_name(alloc, input)?;
     input.expect(Kind::Assign)?;
@@ -103,7 +102,7 @@ pub fn child_rule(alloc: Global, input: &mut Input<'_>, child: Name) -> Result<R
 // One more rule, if there is one.
 #[tactic(auto, unfolding(crate::specs::syntax::GrammarReading::rule))]
 fn rule(alloc: Global, input: &mut Input<'_>) -> Result<Option<Rule>, ReadFault>
-    ensures { Reads (spec.rule spec.any_expr input.old) result input.new }
+    ensures reads { Reads (spec.rule spec.any_expr input.old) result input.new }
 {
     match input.peek() {
         Some(Kind::SelfWord) => {
@@ -124,7 +123,7 @@ pub fn rules(
     input: &mut Input<'_>,
     first: Option<Rule>,
 ) -> Result<RuleList, ReadFault>
-    ensures { Reads (chain_of push (spec.rule spec.any_expr) (spec.list_of first) input.old)
+    ensures reads { Reads (chain_of push (spec.rule spec.any_expr) (spec.list_of first) input.old)
         result input.new }
 {
     let mut found = list_of(alloc, first)?;
@@ -138,7 +137,7 @@ pub fn rules(
 }
 
 fn list_of(alloc: Global, first: Option<Rule>) -> Result<RuleList, AllocError>
-    ensures { IfOk result (λ found. found ≡ spec.list_of first) }
+    ensures list { IfOk result (λ found. found ≡ spec.list_of first) }
 {
     let mut found = Items::new(alloc);
     if let Some(rule) = first {

@@ -1,7 +1,7 @@
 //! Expressions and conditions as they are written, with every bracket.
 
 use ftl_base::Cmp;
-use ftl_tokens::scanner::Name;
+use ftl_tokens::Name;
 use sqlite_items::{Boxed, Items};
 
 /// The right side of a rule, or a declaration of it.

@@ -3,7 +3,7 @@
 ghost use Rattle.std.specs.Prelude.{◌≡◌, ℕ, [], Ok, Err};
 ghost use Rattle.ftl_tokens.specs.scanner.Tokenized.{Tokenized};
 ghost use Rattle.ftl_tokens.specs.reading.Reader.{Tokens};
-ghost use Rattle.ftl_tokens.specs.reading.Place.{LongestFront, IsPlaceOf};
+ghost use Rattle.ftl_tokens.specs.reading.Place.{LongestFront, IsFaultPlace};
 ghost use Rattle.ftl_tokens.specs.reading.Depth.{IsShallow};
 ghost use Rattle.ftl_grammar.specs.syntax.Brackets.{brackets, limit};
 ghost use Rattle.ftl_grammar.specs.syntax.GrammarReading.{grammar};
@@ -18,8 +18,8 @@ pub fn one_grammar()
 
 /// The tokens of a text go wrong at one byte at most.
 pub fn one_place()
-    ensures same { (scanned : Tokenized) (at other : ℕ) → IsPlaceOf SpellsGrammar scanned at
-        → IsPlaceOf SpellsGrammar scanned other → at ≡ other }
+    ensures same { (scanned : Tokenized) (at other : ℕ) → IsFaultPlace SpellsGrammar scanned at
+        → IsFaultPlace SpellsGrammar scanned other → at ≡ other }
 {}
 
 /// What the reader of grammars reads is spelled so, and what is spelled so is read, where the

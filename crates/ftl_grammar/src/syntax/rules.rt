@@ -1,7 +1,7 @@
 //! Grammars as they are written: interfaces, and classes with their rules.
 
 use crate::syntax::expression::Expr;
-use ftl_tokens::scanner::Name;
+use ftl_tokens::Name;
 use sqlite_items::Items;
 
 #[derive(Drop)]

@@ -1,6 +1,6 @@
 //! Laws that hold the definitions against worked rules and worked places.
 
-ghost use Rattle.ftl_tokens.specs.reading.Place.{IsPlaceOf};
+ghost use Rattle.ftl_tokens.specs.reading.Place.{IsFaultPlace};
 ghost use Rattle.ftl_grammar.specs.syntax.GrammarSpelling.{SpellsRule, SpellsGrammar};
 ghost use Rattle.ftl_grammar.specs.syntax.Worked.{first_then_tokens, first_then_rule, fold_tokens};
 ghost use Rattle.ftl_grammar.specs.syntax.Worked.{fold_rule, sum_tokens, sum_rule, choice_tokens};
@@ -18,7 +18,7 @@ pub fn worked_rules()
 /// A law: where three texts that spell no grammar go wrong: at the token after the longest front,
 /// at the end of the last token, and at 0 where there is none.
 pub fn worked_places()
-    ensures next { IsPlaceOf SpellsGrammar root_without_name 5 }
-    ensures end { IsPlaceOf SpellsGrammar root_alone 5 }
-    ensures start { IsPlaceOf SpellsGrammar no_tokens 0 }
+    ensures next { IsFaultPlace SpellsGrammar root_without_name 5 }
+    ensures end { IsFaultPlace SpellsGrammar root_alone 5 }
+    ensures start { IsFaultPlace SpellsGrammar no_tokens 0 }
 {}

@@ -1,8 +1,8 @@
 //! Inputs of a tree that a case sets.
 
 use crate::documents::greatest_number;
-use ftl_checked::grammars::Field;
-use ftl_tree::trees::Tree;
+use ftl_checked::Field;
+use ftl_tree::Tree;
 
 /// Sets the inputs that lines name, each by a node, a field and a number; false where a line names
 /// no input, or a number that is none of one.

@@ -5,7 +5,7 @@ ghost use Rattle.ftl_deps.specs.reads.Meant.{meant};
 ghost use Rattle.ftl_model.specs.layout.Tree.{size};
 ghost use Rattle.ftl_tree.specs.rows.KidRuns.{IsChildOf};
 
-use ftl_tree::trees::Tree;
+use ftl_tree::Tree;
 use std::alloc::AllocError;
 use std::fmt::Write;
 

@@ -4,11 +4,10 @@ ghost use Rattle.std.specs.Prelude.{◌≡◌, ◌<◌, IfOk};
 ghost use Rattle.ftl_model.specs.layout.Tree.{size};
 ghost use Rattle.ftl_tree.specs.rows.Rows.{rows_of};
 
-use ftl_document::nodes::document_nodes;
-use ftl_document::syntax::read_written_document;
-use ftl_document_printing::trees::print_document;
-use ftl_tokens::scanner::WideScanned;
-use ftl_tree::trees::{NodeRow, Tree, bare_tree};
+use ftl_document::{document_nodes, read_written_document};
+use ftl_document_printing::print_document;
+use ftl_tokens::WideScanned;
+use ftl_tree::{NodeRow, Tree, bare_tree};
 use std::alloc::{AllocError, Global};
 use std::fmt::Write;
 

@@ -1,10 +1,10 @@
 //! Rules form by form, each form's word before its parts. A list of one part is the part alone.
 
 use ftl_base::Cmp;
-use ftl_grammar::syntax::{
+use ftl_grammar::{
     Atom, Body, Cond, Conj, Expr, Factor, Read, Rule, SignedTerm, Sum, Target, Term, Test, Unary,
 };
-use ftl_tokens::scanner::Name;
+use ftl_tokens::Name;
 use sqlite_items::Items;
 use std::alloc::{AllocError, Global};
 use std::fmt::Write;

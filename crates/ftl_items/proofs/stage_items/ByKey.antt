@@ -12,7 +12,7 @@ use Rattle.ftl_model.specs.layout.Tree.{Forest}
 use Rattle.ftl_model.specs.layout.TreeOf.{IsTreeOf}
 use Rattle.ftl_order.specs.orders.Lawful.{IsLawful, OfClass}
 use Rattle.ftl_order.specs.orders.LegalOrder.{IsStep, KeyFirst, rule_child, turn_of}
-use Rattle.ftl_order.specs.orders.Schedule.{EachStandsOnce, Schedule, pass_at, spot_of}
+use Rattle.ftl_order.specs.orders.Schedule.{EachStandsOnce, Schedule, pass_at, placing_of}
 use Rattle.ftl_order.proofs.orders.TreeEquations.{root_inherits_nothing}
 use Rattle.ftl_items.specs.stage_items.Visits.{children_with, steps_of_rule, visit}
 use Rattle.ftl_items.proofs.stage_items.Ahead.{Ahead, ahead-filter, ahead-flat_map, ahead-map, ahead-range, ahead_inside, ahead_placed}
@@ -114,20 +114,20 @@ module _ (g : AttributeGrammar) (law : IsLawful g) (t : Forest) (fits : IsTreeOf
     attributes_at m = (pass_at s stage m).attributes
 
     index_is : (m : ℕ) (i : Instance) → IsStep g t i → Contains (attributes_at m) i.attribute
-        → (spot_of s i.attribute).index ≡ place_in (attributes_at m) i.attribute
+        → (placing_of s i.attribute).index ≡ place_in (attributes_at m) i.attribute
     index_is m i step there =
         let here = pass_of_step g s t law once fits grain stage m i step there in
         ap₂ (λ u v. place_in (pass_at s u v).attributes i.attribute) here.0 here.1
 
     pub key_ahead : (m : ℕ) (p : Path) (i j : Instance) → Has t p → Contains (visit g t (attributes_at m) p) i
-        → Contains (visit g t (attributes_at m) p) j → KeyFirst (spot_of s) (turn_of g i) (turn_of g j)
+        → Contains (visit g t (attributes_at m) p) j → KeyFirst (placing_of s) (turn_of g i) (turn_of g j)
         → Ahead (visit g t (attributes_at m) p) i j
     key_ahead m p i j there in_i in_j first =
         let vi = in_visit g law t fits (attributes_at m) p there i in_i in
         let vj = in_visit g law t fits (attributes_at m) p there j in_j in
         let ei = index_is m i vi.0 vi.1 in
         let ej = index_is m j vj.0 vj.1 in
-        let same = λ (e : (spot_of s i.attribute).index ≡ (spot_of s j.attribute).index).
+        let same = λ (e : (placing_of s i.attribute).index ≡ (placing_of s j.attribute).index).
         sym (place_is (attributes_at m) i.attribute 0 vi.1)
         ∙ ap (λ n. get_or (attributes_at m) n 0) (sym ei ∙ e ∙ ej)
         ∙ place_is (attributes_at m) j.attribute 0 vj.1 in

@@ -14,7 +14,7 @@ use Rattle.ftl_model.specs.layout.Values.{Value, overflow, word_of_value}
 use Rattle.ftl_order.specs.orders.Lawful.{IsLawful}
 use Rattle.ftl_order.specs.orders.LegalOrder.{IsStep}
 use Rattle.ftl_order.specs.orders.Ordered.{IsOrdered}
-use Rattle.ftl_order.specs.orders.Schedule.{Pass, Schedule, pass_in_stage, spot_of, stage_of}
+use Rattle.ftl_order.specs.orders.Schedule.{Pass, Schedule, pass_in_stage, placing_of, stage_of}
 use Rattle.ftl_order.proofs.orders.Instances.{instance_here, length-instances}
 use Rattle.ftl_items.specs.stage_items.StageWork.{kind_by, kind_by_stage, no_instance, stage_work}
 use Rattle.ftl_items.specs.stage_items.WordLaws.{first_word, first_words}
@@ -44,7 +44,7 @@ all_after_last n stage word low =
 module _ (g : AttributeGrammar) (s : Schedule) (t : Forest) (law : IsLawful g) (ordered : IsOrdered g s)
     (fits : IsTreeOf g t) (solution : List Value) (solves : SolvesList g t solution) (grain : ℕ) where
   -- a computed instance stands in a stage of the schedule
-  in_a_stage : (i : Instance) → IsStep g t i → (spot_of s i.attribute).stage < length s
+  in_a_stage : (i : Instance) → IsStep g t i → (placing_of s i.attribute).stage < length s
   in_a_stage i step =
       let at = listed_at s i.attribute (many_of g s t law ordered.once fits grain 0 i step) in
       elim (ltb (stage_of s i.attribute) (length s)) as
@@ -82,20 +82,20 @@ module _ (g : AttributeGrammar) (s : Schedule) (t : Forest) (law : IsLawful g) (
 
   last_by : (sort : Sort) (c stage : ℕ) → c < instance_count g t → suc stage ≡ length s
       → g.sort (cell c).attribute ≡ sort → (word : ℕ)
-      → last_word_of (kind_by sort (spot_of s (cell c).attribute).stage stage) word ≡ word
+      → last_word_of (kind_by sort (placing_of s (cell c).attribute).stage stage) word ≡ word
   last_by input c stage below last is word = refl
   last_by inherited c stage below last is word =
       let valid = (instance_here g t law fits c no_instance below).0 in
       let within = in_a_stage (cell c) (valid, (λ e. let z : ⊥ = grind arith in z)) in
-      all_after_last (spot_of s (cell c).attribute).stage stage word (omega (arith, within, last))
+      all_after_last (placing_of s (cell c).attribute).stage stage word (omega (arith, within, last))
   last_by synthesized c stage below last is word =
       let valid = (instance_here g t law fits c no_instance below).0 in
       let within = in_a_stage (cell c) (valid, (λ e. let z : ⊥ = grind arith in z)) in
-      all_after_last (spot_of s (cell c).attribute).stage stage word (omega (arith, within, last))
+      all_after_last (placing_of s (cell c).attribute).stage stage word (omega (arith, within, last))
   last_by local c stage below last is word =
       let valid = (instance_here g t law fits c no_instance below).0 in
       let within = in_a_stage (cell c) (valid, (λ e. let z : ⊥ = grind arith in z)) in
-      all_after_last (spot_of s (cell c).attribute).stage stage word (omega (arith, within, last))
+      all_after_last (placing_of s (cell c).attribute).stage stage word (omega (arith, within, last))
 
   length-first : length (first_words g t) ≡ instance_count g t
   length-first =
@@ -117,7 +117,7 @@ module _ (g : AttributeGrammar) (s : Schedule) (t : Forest) (law : IsLawful g) (
         each = λ c below.
             let inside : c < instance_count g t = subst (λ n. c < n) (cell_total-listed w) below in
             first_at c inside
-            ∙ first_by (g.sort (cell c).attribute) c (spot_of s (cell c).attribute).stage inside refl
+            ∙ first_by (g.sort (cell c).attribute) c (placing_of s (cell c).attribute).stage inside refl
             ∙ sym (ap₂ first_word_of (kind_at-listed w c inside) (ap word_of_value (solution_at-listed w c inside)));
       }
 

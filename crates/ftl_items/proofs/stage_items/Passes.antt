@@ -1,4 +1,4 @@
--- In a schedule with each computed attribute once, a pass that lists one is the pass of its spot, and lists it once.
+-- In a schedule with each computed attribute once, a pass that lists one is the pass of its place, and lists it once.
 use Rattle.std.proofs.Common.{◌≡◌, ℕ, zero, suc, ◌+◌, ◌<◌, ◌≤◌, ◌==◌, true, false, cond, if◌then◌else◌, refl, sym, ◌∙◌, ap, subst, arith, List, [], ◌∷◌, ◌++◌, length, get_or, flat_map, count_by, Contains}
 use Rattle.std.proofs.lemmas.List.{get_or_default}
 use Rattle.std.proofs.lemmas.List.Elements.{Contains-append_left, Contains-append_right}
@@ -147,7 +147,7 @@ found_in s a h =
           (subst (λ (p : Pass). Contains p.attributes a) (sym is_pass) pass.2);
     }
 
--- the pass of an attribute's spot is there, and lists it
+-- the pass of an attribute's place is there, and lists it
 pub record ListedAt (s : Schedule) (a : ℕ) : Type 0 where
   pub known : pass_in_stage s a < length (get_or s (stage_of s a) [])
   pub there : Contains (pass_at s (stage_of s a) (pass_in_stage s a)).attributes a

@@ -9,18 +9,19 @@ use Rattle.ftl_model.specs.layout.Solves.{Instance}
 use Rattle.ftl_model.specs.layout.Tree.{Forest, IsTree}
 use Rattle.ftl_model.specs.layout.TreeOf.{IsTreeOf}
 use Rattle.ftl_order.specs.orders.Lawful.{IsLawful}
-use Rattle.ftl_order.specs.orders.LegalOrder.{IsStep, KeyFirst, NearInPass, turn_of}
+use Rattle.ftl_order.specs.orders.LegalOrder.{IsStep, KeyFirst, DirectlyFirstInPass, turn_of}
 use Rattle.ftl_order.specs.orders.Ordered.{EachPairOrdered}
 use Rattle.ftl_order.specs.orders.Reads.{Reads}
-use Rattle.ftl_order.specs.orders.Schedule.{EachStandsOnce, IsOnePass, PassKind, Schedule, bottomup, inorder, pass_at, spot_of, topdown}
-use Rattle.ftl_order.proofs.orders.Near.{reads_near}
+use Rattle.ftl_order.specs.orders.Schedule.{EachStandsOnce, IsOnePass, PassKind, Schedule, bottomup, inorder, pass_at}
+use Rattle.ftl_order.specs.orders.Schedule.{placing_of, topdown}
+use Rattle.ftl_order.proofs.orders.DirectPrecedence.{reads_direct}
 use Rattle.ftl_order.proofs.orders.Ranges.{above_range}
 use Rattle.ftl_order.proofs.orders.SequenceOrder.{stands_by_address, step_there, top_above}
 use Rattle.ftl_order.proofs.orders.TreeEquations.{inside_by}
 use Rattle.ftl_items.specs.stage_items.Cut.{begins, is_open, is_small, nodes_of, subtree, tops}
-use Rattle.ftl_items.specs.stage_items.Items.{Item, hands_on, item, passes_of, spot_at, steps_by, steps_of_item}
+use Rattle.ftl_items.specs.stage_items.Items.{Item, hands_on, item, passes_of, pass_place, steps_by, steps_of_item}
 use Rattle.ftl_items.specs.stage_items.ReadLaws.{IsGivenIn, IsHandedTo}
-use Rattle.ftl_items.specs.stage_items.StepLaws.{HasStep}
+use Rattle.ftl_items.specs.stage_items.StepLaws.{ItemHasStep}
 use Rattle.ftl_items.specs.stage_items.Visits.{visit}
 use Rattle.ftl_items.proofs.stage_items.Ahead.{Ahead, ahead-flat_map, ahead-reverse, ahead_inside, ahead_rising, ahead_stands}
 use Rattle.ftl_items.proofs.stage_items.ByKey.{key_ahead}
@@ -60,7 +61,7 @@ open_cases true = inl refl
 open_cases false = inr refl
 
 module _ (g : AttributeGrammar) (s : Schedule) (t : Forest) (law : IsLawful g) (once : EachStandsOnce g s)
-    (pairs : EachPairOrdered g (spot_of s)) (fits : IsTreeOf g t) (grain stage : ℕ) where
+    (pairs : EachPairOrdered g (placing_of s)) (fits : IsTreeOf g t) (grain stage : ℕ) where
   is_tree : IsTree t
   is_tree = root g s t law once fits grain stage
 
@@ -109,7 +110,7 @@ module _ (g : AttributeGrammar) (s : Schedule) (t : Forest) (law : IsLawful g) (
 
   -- a step i of an item, and a step j of the same pass
   module _ (m : ℕ) (p : Path) (i j : Instance) (step_i : IsStep g t i) (step_j : IsStep g t j)
-      (pass_j : IsOnePass (spot_of s j.attribute) (spot_at stage m))
+      (pass_j : IsOnePass (placing_of s j.attribute) (pass_place stage m))
       (listed_i : Contains (pass_at s stage m).attributes i.attribute)
       (listed_j : Contains (pass_at s stage m).attributes j.attribute)
       (known : m < length (passes_of s stage)) where
@@ -134,7 +135,7 @@ module _ (g : AttributeGrammar) (s : Schedule) (t : Forest) (law : IsLawful g) (
     j_in : Contains (visit_at vj) j
     j_in = visit_has g law t fits (pass_at s stage m).attributes vj j step_j listed_j refl
 
-    in_one_visit : vj ≡ vi → KeyFirst (spot_of s) (turn_of g j) (turn_of g i) → Ahead (visit_at vi) j i
+    in_one_visit : vj ≡ vi → KeyFirst (placing_of s) (turn_of g j) (turn_of g i) → Ahead (visit_at vi) j i
     in_one_visit same first =
         key_ahead g law t fits s once grain stage m vi j i vi_there (subst (λ v. Contains (visit_at v) j) same j_in) i_in
         first
@@ -160,7 +161,7 @@ module _ (g : AttributeGrammar) (s : Schedule) (t : Forest) (law : IsLawful g) (
         ⊎ IsHandedTo g s t grain stage (item m p) j
 
     by_topdown : (pass_at s stage m).kind ≡ topdown → Contains (tops topdown t grain) p
-        → Contains (nodes_of t grain p) vi → NearInPass topdown (spot_of s) (turn_of g j) (turn_of g i)
+        → Contains (nodes_of t grain p) vi → DirectlyFirstInPass topdown (placing_of s) (turn_of g j) (turn_of g i)
         → Readable topdown
     by_topdown e first held near =
         let some : topdown ≢ inorder = λ x. let z : ⊥ = cc in z in
@@ -186,7 +187,7 @@ module _ (g : AttributeGrammar) (s : Schedule) (t : Forest) (law : IsLawful g) (
         (step_down kid.child kid.kid vj)) near
 
     by_bottomup : (pass_at s stage m).kind ≡ bottomup → Contains (tops bottomup t grain) p
-        → Contains (nodes_of t grain p) vi → NearInPass bottomup (spot_of s) (turn_of g j) (turn_of g i)
+        → Contains (nodes_of t grain p) vi → DirectlyFirstInPass bottomup (placing_of s) (turn_of g j) (turn_of g i)
         → Readable bottomup
     by_bottomup e first held near =
         let some : bottomup ≢ inorder = λ x. let z : ⊥ = cc in z in
@@ -215,17 +216,17 @@ module _ (g : AttributeGrammar) (s : Schedule) (t : Forest) (law : IsLawful g) (
         (ap (down kid.child kid.kid) (sym down_one.node ∙ at_home)))))
         (step_down kid.child kid.kid vi)) near
 
-    by_inorder : IsOnePass (spot_of s i.attribute) (spot_at stage m)
-        → NearInPass inorder (spot_of s) (turn_of g j) (turn_of g i) → Readable inorder
+    by_inorder : IsOnePass (placing_of s i.attribute) (pass_place stage m)
+        → DirectlyFirstInPass inorder (placing_of s) (turn_of g j) (turn_of g i) → Readable inorder
     by_inorder pass_i near =
         inl
-        (stands_by_address g law s once t fits (spot_at stage m) top is_tree j i
-        (step_there g law s once t fits (spot_at stage m) top is_tree j step_j (top_above vj) pass_j)
-        (step_there g law s once t fits (spot_at stage m) top is_tree i step_i (top_above vi) pass_i) near)
+        (stands_by_address g law s once t fits (pass_place stage m) top is_tree j i
+        (step_there g law s once t fits (pass_place stage m) top is_tree j step_j (top_above vj) pass_j)
+        (step_there g law s once t fits (pass_place stage m) top is_tree i step_i (top_above vi) pass_i) near)
 
-    by_kind : (kind : PassKind) → (pass_at s stage m).kind ≡ kind → IsOnePass (spot_of s i.attribute) (spot_at stage m)
+    by_kind : (kind : PassKind) → (pass_at s stage m).kind ≡ kind → IsOnePass (placing_of s i.attribute) (pass_place stage m)
         → Contains (tops kind t grain) p → (kind ≢ inorder → Contains (nodes_of t grain p) vi)
-        → NearInPass kind (spot_of s) (turn_of g j) (turn_of g i) → Readable kind
+        → DirectlyFirstInPass kind (placing_of s) (turn_of g j) (turn_of g i) → Readable kind
     by_kind topdown e pass_i first held near =
         by_topdown e first (held (λ x. let z : ⊥ = cc in z)) near
     by_kind bottomup e pass_i first held near =
@@ -233,18 +234,18 @@ module _ (g : AttributeGrammar) (s : Schedule) (t : Forest) (law : IsLawful g) (
     by_kind inorder e pass_i first held near = by_inorder pass_i near
 
   -- the list of its pass in this stage has a step's attribute
-  listed_here : (m : ℕ) (i : Instance) → IsStep g t i → IsOnePass (spot_of s i.attribute) (spot_at stage m)
+  listed_here : (m : ℕ) (i : Instance) → IsStep g t i → IsOnePass (placing_of s i.attribute) (pass_place stage m)
       → Contains (pass_at s stage m).attributes i.attribute
   listed_here m i step pass =
       subst (λ n. Contains (pass_at s stage n).attributes i.attribute) pass.1
-      (subst (λ n. Contains (pass_at s n (spot_of s i.attribute).pass).attributes i.attribute) pass.0
+      (subst (λ n. Contains (pass_at s n (placing_of s i.attribute).pass).attributes i.attribute) pass.0
       (listed_at s i.attribute (many_of g s t law once fits grain stage i step)).there)
 
-  kind_here : (m : ℕ) (i : Instance) → IsOnePass (spot_of s i.attribute) (spot_at stage m)
-      → (spot_of s i.attribute).kind ≡ (pass_at s stage m).kind
+  kind_here : (m : ℕ) (i : Instance) → IsOnePass (placing_of s i.attribute) (pass_place stage m)
+      → (placing_of s i.attribute).kind ≡ (pass_at s stage m).kind
   kind_here m i pass = ap₂ (λ u v. (pass_at s u v).kind) pass.0 pass.1
 
-  pub readable : (x : Item) (i j : Instance) → HasStep g s t grain stage x i → Reads g t i j
+  pub readable : (x : Item) (i j : Instance) → ItemHasStep g s t grain stage x i → Reads g t i j
       → IsGivenIn g s stage j
       ⊎ (StandsBefore (steps_of_item g s stage t grain x) j i ⊎ IsHandedTo g s t grain stage x j)
   readable x i j h reads =
@@ -259,13 +260,13 @@ module _ (g : AttributeGrammar) (s : Schedule) (t : Forest) (law : IsLawful g) (
       ⊎_elim (λ given. inl (inl given))
       (λ near.
       ⊎_elim
-      (λ earlier. inl (inr (subst (λ n. (spot_of s j.attribute).stage < n) here.pass.0 earlier)))
+      (λ earlier. inl (inr (subst (λ n. (placing_of s j.attribute).stage < n) here.pass.0 earlier)))
       (λ one.
-      let pass_j : IsOnePass (spot_of s j.attribute) (spot_at stage x.pass) =
+      let pass_j : IsOnePass (placing_of s j.attribute) (pass_place stage x.pass) =
       (one.0.0 ∙ here.pass.0, one.0.1 ∙ here.pass.1) in
       inr
       (by_kind x.pass x.first i j here.step step_j pass_j (listed_here x.pass i here.step here.pass)
       (listed_here x.pass j step_j pass_j) at.known (pass_at s stage x.pass).kind refl here.pass at.there here.held
-      (subst (λ k. NearInPass k (spot_of s) (turn_of g j) (turn_of g i)) (kind_here x.pass i here.pass) one.1))) near)
-      (reads_near g law (spot_of s) t fits pairs i j here.step.0 reads))
+      (subst (λ k. DirectlyFirstInPass k (placing_of s) (turn_of g j) (turn_of g i)) (kind_here x.pass i here.pass) one.1))) near)
+      (reads_direct g law (placing_of s) t fits pairs i j here.step.0 reads))
       (input_or_computed (g.sort j.attribute))

@@ -13,15 +13,16 @@ use Rattle.ftl_model.specs.layout.TreeOf.{IsTreeOf}
 use Rattle.ftl_model.proofs.layout.Standing.{has_parent}
 use Rattle.ftl_order.specs.orders.Lawful.{IsLawful}
 use Rattle.ftl_order.specs.orders.LegalOrder.{IsStep, address, turn_of}
-use Rattle.ftl_order.specs.orders.Schedule.{EachStandsOnce, IsOnePass, Pass, PassKind, Schedule, bottomup, entries, inorder, pass_at, spot_of, topdown}
+use Rattle.ftl_order.specs.orders.Schedule.{EachStandsOnce, IsOnePass, Pass, PassKind, Schedule, bottomup, entries, inorder, pass_at, placing_of, topdown}
 use Rattle.ftl_order.specs.orders.Sequence.{sequence_at}
 use Rattle.ftl_order.proofs.orders.Kids.{root_there}
 use Rattle.ftl_order.proofs.orders.SequenceAddresses.{EarlierAddress}
 use Rattle.ftl_order.proofs.orders.SequenceOnly.{rising_distinct, sequence_only}
 use Rattle.ftl_order.proofs.orders.SequenceOrder.{sequence_rises, step_there, top_above}
 use Rattle.ftl_items.specs.stage_items.Cut.{is_small, nodes_of, subtree, tops}
-use Rattle.ftl_items.specs.stage_items.Items.{Item, item, items, items_of_pass, pass_in, passes_of, spot_at, steps_by, steps_of_item}
-use Rattle.ftl_items.specs.stage_items.StepLaws.{HasStep, IsItem}
+use Rattle.ftl_items.specs.stage_items.Items.{Item, item, items, items_of_pass, pass_in, passes_of, pass_place, steps_by}
+use Rattle.ftl_items.specs.stage_items.Items.{steps_of_item}
+use Rattle.ftl_items.specs.stage_items.StepLaws.{ItemHasStep, IsItem}
 use Rattle.ftl_items.specs.stage_items.VisitLaws.{StandsOnceAtMost}
 use Rattle.ftl_items.specs.stage_items.Visits.{visit}
 use Rattle.ftl_items.proofs.stage_items.CutLaws.{distinct-tops, held_there, in_tops, one_item}
@@ -90,14 +91,14 @@ module _ (g : AttributeGrammar) (s : Schedule) (t : Forest) (law : IsLawful g) (
   -- a step of an item of the pass of this number, whose first node is p
   pub record StepHere (kind : PassKind) (m : ℕ) (p : Path) (i : Instance) : Type 0 where
     pub step : IsStep g t i
-    pub pass : IsOnePass (spot_of s i.attribute) (spot_at stage m)
+    pub pass : IsOnePass (placing_of s i.attribute) (pass_place stage m)
     pub held : kind ≢ inorder → Contains (nodes_of t grain p) (turn_of g i).visit
 
   pub many_of : (i : Instance) → IsStep g t i → many i.attribute (entries s) ≡ 1
   many_of i step = once i.attribute (attribute_of_step g law t fits i step) step.1
 
   pub pass_of_step : (m : ℕ) (i : Instance) → IsStep g t i → Contains (pass_at s stage m).attributes i.attribute
-      → IsOnePass (spot_of s i.attribute) (spot_at stage m)
+      → IsOnePass (placing_of s i.attribute) (pass_place stage m)
   pass_of_step m i step there =
       let e = many_of i step in
       let here = stage_here s stage m i.attribute (omega (arith, e)) there in
@@ -125,16 +126,16 @@ module _ (g : AttributeGrammar) (s : Schedule) (t : Forest) (law : IsLawful g) (
       visited bottomup m p f.0 i
       (held_there t grain bottomup (λ e. let z : ⊥ = cc in z) root p f.0 (first, held)) held f.2
   step_by inorder m p i first h =
-      let o = sequence_only g (spot_of s) (spot_at stage m) t top root i h in
+      let o = sequence_only g (placing_of s) (pass_place stage m) t top root i h in
       record { step = o.0; pass = o.1; held = λ some. absurd (some refl) }
 
-  pub step_here : (x : Item) (i : Instance) → HasStep g s t grain stage x i
+  pub step_here : (x : Item) (i : Instance) → ItemHasStep g s t grain stage x i
       → StepHere (pass_at s stage x.pass).kind x.pass x.first i
   step_here x i h =
       step_by (pass_at s stage x.pass).kind x.pass x.first i (item_here (passes_of s stage) t grain x h.0).there h.1
 
   pub by_has : (kind : PassKind) (m : ℕ) (p : Path) (i : Instance) → IsStep g t i
-      → IsOnePass (spot_of s i.attribute) (spot_at stage m) → Contains (pass_at s stage m).attributes i.attribute
+      → IsOnePass (placing_of s i.attribute) (pass_place stage m) → Contains (pass_at s stage m).attributes i.attribute
       → (kind ≢ inorder → Contains (nodes_of t grain p) (turn_of g i).visit)
       → Contains (steps_by g s stage t grain kind (pass_at s stage m).attributes (item m p)) i
   by_has topdown m p i step pass there held =
@@ -146,7 +147,7 @@ module _ (g : AttributeGrammar) (s : Schedule) (t : Forest) (law : IsLawful g) (
       (reverse_has (nodes_of t grain p) (turn_of g i).visit (held (λ e. let z : ⊥ = cc in z)))
       (visit_has g law t fits (pass_at s stage m).attributes (turn_of g i).visit i step there refl)
   by_has inorder m p i step pass there held =
-      step_there g law s once t fits (spot_at stage m) top root i step (top_above (turn_of g i).visit) pass
+      step_there g law s once t fits (pass_place stage m) top root i step (top_above (turn_of g i).visit) pass
 
   -- the first node of the item that has a step
   pub record FirstFor (kind : PassKind) (v : Path) : Type 0 where
@@ -176,10 +177,10 @@ module _ (g : AttributeGrammar) (s : Schedule) (t : Forest) (law : IsLawful g) (
   visit_there i step = runs_at t (g.sort i.attribute) i.node step.0.0
 
   -- the item that has a step
-  pub step_in_one : (i : Instance) → IsStep g t i → (spot_of s i.attribute).stage ≡ stage
-      → (x : Item) × HasStep g s t grain stage x i × ((y : Item) → HasStep g s t grain stage y i → y ≡ x)
+  pub step_in_one : (i : Instance) → IsStep g t i → (placing_of s i.attribute).stage ≡ stage
+      → (x : Item) × ItemHasStep g s t grain stage x i × ((y : Item) → ItemHasStep g s t grain stage y i → y ≡ x)
   step_in_one i step e =
-      let m = (spot_of s i.attribute).pass in
+      let m = (placing_of s i.attribute).pass in
       let l = listed_at s i.attribute (many_of i step) in
       let known : m < length (passes_of s stage) = subst (λ n. m < length (passes_of s n)) e l.known in
       let listed_here = subst (λ n. Contains (pass_at s n m).attributes i.attribute) e l.there in
@@ -238,10 +239,10 @@ module _ (g : AttributeGrammar) (s : Schedule) (t : Forest) (law : IsLawful g) (
       (λ q h. held_there t grain bottomup some root p q (first, in_reverse (nodes_of t grain p) q h))
       (distinct-reverse (nodes_of t grain p) (nodes_once p (in_tops bottomup t grain some root p first).0))
   steps_once_by inorder m p first =
-      rising_distinct (EarlierAddress g (spot_of s))
-      (λ i h. before_once (address (spot_of s) (turn_of g i)) (address (spot_of s) (turn_of g i)) h h)
-      (sequence_at g (spot_of s) (spot_at stage m) t top)
-      (sequence_rises g law s once t fits (spot_at stage m) top root)
+      rising_distinct (EarlierAddress g (placing_of s))
+      (λ i h. before_once (address (placing_of s) (turn_of g i)) (address (placing_of s) (turn_of g i)) h h)
+      (sequence_at g (placing_of s) (pass_place stage m) t top)
+      (sequence_rises g law s once t fits (pass_place stage m) top root)
 
   pub steps_once : (x : Item) → IsItem g s t grain stage x → AreDistinct (steps_of_item g s stage t grain x)
   steps_once x h =

@@ -8,7 +8,7 @@ use Rattle.ftl_model.specs.layout.AttributeGrammar.{AttributeGrammar, Sort, inhe
 use Rattle.ftl_model.specs.layout.Table.{instance_count, instances}
 use Rattle.ftl_model.specs.layout.Tree.{Forest}
 use Rattle.ftl_model.specs.layout.Values.{Value, word_of_value}
-use Rattle.ftl_order.specs.orders.Schedule.{Schedule, spot_of}
+use Rattle.ftl_order.specs.orders.Schedule.{Schedule, placing_of}
 use Rattle.ftl_items.specs.stage_items.StageWork.{kind_by, kind_by_stage, no_instance, stage_work}
 
 pub ltb_is : (n m : ℕ) → n < m → ltb n m ≡ true
@@ -83,6 +83,6 @@ words_fit g s t grain stage solution reads stack more_reads more_stack words las
           let i = get_or (instances g t) c no_instance in
           last.each c (subst (λ n. c < n) (sym (cell_total-listed w)) inside)
           ∙ ap₂ last_word_of (kind_at-listed w c inside) (ap word_of_value (solution_at-listed w c inside))
-          ∙ sort_words (g.sort i.attribute) (spot_of s i.attribute).stage stage (word_of_value (w.value c))
+          ∙ sort_words (g.sort i.attribute) (placing_of s i.attribute).stage stage (word_of_value (w.value c))
           ∙ sym (ap₂ first_word_of (kind_at-listed v c inside) (ap word_of_value (solution_at-listed v c inside)));
     }

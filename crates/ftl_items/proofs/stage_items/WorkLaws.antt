@@ -18,13 +18,13 @@ use Rattle.ftl_model.specs.layout.Values.{Value}
 use Rattle.ftl_order.specs.orders.Lawful.{IsLawful}
 use Rattle.ftl_order.specs.orders.LegalOrder.{IsStep}
 use Rattle.ftl_order.specs.orders.Ordered.{IsOrdered}
-use Rattle.ftl_order.specs.orders.Schedule.{Schedule, spot_of}
+use Rattle.ftl_order.specs.orders.Schedule.{Schedule, placing_of}
 use Rattle.ftl_order.proofs.orders.Instances.{instance_at_number, instance_here, number_within}
 use Rattle.ftl_order.proofs.orders.Kids.{root_there}
 use Rattle.ftl_order.proofs.orders.TreeEquations.{inside_by}
 use Rattle.ftl_items.specs.stage_items.Items.{Item, is_next, nexts, no_item, passes_of, steps_of_item}
 use Rattle.ftl_items.specs.stage_items.StageWork.{item_at, kind_by, kind_by_stage, kind_of, no_instance, reads_at, stage_items, stage_work, step_at, steps_in}
-use Rattle.ftl_items.specs.stage_items.StepLaws.{HasStep as StepOf}
+use Rattle.ftl_items.specs.stage_items.StepLaws.{ItemHasStep as StepOf}
 use Rattle.ftl_items.specs.stage_items.WorkLaws.{IsWithinLimits}
 use Rattle.ftl_items.proofs.stage_items.Fewer.{distinct_map_in, fewer, one_place}
 use Rattle.ftl_items.proofs.stage_items.Later.{next_later, predecessors_counted}
@@ -98,7 +98,7 @@ module _ (g : AttributeGrammar) (s : Schedule) (t : Forest) (law : IsLawful g) (
   is_step : (i j : ℕ) → HasStep w i j → IsStep g t (i_at i j)
   is_step i j h = (step_here g s t law ordered.once fits grain stage (x_at i) (i_at i j) (has_at i j h)).step
 
-  its_stage : (i j : ℕ) → HasStep w i j → (spot_of s (i_at i j).attribute).stage ≡ stage
+  its_stage : (i j : ℕ) → HasStep w i j → (placing_of s (i_at i j).attribute).stage ≡ stage
   its_stage i j h = (step_here g s t law ordered.once fits grain stage (x_at i) (i_at i j) (has_at i j h)).pass.0
 
   cell_of : (i : Instance) → IsInstance g t i → get_or (instances g t) (instance_number g t i) no_instance ≡ i
@@ -183,7 +183,7 @@ module _ (g : AttributeGrammar) (s : Schedule) (t : Forest) (law : IsLawful g) (
       ⊎_elim
       (λ given. inl
       (ap (kind_of g s stage) (cell_of q valid)
-      ∙ kind_given (g.sort q.attribute) (spot_of s q.attribute).stage stage given))
+      ∙ kind_given (g.sort q.attribute) (placing_of s q.attribute).stage stage given))
       (λ near.
       ⊎_elim
       (λ own.
@@ -227,7 +227,7 @@ module _ (g : AttributeGrammar) (s : Schedule) (t : Forest) (law : IsLawful g) (
   target_here c b e =
       let q = get_or (instances g t) c no_instance in
       let here = instance_here g t law fits c no_instance b in
-      let kind = target_kind_of (g.sort q.attribute) (spot_of s q.attribute).stage stage e in
+      let kind = target_kind_of (g.sort q.attribute) (placing_of s q.attribute).stage stage e in
       let one = step_in_one g s t law ordered.once fits grain stage q (here.0, kind.0) kind.1 in
       let p = placed one.0 q one.1 in
       record {
@@ -290,7 +290,7 @@ module _ (g : AttributeGrammar) (s : Schedule) (t : Forest) (law : IsLawful g) (
             number_within g t (i_at i j).node (i_at i j).attribute v.0 v.1;
         target_kind = λ i j h.
             ap (kind_of g s stage) (cell_of (i_at i j) (is_step i j h).0)
-            ∙ kind_target (g.sort (i_at i j).attribute) (spot_of s (i_at i j).attribute).stage stage (is_step i j h).1
+            ∙ kind_target (g.sort (i_at i j).attribute) (placing_of s (i_at i j).attribute).stage stage (is_step i j h).1
             (its_stage i j h);
         target_once = one_target;
         each_target = target_here;

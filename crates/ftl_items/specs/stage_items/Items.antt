@@ -6,7 +6,8 @@ use Rattle.ftl_model.specs.layout.AttributeGrammar.{AttributeGrammar}
 use Rattle.ftl_model.specs.layout.Path.{Path, down, top}
 use Rattle.ftl_model.specs.layout.Solves.{Instance}
 use Rattle.ftl_model.specs.layout.Tree.{Forest}
-use Rattle.ftl_order.specs.orders.Schedule.{Pass, PassKind, Schedule, Spot, bottomup, empty_pass, inorder, spot_of, topdown}
+use Rattle.ftl_order.specs.orders.Schedule.{Pass, PassKind, Schedule, SchedulePlace, bottomup, empty_pass, inorder}
+use Rattle.ftl_order.specs.orders.Schedule.{placing_of, topdown}
 use Rattle.ftl_order.specs.orders.Sequence.{sequence}
 use Rattle.ftl_items.specs.stage_items.Cut.{nodes_of, tops}
 use Rattle.ftl_items.specs.stage_items.Visits.{visit}
@@ -42,9 +43,9 @@ items passes t grain = flat_map (items_of_pass passes t grain) (range_with_len 0
 
 -- ---- steps
 
--- the spot of an inorder pass: its stage, and its number there
-abbrev pub spot_at : (stage pass : ℕ) → Spot
-spot_at stage pass = record { stage = stage; pass = pass; kind = inorder; index = 0 }
+-- the place of an inorder pass: its stage, and its number there
+abbrev pub pass_place : (stage pass : ℕ) → SchedulePlace
+pass_place stage pass = record { stage = stage; pass = pass; kind = inorder; index = 0 }
 
 -- the steps of an item of a pass of this kind: its visits in preorder, in reverse preorder, or the sequence
 abbrev pub steps_by : AttributeGrammar → Schedule → (stage : ℕ) → Forest → (grain : ℕ) → PassKind → List ℕ → Item
@@ -52,7 +53,7 @@ abbrev pub steps_by : AttributeGrammar → Schedule → (stage : ℕ) → Forest
 steps_by g s stage t grain topdown attributes x = flat_map (visit g t attributes) (nodes_of t grain x.first)
 steps_by g s stage t grain bottomup attributes x =
     flat_map (visit g t attributes) (reverse (nodes_of t grain x.first))
-steps_by g s stage t grain inorder attributes x = sequence g (spot_of s) (spot_at stage x.pass) t
+steps_by g s stage t grain inorder attributes x = sequence g (placing_of s) (pass_place stage x.pass) t
 
 -- the steps of an item of a stage, in order
 abbrev pub steps_of_item : AttributeGrammar → Schedule → (stage : ℕ) → Forest → (grain : ℕ) → Item → List Instance

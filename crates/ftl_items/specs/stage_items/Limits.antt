@@ -6,11 +6,11 @@ use Rattle.ftl_model.specs.layout.Solves.{Instance}
 use Rattle.ftl_model.specs.layout.Table.{instances}
 use Rattle.ftl_model.specs.layout.Tree.{Forest}
 use Rattle.ftl_order.specs.orders.Reads.{reads_of}
-use Rattle.ftl_order.specs.orders.Schedule.{Schedule, spot_of}
+use Rattle.ftl_order.specs.orders.Schedule.{Schedule, placing_of}
 
 -- an instance is computed in this stage
 abbrev pub is_of_stage : AttributeGrammar → Schedule → (stage : ℕ) → Instance → Bool
-is_of_stage g s stage i = not (is_input (g.sort i.attribute)) && ((spot_of s i.attribute).stage == stage)
+is_of_stage g s stage i = not (is_input (g.sort i.attribute)) && ((placing_of s i.attribute).stage == stage)
 
 -- the steps of a stage, in the order of instances
 abbrev pub steps_of_stage : AttributeGrammar → Forest → Schedule → (stage : ℕ) → List Instance

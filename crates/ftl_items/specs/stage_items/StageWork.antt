@@ -7,7 +7,7 @@ use Rattle.ftl_model.specs.layout.Table.{instance_count, instance_number, instan
 use Rattle.ftl_model.specs.layout.Tree.{Forest}
 use Rattle.ftl_model.specs.layout.Values.{Value, overflow}
 use Rattle.ftl_order.specs.orders.Reads.{reads_of}
-use Rattle.ftl_order.specs.orders.Schedule.{Schedule, spot_of}
+use Rattle.ftl_order.specs.orders.Schedule.{Schedule, placing_of}
 use Rattle.ftl_cells.specs.shared.Shape.{WorkShape}
 use Rattle.ftl_cells.specs.declared.shared.kind.CellKind.{CellKind}
 use Rattle.ftl_cells.specs.declared.shared.kind.CellKind.TheVariants.{Given, Target, Later}
@@ -30,7 +30,7 @@ kind_by local its stage = kind_by_stage its stage
 
 -- the kind of an instance's cell
 abbrev pub kind_of : AttributeGrammar → Schedule → (stage : ℕ) → Instance → CellKind
-kind_of g s stage i = kind_by (g.sort i.attribute) (spot_of s i.attribute).stage stage
+kind_of g s stage i = kind_by (g.sort i.attribute) (placing_of s i.attribute).stage stage
 
 module _ (g : AttributeGrammar) (s : Schedule) (t : Forest) (grain stage : ℕ) where
   -- the items of the stage

@@ -8,8 +8,8 @@ use Rattle.ftl_model.specs.layout.TreeOf.{IsTreeOf}
 use Rattle.ftl_order.specs.orders.Lawful.{IsLawful}
 use Rattle.ftl_order.specs.orders.LegalOrder.{IsStep}
 use Rattle.ftl_order.specs.orders.Ordered.{IsOrdered}
-use Rattle.ftl_order.specs.orders.Schedule.{IsOnePass, Schedule, spot_of}
-use Rattle.ftl_items.specs.stage_items.Items.{Item, spot_at, steps_of_item}
+use Rattle.ftl_order.specs.orders.Schedule.{IsOnePass, Schedule, placing_of}
+use Rattle.ftl_items.specs.stage_items.Items.{Item, pass_place, steps_of_item}
 use Rattle.ftl_items.specs.stage_items.StageWork.{stage_items}
 
 -- of each stage of an ordered schedule, on each tree of a lawful grammar and at each grain
@@ -23,21 +23,21 @@ abbrev pub IsItem : AttributeGrammar → Schedule → Forest → (grain stage : 
 IsItem g s t grain stage x = Contains (stage_items g s t grain stage) x
 
 -- and the item this step
-abbrev pub HasStep : AttributeGrammar → Schedule → Forest → (grain stage : ℕ) → Item → Instance → Type 0
-HasStep g s t grain stage x i = IsItem g s t grain stage x × Contains (steps_of_item g s stage t grain x) i
+abbrev pub ItemHasStep : AttributeGrammar → Schedule → Forest → (grain stage : ℕ) → Item → Instance → Type 0
+ItemHasStep g s t grain stage x i = IsItem g s t grain stage x × Contains (steps_of_item g s stage t grain x) i
 
 -- the steps of an item are of its pass in this stage
 abbrev pub StepsAreOfTheirPass : AttributeGrammar → Schedule → Forest → (grain stage : ℕ) → Type 0
 StepsAreOfTheirPass g s t grain stage =
-    (x : Item) (i : Instance) → HasStep g s t grain stage x i
-    → IsStep g t i × IsOnePass (spot_of s i.attribute) (spot_at stage x.pass)
+    (x : Item) (i : Instance) → ItemHasStep g s t grain stage x i
+    → IsStep g t i × IsOnePass (placing_of s i.attribute) (pass_place stage x.pass)
 
 -- each step of the stage is in exactly one item
 abbrev pub EachStepInOneItem : AttributeGrammar → Schedule → Forest → (grain stage : ℕ) → Type 0
 EachStepInOneItem g s t grain stage =
-    (i : Instance) → IsStep g t i → (spot_of s i.attribute).stage ≡ stage
-    → (x : Item) × HasStep g s t grain stage x i
-    × ((y : Item) → HasStep g s t grain stage y i → y ≡ x)
+    (i : Instance) → IsStep g t i → (placing_of s i.attribute).stage ≡ stage
+    → (x : Item) × ItemHasStep g s t grain stage x i
+    × ((y : Item) → ItemHasStep g s t grain stage y i → y ≡ x)
 
 -- no item has a step twice
 abbrev pub StepsStandOnce : AttributeGrammar → Schedule → Forest → (grain stage : ℕ) → Type 0

@@ -9,7 +9,7 @@ use Rattle.ftl_model.specs.layout.Tree.{Forest}
 use Rattle.ftl_model.specs.layout.Values.{IsValue, Value, overflow}
 use Rattle.ftl_order.specs.orders.LegalOrder.{IsStep}
 use Rattle.ftl_order.specs.orders.Reads.{reads_of}
-use Rattle.ftl_order.specs.orders.Schedule.{Schedule, spot_of}
+use Rattle.ftl_order.specs.orders.Schedule.{Schedule, placing_of}
 use Rattle.ftl_items.specs.stage_items.StageWork.{stage_items, stage_work}
 
 -- the values are in range, cells and items have numbers of 32 bits, and no step of the stage reads more than so much
@@ -18,7 +18,7 @@ pub record IsWithinLimits (g : AttributeGrammar) (s : Schedule) (t : Forest) (gr
   pub values : (c : ℕ) → c < instance_count g t → IsValue (slice_index_or solution c overflow)
   pub cells : instance_count g t < 2 ^ 32
   pub items : length (stage_items g s t grain stage) < 2 ^ 32
-  pub reads : (i : Instance) → IsStep g t i → (spot_of s i.attribute).stage ≡ stage
+  pub reads : (i : Instance) → IsStep g t i → (placing_of s i.attribute).stage ≡ stage
       → length (reads_of g t i) ≤ max_reads
   pub few : max_reads < 2 ^ 32
 

@@ -9,9 +9,9 @@ ghost use Rattle.ftl_items.specs.stage_items.WorkedStages.{column_node, first_wo
 ghost use Rattle.ftl_items.specs.stage_items.WorkedStages.{second_word_node};
 ghost use Rattle.ftl_items.specs.stage_items.WorkedStages.{two_stages};
 
-/// A law: over a sheet with a column of two words, a topdown pass that lists y before x has y first,
-/// for each kid of the column from the first on; a bottomup pass beside it begins with the last node
-/// of an item; an inorder pass has the heights of the words before that of the column.
+/// A law: over a sheet with a column of two words, a topdown pass that lists y before x has y
+/// first, for each kid of the column from the first on; a bottomup pass beside it begins with the
+/// last node of an item; an inorder pass has the heights of the words before that of the column.
 pub fn steps_of_two_words()
     ensures topdown { steps_of_item stack two_stages 1 two_words 1 (item 0 column_node)
         ≡ instance_of first_word_node box_y ∷ instance_of second_word_node box_y

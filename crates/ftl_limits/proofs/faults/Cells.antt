@@ -1,5 +1,5 @@
 -- Where the instances of each node stand.
-use Rattle.std.proofs.Common.{◌≡◌, ℕ, ◌+◌, ◌<◌, ◌≤◌, List, length, get_or, take, replicate, sum_by, sym, ◌∙◌, ap, ap₂, arith}
+use Rattle.std.proofs.Common.{◌≡◌, ℕ, ◌+◌, ◌<◌, ◌≤◌, List, length, get_or, take, replicate, sum_by, subst, sym, ◌∙◌, ap, ap₂, arith}
 use Rattle.std.proofs.lemmas.List.{take_all, length-replicate, get_or-replicate}
 use Rattle.std.proofs.lemmas.List.Elements.{Contains-get_or}
 use Rattle.ftl_model.proofs.lists.Places.{place_of_entry}
@@ -14,7 +14,8 @@ use Rattle.ftl_order.specs.orders.Lawful.{IsLawful, OfClass}
 use Rattle.ftl_order.specs.orders.Schedule.{Schedule}
 use Rattle.ftl_order.proofs.orders.Instances.{instance_at_number, length-instances, number_within}
 use Rattle.ftl_order.proofs.orders.Owners.{class_distinct}
-use Rattle.ftl_limits.proofs.reads.Entries.{class_in_range, there, whole}
+use Rattle.ftl_visit.specs.rule_tables.RuleTables.{by_number}
+use Rattle.ftl_limits.proofs.reads.Entries.{class_entry, class_in_range, there, whole}
 use Rattle.ftl_limits.specs.faults.StageReads.{AreCounts, HaveRoom, cells_before, no_reads}
 use Rattle.ftl_limits.specs.declared.faults.reads.StageReads.{StageReads}
 use Rattle.ftl_limits.proofs.faults.Steps.{sum_more, take_one}
@@ -52,6 +53,34 @@ module _ (g : AttributeGrammar) (law : IsLawful g) (t : Forest) (fits : IsTreeOf
         here = λ d. ap (λ n. get_or (instances g t) n d) (sym number) ∙ instance_at_number g t p a d has of;
       }
 
+  -- the same, where the attributes of the node stand in the row of its class in a table
+  module _ (node : ℕ) {class : ℕ} {rows : List (List ℕ)} {row : List ℕ} (entry : List ℕ) (known : node < size t)
+      (is : class ≡ class_at t (node_at t node)) (are : rows ≡ by_number (attributes_of g) g.class_count)
+      (found : row ≡ get_or rows class entry) where
+    pub row_is : row ≡ attrs node
+    row_is =
+        found
+        ∙ (class_entry g law t fits (attributes_of g) node known is are).is entry
+        ∙ ap (attributes_of g) is
+
+    pub record RowCell (j : ℕ) : Type 0 where
+      pub of : OfClass g (class_at t (node_at t node)) (get_or row j 0)
+      pub below : cells_before g t node + j < length (instances g t)
+      pub within : cells_before g t node + j < instance_count g t
+      pub here : (d : Instance)
+          → get_or (instances g t) (cells_before g t node + j) d ≡ instance_of (node_at t node) (get_or row j 0)
+
+    pub row_cell : (j : ℕ) → j < length row → RowCell j
+    row_cell j inside =
+        let c = cell node j known (subst (λ (xs : List ℕ). j < length xs) row_is inside) in
+        let same : get_or (attrs node) j 0 ≡ get_or row j 0 = ap (λ (xs : List ℕ). get_or xs j 0) (sym row_is) in
+        record {
+          of = subst (OfClass g (class_at t (node_at t node))) same c.of;
+          below = c.below;
+          within = c.within;
+          here = λ d. c.here d ∙ ap (instance_of (node_at t node)) same;
+        }
+
   nodes : length (preorder t) ≡ size t
   nodes = let e = length-preorder t in let all = whole g t fits in omega (arith, e, all)
 
@@ -62,6 +91,14 @@ module _ (g : AttributeGrammar) (law : IsLawful g) (t : Forest) (fits : IsTreeOf
       let inside : node < length (preorder t) = (let e = nodes in omega (arith, known, e)) in
       ap (λ xs. sum_by (width_at g t) xs) (take_one (preorder t) node top inside)
       ∙ sum_more (width_at g t) (take node (preorder t)) (node_at t node)
+
+  -- where the whole row of a node is passed
+  pub row_end : (node place : ℕ) (row : List ℕ) → node < size t → row ≡ attrs node → length row ≤ place
+      → place ≤ length row → cells_before g t node + place ≡ cells_before g t (node + 1)
+  row_end node place row known is past most =
+      let long = ap length is in
+      let next = cells_next node known in
+      omega (arith, long, next, past, most)
 
   -- and before the end
   pub cells_end : cells_before g t (size t) ≡ instance_count g t

@@ -1,8 +1,9 @@
 -- The first fault along the stages.
 use Rattle.std.proofs.Common.{◌≡◌, ℕ, zero, suc, ◌+◌, ◌-◌, ◌<◌, ◌≤◌, nat_lt, List, length, get_or, filter, take, Option, Some, None, refl, ◌∙◌, ap, ap₂, arith}
 use Rattle.std.specs.List.{find, range_with_len}
-use Rattle.std.specs.Option.{option_map}
+use Rattle.std.specs.Option.{option_map, option_or}
 use Rattle.std.proofs.lemmas.List.{take_all}
+use Rattle.ftl_model.specs.lists.FirstAlong.{first_along}
 use Rattle.ftl_model.specs.layout.AttributeGrammar.{AttributeGrammar}
 use Rattle.ftl_model.specs.layout.Solves.{Instance}
 use Rattle.ftl_model.specs.layout.Table.{instance_count, instances}
@@ -10,7 +11,7 @@ use Rattle.ftl_model.specs.layout.Tree.{Forest}
 use Rattle.ftl_order.specs.orders.Schedule.{Schedule}
 use Rattle.ftl_order.proofs.orders.Instances.{length-instances}
 use Rattle.ftl_items.specs.stage_items.Limits.{is_of_stage, read_count, steps_of_stage}
-use Rattle.ftl_limits.specs.faults.PlanFaults.{fault_past, first_along, first_of_stages, or_else, step_too_wide, too_many_reads}
+use Rattle.ftl_limits.specs.faults.PlanFaults.{fault_past, first_of_stages, step_too_wide, too_many_reads}
 use Rattle.ftl_limits.specs.faults.StageReads.{AreCounts, many_by, no_reads, reads_of_steps, wide_by}
 use Rattle.ftl_limits.specs.declared.faults.fault.PlanFault.{PlanFault}
 use Rattle.ftl_limits.specs.declared.faults.fault.PlanFault.TheVariants.{TooManyReads, StepTooWide}
@@ -21,21 +22,21 @@ same_along : (f h : ℕ → Option PlanFault) (from n : ℕ) → ((k : ℕ) → 
     → first_along f (range_with_len from n) ≡ first_along h (range_with_len from n)
 same_along f h from zero same = refl
 same_along f h from (suc n) same =
-    ap₂ or_else (same from (omega arith)) (same_along f h (from + 1) n (λ k below. same k (omega (arith, below))))
+    ap₂ option_or (same from (omega arith)) (same_along f h (from + 1) n (λ k below. same k (omega (arith, below))))
 
 -- a stage without a fault is passed over
 pub passed : (f : ℕ → Option PlanFault) (k n : ℕ) → k < n → f k ≡ None
     → first_along f (range_with_len k (n - k)) ≡ first_along f (range_with_len (k + 1) (n - (k + 1)))
 passed f k n below none =
     ap (λ m. first_along f (range_with_len k m)) (let z : n - k ≡ suc (n - (k + 1)) = omega (arith, below) in z)
-    ∙ ap (λ o. or_else o (first_along f (range_with_len (k + 1) (n - (k + 1))))) none
+    ∙ ap (λ o. option_or o (first_along f (range_with_len (k + 1) (n - (k + 1))))) none
 
 -- a fault that is found is the first
 pub stopped : (f : ℕ → Option PlanFault) (k n : ℕ) (fault : PlanFault) → k < n → f k ≡ Some fault
     → first_along f (range_with_len k (n - k)) ≡ Some fault
 stopped f k n fault below found =
     ap (λ m. first_along f (range_with_len k m)) (let z : n - k ≡ suc (n - (k + 1)) = omega (arith, below) in z)
-    ∙ ap (λ o. or_else o (first_along f (range_with_len (k + 1) (n - (k + 1))))) found
+    ∙ ap (λ o. option_or o (first_along f (range_with_len (k + 1) (n - (k + 1))))) found
 
 -- none is left
 pub no_more : (f : ℕ → Option PlanFault) (k n : ℕ) → n ≤ k → first_along f (range_with_len k (n - k)) ≡ None

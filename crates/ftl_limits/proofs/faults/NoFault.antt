@@ -1,10 +1,11 @@
 -- Counts that rule out each fault.
-use Rattle.std.proofs.Common.{◌≡◌, ℕ, ◌+◌, ◌*◌, ◌<◌, ◌≤◌, nat_lt, false, All, List, [], ◌∷◌, length, None, Some, Option, if◌then◌else◌, refl, ap, ap₂, inl, inr, arith}
+use Rattle.std.proofs.Common.{◌≡◌, ℕ, ◌+◌, ◌*◌, ◌<◌, ◌≤◌, nat_lt, false, All, length, None, Some, if◌then◌else◌, refl, ap, ap₂, inl, inr, arith}
 use Rattle.std.specs.List.{range_with_len}
-use Rattle.std.specs.Option.{option_map}
+use Rattle.std.specs.Option.{option_map, option_or}
 use Rattle.std.proofs.lemmas.Bool.{le-ltb}
 use Rattle.std.proofs.lemmas.List.{length-map}
 use Rattle.std.proofs.lemmas.List.Elements.{All-contains, All-filter}
+use Rattle.ftl_model.proofs.lists.FirstAlong.{along_none}
 use Rattle.ftl_model.proofs.lists.Rising.{map_has}
 use Rattle.ftl_model.specs.layout.AttributeGrammar.{AttributeGrammar, Parts, RuleName, Sort, attributes_of, first_then, fold_over, for_child, for_self, inherited, input, local, plain, read_occurrences, synthesized}
 use Rattle.ftl_model.specs.layout.Path.{Has, Path, class_at, down, kids_at, top}
@@ -19,7 +20,7 @@ use Rattle.ftl_order.proofs.orders.Kids.{class_known, root_there}
 use Rattle.ftl_order.proofs.orders.TreeEquations.{kid_rule, own_rule, root_inherits_nothing}
 use Rattle.ftl_items.specs.stage_items.Limits.{first_wide_step, is_of_stage, read_count, stage_read_count, steps_of_stage}
 use Rattle.ftl_deps.specs.parts.RuleParts.{all_parts, parts_named}
-use Rattle.ftl_limits.specs.faults.PlanFaults.{fault_past, first_along, or_else, step_too_wide, too_many_reads}
+use Rattle.ftl_limits.specs.faults.PlanFaults.{fault_past, step_too_wide, too_many_reads}
 use Rattle.ftl_limits.specs.faults.ReadBound.{HasNoFault, KidsWithin, PartsWithin}
 use Rattle.ftl_limits.specs.declared.faults.bound.RuleBound.{RuleBound}
 use Rattle.ftl_limits.specs.declared.faults.fault.PlanFault.{PlanFault}
@@ -45,11 +46,6 @@ no_fold g k c (fold_over d start step) may = absurd may
 -- a number within the limit is no fault
 within_limit : (limit n : ℕ) (fault : ℕ → PlanFault) → n ≤ limit → fault_past limit fault n ≡ None
 within_limit limit n fault low = ap (λ b. if b then Some (fault n) else None) (le-ltb limit n low)
-
--- no fault at any stage is none along them
-none_along : (f : ℕ → Option PlanFault) (ks : List ℕ) → ((k : ℕ) → f k ≡ None) → first_along f ks ≡ None
-none_along f [] none = refl
-none_along f (k ∷ ks) none = ap₂ or_else (none k) (none_along f ks none)
 
 module _ (g : AttributeGrammar) (law : IsLawful g) (t : Forest) (fits : IsTreeOf g t) (b : RuleBound)
     (rules : RulesWithin g b) where
@@ -115,10 +111,10 @@ module _ (g : AttributeGrammar) (law : IsLawful g) (t : Forest) (fits : IsTreeOf
       → b.once * instance_count g t + b.each * widest * size t ≤ 67108864 → b.once + b.each * most ≤ 1048576
       → HasNoFault g t
   no_fault widest most narrow kids total step s =
-      ap₂ or_else
-      (none_along (too_many_reads g s t) (range_with_len 0 (length s))
-      (λ k.
+      ap₂ option_or
+      (along_none (too_many_reads g s t) (range_with_len 0 (length s))
+      (λ k at.
       within_limit 67108864 (stage_read_count g t s k) (TooManyReads (k + 1))
       (let all = stage_low widest narrow s k in omega (arith, all, total))))
-      (none_along (step_too_wide g s t) (range_with_len 0 (length s))
-      (λ k. ap (option_map (λ i. StepTooWide (k + 1) (read_count g t i))) (none_wide most kids step s k)))
+      (along_none (step_too_wide g s t) (range_with_len 0 (length s))
+      (λ k at. ap (option_map (λ i. StepTooWide (k + 1) (read_count g t i))) (none_wide most kids step s k)))

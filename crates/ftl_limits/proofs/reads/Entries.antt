@@ -46,6 +46,12 @@ module _ (g : AttributeGrammar) (law : IsLawful g) (t : Forest) (fits : IsTreeOf
   pub class_in_range : (node : ℕ) → node < size t → class_at t (node_at t node) < g.class_count
   class_in_range node known = class_known g t fits (node_at t node) (there node known)
 
+  -- the entry of a node's class, in a table that has one for each class
+  pub class_entry : {X : Type 0} (f : ℕ → X) (node : ℕ) {class : ℕ} {rows : List X} → node < size t
+      → class ≡ class_at t (node_at t node) → rows ≡ by_number f g.class_count → Entry f g.class_count rows class
+  class_entry f node {class} {rows} known is are =
+      let range = class_in_range node known in entry f g.class_count rows class are (omega (arith, range, is))
+
   pub attribute_in_range : (node a : ℕ) → node < size t → OfClass g (class_at t (node_at t node)) a
       → a < g.attribute_count
   attribute_in_range node a known of =

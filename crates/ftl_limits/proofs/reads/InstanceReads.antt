@@ -1,10 +1,9 @@
 -- What instances read, by the rules that the tables have.
-use Rattle.std.proofs.Common.{◌≡◌, ℕ, ◌<◌, ◌==◌, ◌&&◌, true, length, Some, None, refl, sym, ◌∙◌, ap, ap₂, subst, inl, inr, eqb-true, eq-eqb}
-use Rattle.std.proofs.lemmas.Bool.{and_parts, false≢true}
+use Rattle.std.proofs.Common.{◌≡◌, ℕ, ◌<◌, length, Some, None, refl, sym, ◌∙◌, ap, subst, inl, inr}
 use Rattle.std.proofs.lemmas.List.{length-map}
 use Rattle.std.proofs.lemmas.List.Elements.{Contains-get_or}
 use Rattle.std.proofs.lemmas.List.Quantifiers.{position-Some}
-use Rattle.ftl_model.specs.layout.AttributeGrammar.{AttributeGrammar, RuleName, Sort, for_child, for_self, inherited, input, local, read_occurrences, synthesized}
+use Rattle.ftl_model.specs.layout.AttributeGrammar.{AttributeGrammar, Sort, for_child, for_self, inherited, input, local, read_occurrences, synthesized}
 use Rattle.ftl_model.specs.layout.Path.{Has, Path, class_at, down, kids_at, top}
 use Rattle.ftl_model.specs.layout.Solves.{instance_of, seen_from}
 use Rattle.ftl_model.specs.layout.Tree.{Forest}
@@ -13,33 +12,12 @@ use Rattle.ftl_order.specs.orders.Lawful.{IsLawful, IsOwnSort, IsRule, OfClass, 
 use Rattle.ftl_order.specs.orders.Reads.{equation_reads}
 use Rattle.ftl_order.proofs.orders.TreeEquations.{kid_rule, own_rule, root_inherits_nothing}
 use Rattle.ftl_order.specs.dependencies.Writers.{is_of_class}
+use Rattle.ftl_order.proofs.dependencies.ClassRules.{kid_is, kid_passes, own_is, own_passes}
 use Rattle.ftl_order.proofs.dependencies.Places.{none_passes}
 use Rattle.ftl_items.specs.stage_items.Limits.{read_count}
 use Rattle.ftl_deps.specs.parts.RuleParts.{parts_named}
 use Rattle.ftl_visit.specs.visits.Visits.{rule_number}
 use Rattle.ftl_limits.specs.reads.ReadTables.{rule_at}
-
-same_test : (a : ℕ) → (a == a) ≡ true
-same_test a = eq-eqb a a refl
-
-own_is : (k a : ℕ) (w : RuleName) → is_of_class k None a w ≡ true → w ≡ for_self k a
-own_is k a (for_self l b) h =
-    let p = and_parts (k == l) (a == b) h in
-    sym (ap₂ for_self (eqb-true k l p.0) (eqb-true a b p.1))
-own_is k a (for_child l d b) h = absurd (false≢true h)
-
-kid_is : (k c a : ℕ) (w : RuleName) → is_of_class k (Some c) a w ≡ true → w ≡ for_child k c a
-kid_is k c a (for_self l b) h = absurd (false≢true h)
-kid_is k c a (for_child l d b) h =
-    let p = and_parts (k == l) (c == d && a == b) h in
-    let q = and_parts (c == d) (a == b) p.1 in
-    sym (ap (λ n. for_child n c a) (eqb-true k l p.0) ∙ ap₂ (for_child l) (eqb-true c d q.0) (eqb-true a b q.1))
-
-own_passes : (k a : ℕ) → is_of_class k None a (for_self k a) ≡ true
-own_passes k a = ap₂ (λ x y. x && y) (same_test k) (same_test a)
-
-kid_passes : (k c a : ℕ) → is_of_class k (Some c) a (for_child k c a) ≡ true
-kid_passes k c a = ap₂ (λ x y. x && y) (same_test k) (ap₂ (λ x y. x && y) (same_test c) (same_test a))
 
 -- a rule of a number, with what it reads
 pub record ReadsBy (g : AttributeGrammar) (t : Forest) (r : ℕ) (runs_at : Path) (number : ℕ) (p : Path) (a : ℕ) :

@@ -1,23 +1,14 @@
 -- The first fault of a plan: a stage whose steps read too much in all, or a step that reads too much.
-use Rattle.std.specs.Prelude.{ℕ, ◌+◌, nat_lt, if◌then◌else◌, List, [], ◌∷◌, length, Option, Some, None}
+use Rattle.std.specs.Prelude.{ℕ, ◌+◌, nat_lt, if◌then◌else◌, length, Option, Some, None}
 use Rattle.std.specs.List.{range_with_len}
-use Rattle.std.specs.Option.{option_map}
+use Rattle.std.specs.Option.{option_map, option_or}
+use Rattle.ftl_model.specs.lists.FirstAlong.{first_along}
 use Rattle.ftl_model.specs.layout.AttributeGrammar.{AttributeGrammar}
 use Rattle.ftl_model.specs.layout.Tree.{Forest}
 use Rattle.ftl_order.specs.orders.Schedule.{Schedule}
 use Rattle.ftl_items.specs.stage_items.Limits.{first_wide_step, read_count, stage_read_count}
 use Rattle.ftl_limits.specs.declared.faults.fault.PlanFault.{PlanFault}
 use Rattle.ftl_limits.specs.declared.faults.fault.PlanFault.TheVariants.{TooManyReads, StepTooWide}
-
--- the first of two faults, where there is one
-abbrev pub or_else : Option PlanFault → Option PlanFault → Option PlanFault
-or_else (Some x) later = Some x
-or_else None later = later
-
--- the first fault that some stages have
-abbrev pub first_along : (ℕ → Option PlanFault) → List ℕ → Option PlanFault
-first_along fault_at [] = None
-first_along fault_at (k ∷ ks) = or_else (fault_at k) (first_along fault_at ks)
 
 -- the first fault of the stages of a schedule
 abbrev pub first_of_stages : Schedule → (ℕ → Option PlanFault) → Option PlanFault
@@ -37,4 +28,4 @@ step_too_wide g s t k = option_map (λ i. StepTooWide (k + 1) (read_count g t i)
 
 -- the first fault: of the first stage that reads too much, or else of the first with such a step
 abbrev pub first_fault : AttributeGrammar → Schedule → Forest → Option PlanFault
-first_fault g s t = or_else (first_of_stages s (too_many_reads g s t)) (first_of_stages s (step_too_wide g s t))
+first_fault g s t = option_or (first_of_stages s (too_many_reads g s t)) (first_of_stages s (step_too_wide g s t))

@@ -12,8 +12,8 @@ ghost use Rattle.ftl_limits.specs.faults.ReadBound.{HasNoFault, IsNoLess, IsSmal
 ghost use Rattle.ftl_limits.specs.faults.ReadBound.{PartsWithin};
 
 use crate::reads::ReadTables;
-use ftl_deps::parts::RuleParts;
-use ftl_tree::trees::Tree;
+use ftl_deps::RuleParts;
+use ftl_tree::Tree;
 use sqlite_items::Items;
 
 /// The greatest number of reads of a part that is read once, and of a fold's step, which is read

@@ -1,18 +1,19 @@
 //! The first fault of a plan.
 ghost use Rattle.std.specs.Prelude.{◌≡◌, ◌≤◌, length, IfOk};
 ghost use Rattle.std.specs.List.{range_with_len};
+ghost use Rattle.ftl_model.specs.lists.FirstAlong.{first_along};
 ghost use Rattle.ftl_deps.specs.reads.Meant.{meant};
 ghost use Rattle.ftl_schedule.specs.stages.Stages.{stages_of};
 ghost use Rattle.ftl_limits.specs.reads.ReadTables.{AreTables, IsSound};
-ghost use Rattle.ftl_limits.specs.faults.PlanFaults.{first_along, first_fault};
+ghost use Rattle.ftl_limits.specs.faults.PlanFaults.{first_fault};
 ghost use Rattle.ftl_limits.specs.faults.StageReads.{many_by, wide_by};
 
 use crate::faults::bound::is_far_from_limits;
 use crate::faults::fault::PlanFault;
 use crate::faults::reads::{StageReads, stage_reads};
 use crate::reads::ReadTables;
-use ftl_schedule::check::Accepted;
-use ftl_tree::trees::Tree;
+use ftl_schedule::Accepted;
+use ftl_tree::Tree;
 use std::alloc::{AllocError, Global};
 
 /// The first stage whose steps have more than 67108864 reads, or else the first step of more than

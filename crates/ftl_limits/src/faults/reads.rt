@@ -11,8 +11,8 @@ ghost use Rattle.ftl_limits.specs.faults.StageReads.{HaveRoom, cells_before};
 ghost use Rattle.ftl_limits.specs.faults.StageReads.{no_reads, or_wide, with_step};
 
 use crate::reads::{ReadTables, instance_reads};
-use ftl_schedule::check::Accepted;
-use ftl_tree::trees::Tree;
+use ftl_schedule::Accepted;
+use ftl_tree::Tree;
 use std::alloc::{AllocError, Global};
 
 /// How much the steps of a stage read in all, and how much the first of them reads that reads more
@@ -93,7 +93,7 @@ fn add_instance(
         (instance_in tree.now node attr) counts.old counts.new }
     ensures little { AreLittleMore counts.old counts.new }
 {
-    let stage = accepted.spot(attr).stage;
+    let stage = accepted.schedule_place(attr).stage;
     if stage >= counts.len() {
         return;
     }

@@ -14,8 +14,8 @@ ghost use Rattle.ftl_limits.specs.reads.ReadTables.{AreTables, IsSound, class_in
 ghost use Rattle.ftl_limits.specs.reads.ReadTables.{rule_at};
 
 use crate::reads::tables::ReadTables;
-use ftl_tree::trees::Tree;
-use ftl_visit::step_reads::read_count;
+use ftl_tree::Tree;
+use ftl_visit::read_count;
 
 /// How much the equation of a node's attribute reads; that of an input reads nothing.
 pub fn instance_reads(tables: &ReadTables, tree: &Tree<'_>, node: u32, attr: u32) -> u64
@@ -97,7 +97,8 @@ fn rule_reads(tables: &ReadTables, tree: &Tree<'_>, node: u32, rule: u32, number
     requires tables { AreTables (meant tree.now.checked) tables.now }
     requires node { node < size tree.now.tree }
     requires rule { rule < length (meant tree.now.checked).rules }
-    requires class { class_of_rule (rule_at (meant tree.now.checked) rule) ≡ class_in tree.now node }
+    requires class { class_of_rule (rule_at (meant tree.now.checked) rule)
+        ≡ class_in tree.now node }
     ensures count { result ≡ reads_here tree.now node
         (parts_named (meant tree.now.checked) (rule_at (meant tree.now.checked) rule)) number }
     ensures bound { result ≤ 268435712 }

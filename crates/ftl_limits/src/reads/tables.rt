@@ -3,10 +3,9 @@ ghost use Rattle.std.specs.Prelude.{IfOk};
 ghost use Rattle.ftl_deps.specs.reads.Meant.{meant};
 ghost use Rattle.ftl_limits.specs.reads.ReadTables.{AreTables};
 
-use ftl_checked::grammars::Checked;
-use ftl_deps::parts::{RuleParts, all_rule_parts};
-use ftl_visit::rule_tables::{RuleTables, class_attributes};
-use ftl_visit::visits::RuleIndex;
+use ftl_checked::Checked;
+use ftl_deps::{RuleParts, all_rule_parts};
+use ftl_visit::{RuleIndex, RuleTables, class_attributes};
 use sqlite_items::Items;
 use std::alloc::{AllocError, Global};
 

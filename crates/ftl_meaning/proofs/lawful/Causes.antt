@@ -17,7 +17,7 @@ use Rattle.ftl_meaning.specs.declared.faults.fault.GrammarFault.{GrammarFault}
 use Rattle.ftl_meaning.specs.declared.faults.fault.GrammarFault.TheVariants as fault
 use Rattle.ftl_meaning.specs.declared.faults.rule_name.RuleName.{RuleName}
 use Rattle.ftl_meaning.specs.faults.Allowed.{Position, leaf_of}
-use Rattle.ftl_meaning.specs.faults.FirstFault.{attribute_names, bad_read, class_fault, class_limits, fault_if, first_fault, first_of, first_there, form_fault, interfaces_named, is_ruled, kid_needs, limit_fault, missing_rule, name_fault, own_needs, read_count, read_limits, root_inherits, rule_fault, rule_faults, rule_name, same_slot, second_name, too_many, twice_among, twice_in_class, twice_in_interface, unknown_among}
+use Rattle.ftl_meaning.specs.faults.FirstFault.{attribute_names, bad_read, class_fault, class_limits, fault_if, first_fault, first_of, first_there, form_fault, interfaces_named, is_ruled, kid_required, limit_fault, missing_rule, name_fault, own_required, read_count, read_limits, root_inherits, rule_fault, rule_faults, rule_name, same_slot, second_name, too_many, twice_among, twice_in_class, twice_in_interface, unknown_among}
 use Rattle.ftl_meaning.specs.faults.Numbering.{children_of, class_at, class_attributes, class_names, interface_names, is_among, numbered, own_count, shared_count}
 use Rattle.ftl_meaning.specs.faults.RuleForms.{Form, Slot, expressions_of, form_of, parts_of, slot_of}
 
@@ -202,7 +202,7 @@ module _ (g : Grammar) (k : ℕ) where
   missing_may : MayBe (missing_rule g k)
   missing_may =
       of_each (λ (need : Slot × Target). fault_if (not (is_ruled g k need.0)) (fault.MissingRule (rule_name (class_at g k) need.1)))
-      (own_needs g k ++ flat_map (kid_needs g) (children_of g k))
+      (own_required g k ++ flat_map (kid_required g) (children_of g k))
       (λ need. where_one (not (is_ruled g k need.0)) (fault.MissingRule (rule_name (class_at g k) need.1)) tt)
 
   class_may : MayBe (class_fault g k)

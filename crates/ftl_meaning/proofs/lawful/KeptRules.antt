@@ -13,7 +13,7 @@ use Rattle.ftl_meaning.specs.faults.RuleForms.{Slot, form_of, kid_slot, own_slot
 use Rattle.ftl_meaning.specs.grammars.GrammarOf.{grammar_of, is_for, name_of_rule, rule_by, rule_for}
 use Rattle.ftl_meaning.specs.lawful.Kept.{IsKept, StandsAt}
 use Rattle.ftl_meaning.proofs.lawful.Found.{find_first}
-use Rattle.ftl_meaning.proofs.lawful.Needs.{rules_right}
+use Rattle.ftl_meaning.proofs.lawful.RequiredRules.{rules_right}
 use Rattle.ftl_meaning.proofs.lawful.RightRules.{IsRight, earlier_slot, for_slot, is_slot, right_at, slot_among, slots_of}
 
 module _ (g : Grammar) (none : first_fault g ≡ None) (k : ℕ) (known : k < length g.classes) where

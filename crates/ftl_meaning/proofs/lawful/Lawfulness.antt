@@ -30,7 +30,8 @@ use Rattle.ftl_meaning.specs.lawful.Faultless.{IsFaultless}
 use Rattle.ftl_meaning.specs.faults.Kinds.{HasKinds, IsOwnKind, IsSharedKind}
 use Rattle.ftl_meaning.proofs.lawful.Declared.{declared_in_order}
 use Rattle.ftl_meaning.proofs.lawful.Found.{in_by_place}
-use Rattle.ftl_meaning.proofs.lawful.Needs.{child_known, interface_known, root_has_none, root_known, rule_written, rules_right}
+use Rattle.ftl_meaning.proofs.lawful.RequiredRules.{child_known, interface_known, root_has_none, root_known}
+use Rattle.ftl_meaning.proofs.lawful.RequiredRules.{rule_written, rules_right}
 use Rattle.ftl_meaning.proofs.lawful.Numbers.{in_numbered, numbered_has, own_at, shared_at}
 use Rattle.ftl_meaning.proofs.lawful.RightRules.{names_differ}
 use Rattle.ftl_meaning.proofs.lawful.RuleList.{by_class, once}

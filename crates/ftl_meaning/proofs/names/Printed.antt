@@ -45,34 +45,34 @@ rises (n ∷ ns) r = (r.0, rises ns r.1)
 -- ---- what is shown of an interface
 
 module _ (g : Grammar) (i : ℕ) where
-  abbrev is_told : ℕ × AttrDecl → Bool
-  is_told = λ a. is_among (interface_at g i).shown a.1.name
+  abbrev has_shown_name : ℕ × AttrDecl → Bool
+  has_shown_name = λ a. is_among (interface_at g i).shown a.1.name
 
   -- what is shown is an attribute of the interface by its number, whose name is shown
-  pub told : (a : ℕ) → Contains (shown_attributes g i) a
-      → (p : ℕ × AttrDecl) × Contains (shared_attributes g i) p × (is_told p ≡ true) × (p.0 ≡ a)
-  told a h =
-      let m = in_map (λ p. p.0) (filter is_told (shared_attributes g i)) a h in
-      let f = in_filter is_told (shared_attributes g i) m.from m.there in
+  pub shown_from : (a : ℕ) → Contains (shown_attributes g i) a
+      → (p : ℕ × AttrDecl) × Contains (shared_attributes g i) p × (has_shown_name p ≡ true) × (p.0 ≡ a)
+  shown_from a h =
+      let m = in_map (λ p. p.0) (filter has_shown_name (shared_attributes g i)) a h in
+      let f = in_filter has_shown_name (shared_attributes g i) m.from m.there in
       (m.from, f.0, f.1, m.is)
 
   -- and each such attribute is shown
   pub is_shown : (p : ℕ × AttrDecl) → Contains (shared_attributes g i) p
       → Contains (interface_at g i).shown p.1.name → Contains (shown_attributes g i) p.0
   is_shown p there named =
-      map_has (λ p. p.0) (filter is_told (shared_attributes g i)) p
-      (filter_has is_told (shared_attributes g i) p there (in_among (interface_at g i).shown p.1.name named))
+      map_has (λ p. p.0) (filter has_shown_name (shared_attributes g i)) p
+      (filter_has has_shown_name (shared_attributes g i) p there (in_among (interface_at g i).shown p.1.name named))
 
   pub in_order : Rises (shown_attributes g i)
   in_order =
       rises (shown_attributes g i)
-      (rising-map (λ a b. a < b) (λ p. p.0) (filter is_told (shared_attributes g i))
-      (rising-filter (λ a b. a.0 < b.0) is_told (shared_attributes g i)
+      (rising-map (λ a b. a < b) (λ p. p.0) (filter has_shown_name (shared_attributes g i))
+      (rising-filter (λ a b. a.0 < b.0) has_shown_name (shared_attributes g i)
       (rising-numbered (shared_count (take i g.interfaces)) (interface_at g i).attrs)))
 
   pub own : (a : ℕ) → Contains (shown_attributes g i) a → Contains (map (λ p. p.0) (shared_attributes g i)) a
   own a h =
-      let t = told a h in
+      let t = shown_from a h in
       subst (Contains (map (λ p. p.0) (shared_attributes g i))) t.3 (map_has (λ p. p.0) (shared_attributes g i) t.0 t.1)
 
   -- a number and its declaration: shown by name
@@ -81,7 +81,7 @@ module _ (g : Grammar) (i : ℕ) where
       × (Contains (interface_at g i).shown d.name → Contains (shown_attributes g i) a)
   by_name a d there = (
     (λ h.
-        let t = told a h in
+        let t = shown_from a h in
         let same : t.0.1 ≡ d = sym (shared_at g i t.0 t.1).1 ∙ ap (declaration_at g) t.3 ∙ (shared_at g i (a, d) there).1 in
         subst (λ (e : AttrDecl). Contains (interface_at g i).shown e.name) same
         (among_in (interface_at g i).shown t.0.1.name t.2)),
@@ -128,7 +128,7 @@ module _ (g : Grammar) (none : first_fault g ≡ None) (k : ℕ) (known : interf
         named = ap (λ (x : AttrDecl). x.name) (shared_at g i (base + place, d) entry).1 ∙ has.is;
         alone =
             λ b shown_b named_b.
-            let t = told g i b shown_b in
+            let t = shown_from g i b shown_b in
             let s = in_numbered base attrs t.0 t.1 in
             let name_there = name_at s.place d s.known in
             let is : get_or (attribute_names attrs) s.place [] ≡ name =

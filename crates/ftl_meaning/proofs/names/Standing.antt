@@ -7,7 +7,7 @@ use Rattle.ftl_grammar.specs.declared.syntax.rules.Child.{Child}
 use Rattle.ftl_grammar.specs.declared.syntax.rules.Class.{Class}
 use Rattle.ftl_grammar.specs.declared.syntax.rules.Grammar.{Grammar}
 use Rattle.ftl_meaning.specs.faults.Numbering.{child_at, class_at, interface_number, interface_of}
-use Rattle.ftl_meaning.proofs.lawful.Needs.{child_known, interface_known, root_known}
+use Rattle.ftl_meaning.proofs.lawful.RequiredRules.{child_known, interface_known, root_known}
 use Rattle.ftl_meaning.specs.names.Classes.{ChildInterfacesAreKept, ChildListsAreKept, ChildrenAreCounted, ClassInterfacesAreKept, ClassNamesAreKept, IsChild, RootIsKept}
 use Rattle.ftl_meaning.specs.names.Places.{IsClass, IsNamed, OfMeanings, OfRightMeanings}
 use Rattle.ftl_meaning.proofs.names.NoNameFault.{stands_for}

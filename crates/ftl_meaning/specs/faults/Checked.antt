@@ -65,7 +65,7 @@ attribute_at g a = slice_index_or (all_attributes g) a (declared false 0 (trees.
 abbrev pub is_shown : Grammar → Declared → Bool
 is_shown g a = not a.of_class && is_among (interface_at g a.owner).shown a.decl.name
 
--- what is told of an attribute
+-- what is known of an attribute
 abbrev pub attribute_info : Grammar → Declared → AttrInfo
 attribute_info g a = record { kind = a.decl.kind; of_class = a.of_class; owner = a.owner; shown = is_shown g a }
 
@@ -75,7 +75,7 @@ owner_name_of g a = if a.of_class then (class_at g a.owner).name else (interface
 
 -- ---- children
 
--- what is told of a child
+-- what is known of a child
 abbrev pub child_info : Grammar → Child → ChildInfo
 child_info g c = record { interface = interface_number g c.interface; many = c.many }
 
@@ -85,19 +85,19 @@ child_info g c = record { interface = interface_number g c.interface; many = c.m
 abbrev pub all_rules : Grammar → List (ℕ × Rule)
 all_rules g = flat_map (λ k. map (λ r. (k.0, r)) k.1.rules) (numbered 0 g.classes)
 
--- what is told of a rule of this class, by what it defines
+-- what is known of a rule of this class, by what it defines
 abbrev pub info_by : (class : ℕ) → Option Slot → RuleInfo
 info_by k (Some (own_slot a)) = record { class = k; child = None; attr = a }
 info_by k (Some (kid_slot c a)) = record { class = k; child = Some c; attr = a }
 info_by k None = record { class = k; child = None; attr = 0 }
 
--- what is told of a rule
+-- what is known of a rule
 abbrev pub rule_info : Grammar → ℕ × Rule → RuleInfo
 rule_info g r = info_by r.0 (slot_of g r.0 r.1.target)
 
--- what is told of the rule of this number; past the end of one for nothing
-abbrev pub rule_told : Grammar → (rule : ℕ) → RuleInfo
-rule_told g r = slice_index_or (map (rule_info g) (all_rules g)) r (info_by 0 None)
+-- what is known of the rule of this number; past the end of one for nothing
+abbrev pub rule_info_at : Grammar → (rule : ℕ) → RuleInfo
+rule_info_at g r = slice_index_or (map (rule_info g) (all_rules g)) r (info_by 0 None)
 
 -- ---- look-ups by name
 

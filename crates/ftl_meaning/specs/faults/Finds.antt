@@ -8,7 +8,7 @@ abbrev pub Finds : Option GrammarFault → Result (Unit {0}) GrammarFault → Ty
 Finds expected (Ok done) = expected ≡ None
 Finds expected (Err e) = e ≢ fault.OutOfMemory → expected ≡ Some e
 
--- the same of a look at all rules, which tells of them
+-- the same of a look at all rules, which says what is known of them
 abbrev pub FindsInfos : {X : Type 0} → Option GrammarFault → Result X GrammarFault → Type 0
 FindsInfos expected (Ok infos) = expected ≡ None
 FindsInfos expected (Err e) = e ≢ fault.OutOfMemory → expected ≡ Some e

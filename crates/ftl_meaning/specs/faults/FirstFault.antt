@@ -181,14 +181,14 @@ rule_faults g k earlier (r ∷ rs) =
     ∷ rule_faults g k (earlier ++ option_to_list (slot_of g k r.target)) rs
 
 -- the attributes of the node itself that the class needs rules for: its interface's, then its own
-abbrev pub own_needs : Grammar → (class : ℕ) → List (Slot × Target)
-own_needs g k =
+abbrev pub own_required : Grammar → (class : ℕ) → List (Slot × Target)
+own_required g k =
     map (λ a. (own_slot a.0, targets.Own a.1.name))
     (filter (λ a. is_synthesized_or_local a.1.kind) (class_attributes g k))
 
 -- the attributes of a child that the class needs rules for
-abbrev pub kid_needs : Grammar → ℕ × Child → List (Slot × Target)
-kid_needs g c =
+abbrev pub kid_required : Grammar → ℕ × Child → List (Slot × Target)
+kid_required g c =
     map (λ a. (kid_slot c.0 a.0, targets.Of c.1.name a.1.name))
     (filter (λ a. is_inherited a.1.kind) (child_attributes g c.1))
 
@@ -201,7 +201,7 @@ is_ruled g k slot =
 abbrev pub missing_rule : Grammar → (class : ℕ) → Option GrammarFault
 missing_rule g k =
     first_of (λ need. fault_if (not (is_ruled g k need.0)) (fault.MissingRule (rule_name (class_at g k) need.1)))
-    (own_needs g k ++ flat_map (kid_needs g) (children_of g k))
+    (own_required g k ++ flat_map (kid_required g) (children_of g k))
 
 -- a fault of a class in its rules, and then an attribute that has none
 abbrev pub class_fault : Grammar → (class : ℕ) → Option GrammarFault

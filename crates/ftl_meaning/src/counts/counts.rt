@@ -9,8 +9,8 @@ ghost use Rattle.ftl_grammar.specs.syntax.GrammarSpelling.{SpellsGrammar};
 ghost use Rattle.ftl_meaning.specs.faults.Counts.{HasSmallCounts};
 ghost use Rattle.ftl_meaning.specs.faults.Kinds.{HasKinds};
 
-use ftl_grammar::syntax::Grammar;
-use ftl_tokens::scanner::Scanned;
+use ftl_grammar::Grammar;
+use ftl_tokens::Scanned;
 
 /// A law: a grammar has no more of anything than tokens spell it, each attribute is declared by a
 /// word that may stand there, and a text has no more tokens than bytes.

@@ -12,7 +12,8 @@ ghost use Rattle.ftl_meaning.specs.fault_order.Faulty.{faulty, later, points, wi
 /// by itself, and without them there is none.
 pub fn first_of_two_faults()
     ensures none { first_fault (faulty 0 0) ≡ None }
-    ensures alone { map (λ p. first_fault (faulty p p)) points ≡ map (λ p. Some (fault_of p)) points }
+    ensures alone { map (λ p. first_fault (faulty p p)) points
+        ≡ map (λ p. Some (fault_of p)) points }
     ensures limits { map (λ q. first_fault (faulty 1 q)) (later 1)
         ≡ map (λ q. Some (fault_of 1)) (later 1) }
     ensures one_space { map (λ q. first_fault (faulty 2 q)) (later 2)

@@ -5,7 +5,7 @@ ghost use Rattle.ftl_meaning.specs.declared.faults.fault.GrammarFault.TheVariant
 
 use crate::faults::rule_name::RuleName;
 use crate::formulas::ReadName;
-use ftl_tokens::scanner::Name;
+use ftl_tokens::Name;
 use std::alloc::{AllocError, AllocFailed};
 
 /// What a grammar may have only so many of.

@@ -1,6 +1,6 @@
-//! What is told of the entries of a grammar, by number.
+//! What is known of the entries of a grammar, by number.
 
-use ftl_grammar::syntax::AttrKind;
+use ftl_grammar::AttrKind;
 
 /// An attribute.
 #[derive(Clone, Copy, Debug, PartialEq, Eq)]

@@ -1,6 +1,6 @@
 //! Rules by name.
 
-use ftl_tokens::scanner::Name;
+use ftl_tokens::Name;
 
 /// What a rule defines, by name.
 #[derive(Drop)]

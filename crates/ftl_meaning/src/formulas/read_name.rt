@@ -1,6 +1,6 @@
 //! What an expression reads, by name.
 
-use ftl_tokens::scanner::Name;
+use ftl_tokens::Name;
 
 /// What an expression reads.
 #[derive(Drop)]

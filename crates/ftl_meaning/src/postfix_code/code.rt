@@ -9,7 +9,7 @@ ghost use Rattle.ftl_meaning.specs.postfix_code.Postfix.{code_of, code_in};
 use crate::postfix_code::entry::Entry;
 use crate::postfix_code::read_ref::{ReadKind, ReadRef};
 use ftl_base::Cmp;
-use ftl_grammar::syntax::{Atom, Cond, Conj, Expr, Factor, Read, Sum, Term, Test, Unary};
+use ftl_grammar::{Atom, Cond, Conj, Expr, Factor, Read, Sum, Term, Test, Unary};
 use std::alloc::{AllocError, Global};
 
 /// The postfix code of an expression.
@@ -24,7 +24,7 @@ pub fn postfix<'a>(alloc: Global, expr: &'a Expr) -> Result<Vec<Entry<'a>>, Allo
 #[cycle(code)]
 #[tactic(auto, unfolding(crate::specs::formulas::Expressions::formula_of, crate::specs::formulas::Expressions::sum_formula, crate::specs::formulas::Expressions::cond_question))]
 fn push_expr<'a>(out: &mut Vec<Entry<'a>>, expr: &'a Expr) -> Result<(), AllocError>
-    ensures { OnOk result (out.new.items ≡ out.old.items ++ code_of (formula_of expr.now)) }
+    ensures code { OnOk result (out.new.items ≡ out.old.items ++ code_of (formula_of expr.now)) }
 {
     match expr {
         Expr::If(cond, yes, no) => {
@@ -41,7 +41,7 @@ fn push_expr<'a>(out: &mut Vec<Entry<'a>>, expr: &'a Expr) -> Result<(), AllocEr
 #[cycle(code)]
 #[tactic(auto, unfolding(crate::specs::formulas::Expressions::sum_formula, crate::specs::formulas::Expressions::term_formula, crate::specs::formulas::Expressions::signed_step))]
 fn push_sum<'a>(out: &mut Vec<Entry<'a>>, sum: &'a Sum) -> Result<(), AllocError>
-    ensures { OnOk result (out.new.items ≡ out.old.items ++ code_of (sum_formula sum.now)) }
+    ensures code { OnOk result (out.new.items ≡ out.old.items ++ code_of (sum_formula sum.now)) }
 {
     push_term(out, &sum.head)?;
     for signed in sum.tail.as_slice() {
@@ -58,7 +58,7 @@ fn push_sum<'a>(out: &mut Vec<Entry<'a>>, sum: &'a Sum) -> Result<(), AllocError
 #[cycle(code)]
 #[tactic(auto, unfolding(crate::specs::formulas::Expressions::term_formula, crate::specs::formulas::Expressions::unary_formula, crate::specs::formulas::Expressions::factor_step))]
 fn push_term<'a>(out: &mut Vec<Entry<'a>>, term: &'a Term) -> Result<(), AllocError>
-    ensures { OnOk result (out.new.items ≡ out.old.items ++ code_of (term_formula term.now)) }
+    ensures code { OnOk result (out.new.items ≡ out.old.items ++ code_of (term_formula term.now)) }
 {
     push_unary(out, &term.head)?;
     for factor in term.tail.as_slice() {
@@ -76,7 +76,8 @@ fn push_term<'a>(out: &mut Vec<Entry<'a>>, term: &'a Term) -> Result<(), AllocEr
 #[cycle(code)]
 #[tactic(auto, unfolding(crate::specs::formulas::Expressions::unary_formula, crate::specs::formulas::Expressions::atom_formula))]
 fn push_unary<'a>(out: &mut Vec<Entry<'a>>, unary: &'a Unary) -> Result<(), AllocError>
-    ensures { OnOk result (out.new.items ≡ out.old.items ++ code_of (unary_formula unary.now)) }
+    ensures code { OnOk result
+        (out.new.items ≡ out.old.items ++ code_of (unary_formula unary.now)) }
 {
     push_atom(out, &unary.atom)?;
     if unary.minus {
@@ -88,7 +89,7 @@ fn push_unary<'a>(out: &mut Vec<Entry<'a>>, unary: &'a Unary) -> Result<(), Allo
 #[cycle(code)]
 #[tactic(auto, unfolding(crate::specs::formulas::Expressions::atom_formula, crate::specs::formulas::Expressions::formula_of))]
 fn push_atom<'a>(out: &mut Vec<Entry<'a>>, atom: &'a Atom) -> Result<(), AllocError>
-    ensures { OnOk result (out.new.items ≡ out.old.items ++ code_of (atom_formula atom.now)) }
+    ensures code { OnOk result (out.new.items ≡ out.old.items ++ code_of (atom_formula atom.now)) }
 {
     match atom {
         Atom::Number(n) => out.push(Entry::Number(*n))?,
@@ -115,7 +116,7 @@ fn push_atom<'a>(out: &mut Vec<Entry<'a>>, atom: &'a Atom) -> Result<(), AllocEr
 }
 
 fn read_ref<'a>(read: &'a Read) -> ReadRef<'a>
-    ensures { result ≡ read_name read.now }
+    ensures name { result ≡ read_name read.now }
 {
     match read {
         Read::Own(a) => ReadRef::new(ReadKind::Own(a)),
@@ -128,7 +129,7 @@ fn read_ref<'a>(read: &'a Read) -> ReadRef<'a>
 #[cycle(code)]
 #[tactic(auto, unfolding(crate::specs::formulas::Expressions::cond_question, crate::specs::formulas::Expressions::conj_question))]
 fn push_cond<'a>(out: &mut Vec<Entry<'a>>, cond: &'a Cond) -> Result<(), AllocError>
-    ensures { OnOk result (out.new.items ≡ out.old.items ++ code_in (cond_question cond.now)) }
+    ensures code { OnOk result (out.new.items ≡ out.old.items ++ code_in (cond_question cond.now)) }
 {
     let Some((head, tail)) = cond.any.as_slice().split_first() else {
         return push_constant(out, Cmp::Unequal);
@@ -144,7 +145,7 @@ fn push_cond<'a>(out: &mut Vec<Entry<'a>>, cond: &'a Cond) -> Result<(), AllocEr
 #[cycle(code)]
 #[tactic(auto, unfolding(crate::specs::formulas::Expressions::conj_question, crate::specs::formulas::Expressions::test_question))]
 fn push_conj<'a>(out: &mut Vec<Entry<'a>>, conj: &'a Conj) -> Result<(), AllocError>
-    ensures { OnOk result (out.new.items ≡ out.old.items ++ code_in (conj_question conj.now)) }
+    ensures code { OnOk result (out.new.items ≡ out.old.items ++ code_in (conj_question conj.now)) }
 {
     let Some((head, tail)) = conj.every.as_slice().split_first() else {
         return push_constant(out, Cmp::Equal);
@@ -160,7 +161,7 @@ fn push_conj<'a>(out: &mut Vec<Entry<'a>>, conj: &'a Conj) -> Result<(), AllocEr
 #[cycle(code)]
 #[tactic(auto, unfolding(crate::specs::formulas::Expressions::test_question, crate::specs::formulas::Expressions::cond_question, crate::specs::formulas::Expressions::sum_formula))]
 fn push_test<'a>(out: &mut Vec<Entry<'a>>, test: &'a Test) -> Result<(), AllocError>
-    ensures { OnOk result (out.new.items ≡ out.old.items ++ code_in (test_question test.now)) }
+    ensures code { OnOk result (out.new.items ≡ out.old.items ++ code_in (test_question test.now)) }
 {
     match test {
         Test::Group(minus, cond) => {
@@ -180,7 +181,7 @@ fn push_test<'a>(out: &mut Vec<Entry<'a>>, test: &'a Test) -> Result<(), AllocEr
 
 /// A truth that is the same anywhere: 0 compared with 0.
 fn push_constant(out: &mut Vec<Entry<'_>>, cmp: Cmp) -> Result<(), AllocError>
-    ensures { OnOk result (out.new.items ≡ out.old.items
+    ensures code { OnOk result (out.new.items ≡ out.old.items
         ++ code_in (compared cmp (literal 0) (literal 0))) }
 {
     out.push(Entry::Number(0))?;

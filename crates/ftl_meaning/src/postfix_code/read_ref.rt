@@ -3,8 +3,8 @@ ghost use Rattle.std.specs.Prelude.{◌≡◌, IfOk};
 ghost use Rattle.ftl_meaning.specs.postfix_code.ReadNames.{name_of};
 
 use crate::formulas::ReadName;
-use ftl_grammar::syntax::Read;
-use ftl_tokens::scanner::Name;
+use ftl_grammar::Read;
+use ftl_tokens::Name;
 use std::alloc::{AllocError, Global};
 use std::marker::Model;
 
@@ -36,20 +36,20 @@ impl<'a> Model for ReadRef<'a> {
 
 impl<'a> ReadRef<'a> {
     pub(crate) fn new(kind: ReadKind<'a>) -> ReadRef<'a>
-        ensures { result ≡ name_of kind.entry }
+        ensures name { result ≡ name_of kind.entry }
     {
         ReadRef { kind }
     }
 
     pub fn kind(&self) -> &ReadKind<'a>
-        ensures { name_of result.now ≡ self.now }
+        ensures name { name_of result.now ≡ self.now }
     {
         &self.kind
     }
 
     /// The same with copies of the names.
     pub fn to_name(&self) -> Result<ReadName, AllocError>
-        ensures { IfOk result (λ r. r ≡ self.now) }
+        ensures name { IfOk result (λ r. r ≡ self.now) }
     {
         match &self.kind {
             ReadKind::Own(a) => Ok(ReadName::Own(a.copy()?)),

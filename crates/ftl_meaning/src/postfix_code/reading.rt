@@ -6,7 +6,7 @@ ghost use Rattle.ftl_meaning.specs.postfix_code.Postfix.{reads_in_code};
 use crate::postfix_code::code::postfix;
 use crate::postfix_code::entry::Entry;
 use crate::postfix_code::read_ref::ReadRef;
-use ftl_grammar::syntax::Expr;
+use ftl_grammar::Expr;
 use std::alloc::{AllocError, Global};
 
 /// What an expression reads, in the order of the text.

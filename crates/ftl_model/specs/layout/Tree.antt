@@ -37,11 +37,6 @@ abbrev pub below_of : Forest → Forest
 below_of none = none
 below_of (tree class child inputs below beside) = below
 
--- the trees beside the first one
-abbrev pub beside_of : Forest → Forest
-beside_of none = none
-beside_of (tree class child inputs below beside) = beside
-
 -- how many of the trees stand in this child
 abbrev pub count_in : ℕ → Forest → ℕ
 count_in c none = 0

@@ -11,7 +11,7 @@ use Rattle.ftl_order.specs.orders.Schedule.{PassKind}
 use Rattle.ftl_order.specs.automatic.Fitting.{Fits, HasAll, IsAtMost, IsComputed, IsListOf, defined_by_reader, placing_after}
 use Rattle.ftl_order.specs.automatic.Fitting.{written}
 use Rattle.ftl_order.proofs.automatic.Lists.{Ascends, tail_has}
-use Rattle.ftl_order.proofs.automatic.Needs.{Met, in_pass, is_done, met}
+use Rattle.ftl_order.proofs.automatic.PairsInPass.{Met, in_pass, is_done, met}
 
 -- of two lists with the same numbers the ascending one is at most the other
 pub ascending_least : (xs ys : List ℕ) → Ascends xs → AreDistinct ys → HasAll xs ys → HasAll ys xs → IsAtMost xs ys

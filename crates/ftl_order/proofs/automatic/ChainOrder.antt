@@ -9,16 +9,16 @@ use Rattle.ftl_model.proofs.lists.Listed.{is_there, listed}
 use Rattle.ftl_model.specs.layout.AttributeGrammar.{AttributeGrammar, Read}
 use Rattle.ftl_order.specs.orders.Ordered.{IsOrderedPair, IsOrderedRead, Row, VisitPlace, visit_place}
 use Rattle.ftl_order.specs.orders.Pairs.{IsPair, Pair, Where}
-use Rattle.ftl_order.specs.orders.Schedule.{Pass, Schedule, Spot, entries, pass_at}
-use Rattle.ftl_order.specs.orders.Schedule.{pass_of, spot_of, stage_of}
+use Rattle.ftl_order.specs.orders.Schedule.{Pass, Schedule, SchedulePlace, entries, pass_at}
+use Rattle.ftl_order.specs.orders.Schedule.{pass_of, placing_of, stage_of}
 use Rattle.ftl_order.specs.automatic.Automatic.{IsChainAfter}
 use Rattle.ftl_order.specs.automatic.Fitting.{Fits, IsComputed, defined_by_reader, placing_after, written}
-use Rattle.ftl_order.proofs.automatic.Needs.{Met, in_pass, is_done, met, row_moves}
+use Rattle.ftl_order.proofs.automatic.PairsInPass.{Met, in_pass, is_done, met, row_moves}
 use Rattle.ftl_order.proofs.automatic.Ones.{next_fits}
 use Rattle.ftl_order.proofs.automatic.Turns.{cases_in}
 
 -- one stage more stands before
-abbrev moved : Spot → Spot
+abbrev moved : SchedulePlace → SchedulePlace
 moved x = record { stage = suc x.stage; pass = x.pass; kind = x.kind; index = x.index }
 
 -- the entries of a stage of one pass and of the stages behind it
@@ -39,8 +39,8 @@ pub entry_later : (pass : Pass) (stages : Schedule) (a : ℕ) → Contains (entr
 entry_later pass stages a h = Contains-append_right (pass.attributes ++ []) (entries stages) a h
 
 module _ (pass : Pass) (stages : Schedule) where
-  abbrev spot_at : (a stage pass_number : ℕ) → Spot
-  spot_at a stage number =
+  abbrev schedule_place_at : (a stage pass_number : ℕ) → SchedulePlace
+  schedule_place_at a stage number =
       record {
         stage = stage;
         pass = number;
@@ -48,72 +48,72 @@ module _ (pass : Pass) (stages : Schedule) where
         index = place_in (pass_at ((pass ∷ []) ∷ stages) stage number).attributes a;
       }
 
-  abbrev spot_in : (a stage : ℕ) → Spot
-  spot_in a stage = spot_at a stage (pass_of (get_or ((pass ∷ []) ∷ stages) stage []) a)
+  abbrev schedule_place_in : (a stage : ℕ) → SchedulePlace
+  schedule_place_in a stage = schedule_place_at a stage (pass_of (get_or ((pass ∷ []) ∷ stages) stage []) a)
 
-  spot_here : (a : ℕ) → Contains pass.attributes a
-      → spot_of ((pass ∷ []) ∷ stages) a
+  stands_here : (a : ℕ) → Contains pass.attributes a
+      → placing_of ((pass ∷ []) ∷ stages) a
       ≡ record { stage = 0; pass = 0; kind = pass.kind; index = place_in pass.attributes a }
-  spot_here a h =
-      ap (λ b. spot_in a (if (if b then true else false) then 0 else suc (stage_of stages a)))
+  stands_here a h =
+      ap (λ b. schedule_place_in a (if (if b then true else false) then 0 else suc (stage_of stages a)))
       (listed pass.attributes a h)
-      ∙ ap (λ b. spot_at a 0 (if b then 0 else 1)) (listed pass.attributes a h)
+      ∙ ap (λ b. schedule_place_at a 0 (if b then 0 else 1)) (listed pass.attributes a h)
 
-  spot_later : (a : ℕ) → (Contains pass.attributes a → ⊥)
-      → spot_of ((pass ∷ []) ∷ stages) a ≡ moved (spot_of stages a)
-  spot_later a out =
-      ap (λ b. spot_in a (if (if b then true else false) then 0 else suc (stage_of stages a)))
+  stands_later : (a : ℕ) → (Contains pass.attributes a → ⊥)
+      → placing_of ((pass ∷ []) ∷ stages) a ≡ moved (placing_of stages a)
+  stands_later a out =
+      ap (λ b. schedule_place_in a (if (if b then true else false) then 0 else suc (stage_of stages a)))
       (false_from_ne_true (is_listed pass.attributes a) (λ e. out (is_there pass.attributes a e)))
 
   -- a read of two of the first pass
   here_ordered : (runs_at : Where) (r : Read) (x y : VisitPlace) (done : List ℕ) → Contains pass.attributes x.attribute
       → Contains pass.attributes y.attribute → Row runs_at pass.kind (placing_after done pass.kind pass.attributes) r x y
-      → IsOrderedRead (spot_of ((pass ∷ []) ∷ stages)) runs_at r x y
+      → IsOrderedRead (placing_of ((pass ∷ []) ∷ stages)) runs_at r x y
   here_ordered runs_at r x y done in_x in_y row =
       let s = (pass ∷ []) ∷ stages in
-      let ex = spot_here x.attribute in_x in
-      let ey = spot_here y.attribute in_y in
-      let px = ap (λ (z : Spot). z.index) ex in
-      let py = ap (λ (z : Spot). z.index) ey in
+      let ex = stands_here x.attribute in_x in
+      let ey = stands_here y.attribute in_y in
+      let px = ap (λ (z : SchedulePlace). z.index) ex in
+      let py = ap (λ (z : SchedulePlace). z.index) ey in
       inr (
         (
-          ap (λ (z : Spot). z.stage) ex ∙ sym (ap (λ (z : Spot). z.stage) ey),
-          ap (λ (z : Spot). z.pass) ex ∙ sym (ap (λ (z : Spot). z.pass) ey),
+          ap (λ (z : SchedulePlace). z.stage) ex ∙ sym (ap (λ (z : SchedulePlace). z.stage) ey),
+          ap (λ (z : SchedulePlace). z.pass) ex ∙ sym (ap (λ (z : SchedulePlace). z.pass) ey),
         ),
-        subst (λ k. Row runs_at k (spot_of s) r x y) (sym (ap (λ (z : Spot). z.kind) ey))
-            (row_moves runs_at pass.kind (placing_after done pass.kind pass.attributes) (spot_of s) r x y
+        subst (λ k. Row runs_at k (placing_of s) r x y) (sym (ap (λ (z : SchedulePlace). z.kind) ey))
+            (row_moves runs_at pass.kind (placing_after done pass.kind pass.attributes) (placing_of s) r x y
             (λ key. ⊎_elim (λ less. inl (omega (arith, px, py, less))) (λ same. inr (px ∙ same.0 ∙ sym py, same.1)) key)
             row),
       )
 
   -- a read of one of the first pass by a later one
   across_ordered : (runs_at : Where) (r : Read) (x y : VisitPlace) → Contains pass.attributes x.attribute
-      → (Contains pass.attributes y.attribute → ⊥) → IsOrderedRead (spot_of ((pass ∷ []) ∷ stages)) runs_at r x y
+      → (Contains pass.attributes y.attribute → ⊥) → IsOrderedRead (placing_of ((pass ∷ []) ∷ stages)) runs_at r x y
   across_ordered runs_at r x y in_x out_y =
-      let ex = ap (λ (z : Spot). z.stage) (spot_here x.attribute in_x) in
-      let ey = ap (λ (z : Spot). z.stage) (spot_later y.attribute out_y) in
+      let ex = ap (λ (z : SchedulePlace). z.stage) (stands_here x.attribute in_x) in
+      let ey = ap (λ (z : SchedulePlace). z.stage) (stands_later y.attribute out_y) in
       inl (omega (arith, ex, ey))
 
   -- a read of two later ones
   later_ordered : (runs_at : Where) (r : Read) (x y : VisitPlace) → (Contains pass.attributes x.attribute → ⊥)
-      → (Contains pass.attributes y.attribute → ⊥) → IsOrderedRead (spot_of stages) runs_at r x y
-      → IsOrderedRead (spot_of ((pass ∷ []) ∷ stages)) runs_at r x y
+      → (Contains pass.attributes y.attribute → ⊥) → IsOrderedRead (placing_of stages) runs_at r x y
+      → IsOrderedRead (placing_of ((pass ∷ []) ∷ stages)) runs_at r x y
   later_ordered runs_at r x y out_x out_y h =
       let s = (pass ∷ []) ∷ stages in
-      let ex = spot_later x.attribute out_x in
-      let ey = spot_later y.attribute out_y in
-      let sx = ap (λ (z : Spot). z.stage) ex in
-      let sy = ap (λ (z : Spot). z.stage) ey in
-      let px = ap (λ (z : Spot). z.index) ex in
-      let py = ap (λ (z : Spot). z.index) ey in
+      let ex = stands_later x.attribute out_x in
+      let ey = stands_later y.attribute out_y in
+      let sx = ap (λ (z : SchedulePlace). z.stage) ex in
+      let sy = ap (λ (z : SchedulePlace). z.stage) ey in
+      let px = ap (λ (z : SchedulePlace). z.index) ex in
+      let py = ap (λ (z : SchedulePlace). z.index) ey in
       ⊎_elim (λ less. inl (omega (arith, sx, sy, less)))
       (λ row. inr (
         (
           (let e = row.0.0 in omega (arith, sx, sy, e)),
-          ap (λ (z : Spot). z.pass) ex ∙ row.0.1 ∙ sym (ap (λ (z : Spot). z.pass) ey),
+          ap (λ (z : SchedulePlace). z.pass) ex ∙ row.0.1 ∙ sym (ap (λ (z : SchedulePlace). z.pass) ey),
         ),
-        subst (λ k. Row runs_at k (spot_of s) r x y) (sym (ap (λ (z : Spot). z.kind) ey))
-            (row_moves runs_at (spot_of stages y.attribute).kind (spot_of stages) (spot_of s) r x y
+        subst (λ k. Row runs_at k (placing_of s) r x y) (sym (ap (λ (z : SchedulePlace). z.kind) ey))
+            (row_moves runs_at (placing_of stages y.attribute).kind (placing_of stages) (placing_of s) r x y
             (λ key. ⊎_elim (λ less. inl (omega (arith, px, py, less))) (λ same. inr (px ∙ same.0 ∙ sym py, same.1)) key)
             row.1),
       ))
@@ -123,7 +123,7 @@ module _ (pass : Pass) (stages : Schedule) where
 abbrev pub ReadsMet : AttributeGrammar → (done : List ℕ) → Schedule → Type 0
 ReadsMet g done s =
     (pair : Pair) → IsPair g pair → Contains (entries s) (defined_by_reader g pair)
-    → Contains done (written g pair) ⊎ IsOrderedPair g (spot_of s) pair
+    → Contains done (written g pair) ⊎ IsOrderedPair g (placing_of s) pair
 
 module _ (g : AttributeGrammar) where
   stage_met : (done : List ℕ) (pass : Pass) (stages : Schedule) → Fits g pass.kind done pass.attributes
@@ -132,7 +132,7 @@ module _ (g : AttributeGrammar) where
       let x = visit_place g pair.writer in
       let y = visit_place g pair.reader in
       let here : Contains pass.attributes y.attribute
-      → Contains done x.attribute ⊎ IsOrderedPair g (spot_of ((pass ∷ []) ∷ stages)) pair =
+      → Contains done x.attribute ⊎ IsOrderedPair g (placing_of ((pass ∷ []) ∷ stages)) pair =
       λ in_y. by_met in_y
       (met done pass.kind pass.attributes pair.runs_at pair.read x y (fits.not_done y.attribute in_y) in_y
       (fits.ordered pair is in_y)) in
@@ -145,20 +145,20 @@ module _ (g : AttributeGrammar) where
       by_met : Contains pass.attributes (defined_by_reader g pair)
           → Met done pass.kind pass.attributes pair.runs_at pair.read (visit_place g pair.writer)
           (visit_place g pair.reader)
-          → Contains done (written g pair) ⊎ IsOrderedPair g (spot_of ((pass ∷ []) ∷ stages)) pair
+          → Contains done (written g pair) ⊎ IsOrderedPair g (placing_of ((pass ∷ []) ∷ stages)) pair
       by_met in_y (is_done d) = inl d
       by_met in_y (in_pass in_x row) =
           inr (here_ordered pass stages pair.runs_at pair.read (visit_place g pair.writer) (visit_place g pair.reader)
           done in_x in_y row)
 
       by_later : (Contains pass.attributes (defined_by_reader g pair) → ⊥)
-          → Contains (done ++ pass.attributes) (written g pair) ⊎ IsOrderedPair g (spot_of stages) pair
-          → Contains done (written g pair) ⊎ IsOrderedPair g (spot_of ((pass ∷ []) ∷ stages)) pair
+          → Contains (done ++ pass.attributes) (written g pair) ⊎ IsOrderedPair g (placing_of stages) pair
+          → Contains done (written g pair) ⊎ IsOrderedPair g (placing_of ((pass ∷ []) ∷ stages)) pair
       by_later out_y h =
           let x = visit_place g pair.writer in
           let y = visit_place g pair.reader in
           let in_pass_too : Contains pass.attributes x.attribute
-          → Contains done x.attribute ⊎ IsOrderedPair g (spot_of ((pass ∷ []) ∷ stages)) pair =
+          → Contains done x.attribute ⊎ IsOrderedPair g (placing_of ((pass ∷ []) ∷ stages)) pair =
           λ in_x. inr (across_ordered pass stages pair.runs_at pair.read x y in_x out_y) in
           ⊎_elim
           (λ old. ⊎_elim (λ d. inl d) in_pass_too (Contains-append_cases done pass.attributes x.attribute old))

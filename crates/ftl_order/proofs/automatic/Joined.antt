@@ -13,7 +13,7 @@ use Rattle.ftl_order.specs.orders.Pairs.{Where}
 use Rattle.ftl_order.specs.orders.Schedule.{PassKind}
 use Rattle.ftl_order.specs.automatic.AutomaticLaws.{without}
 use Rattle.ftl_order.specs.automatic.Fitting.{Fits, placing_after}
-use Rattle.ftl_order.proofs.automatic.Needs.{Met, in_pass, is_done, met, of_met, row_moves, row_with_key}
+use Rattle.ftl_order.proofs.automatic.PairsInPass.{Met, in_pass, is_done, met, of_met, row_moves, row_with_key}
 use Rattle.ftl_order.proofs.automatic.Turns.{cases_in, place_left, place_right, places_rise, rising-filter, rising_place, same_place}
 
 pub in_without : (xs ys : List ℕ) (a : ℕ) → Contains (without xs ys) a → Contains ys a × (Contains xs a → ⊥)

@@ -12,14 +12,14 @@ use Rattle.ftl_model.specs.layout.AttributeGrammar.{AttributeGrammar}
 use Rattle.ftl_order.specs.orders.Lawful.{IsLawful}
 use Rattle.ftl_order.specs.orders.Ordered.{IsOrdered, KeyBelow, Row, VisitPlace, visit_place}
 use Rattle.ftl_order.specs.orders.Pairs.{IsPair, Pair}
-use Rattle.ftl_order.specs.orders.Schedule.{IsOnePass, PassKind, Schedule, spot_of}
+use Rattle.ftl_order.specs.orders.Schedule.{IsOnePass, PassKind, Schedule, placing_of}
 use Rattle.ftl_order.specs.orders.Sequence.{is_in_pass}
-use Rattle.ftl_order.proofs.orders.LegalOrders.{computed, is_computed, not_input, spot_of-one_kind}
-use Rattle.ftl_order.proofs.orders.Spots.{own_keys}
+use Rattle.ftl_order.proofs.orders.LegalOrders.{computed, is_computed, not_input, placing_of-one_kind}
+use Rattle.ftl_order.proofs.orders.SchedulePlaces.{own_keys}
 use Rattle.ftl_order.specs.automatic.Fitting.{Fits, IsComputed, defined_by_reader, placing_after}
 use Rattle.ftl_order.proofs.automatic.Choices.{Best, best_of, decided_both, decided_not}
 use Rattle.ftl_order.proofs.automatic.Decided.{decided_computed}
-use Rattle.ftl_order.proofs.automatic.Needs.{Met, in_pass, is_done, of_met, row_moves}
+use Rattle.ftl_order.proofs.automatic.PairsInPass.{Met, in_pass, is_done, of_met, row_moves}
 use Rattle.ftl_order.proofs.automatic.Targets.{writer_computed}
 use Rattle.ftl_order.proofs.automatic.Turns.{cases_in, rising_place}
 
@@ -55,12 +55,12 @@ below_range n a h = let b = (in_range_from 0 n a h).1 in omega (arith, b)
 module _ (g : AttributeGrammar) (law : IsLawful g) (s : Schedule) (ordered : IsOrdered g s) (done : List ℕ) where
   -- the least stage first
   abbrev NoLater : ℕ → ℕ → Type 0
-  NoLater a b = (spot_of s a).stage ≤ (spot_of s b).stage
+  NoLater a b = (placing_of s a).stage ≤ (placing_of s b).stage
 
   no_later_total : (a b : ℕ) → NoLater a b ⊎ NoLater b a
   no_later_total a b =
       ⊎_elim (λ less. inl (omega (arith, less))) (λ more. inr more)
-      (cases_lt (spot_of s a).stage (spot_of s b).stage)
+      (cases_lt (placing_of s a).stage (placing_of s b).stage)
 
   earliest : (a : ℕ) → IsUndone g done a
       → Best (IsUndone g done) NoLater a (range_with_len 0 g.attribute_count)
@@ -69,12 +69,12 @@ module _ (g : AttributeGrammar) (law : IsLawful g) (s : Schedule) (ordered : IsO
       no_later_total (λ x y z p q. omega (arith, p, q)) a h (range_with_len 0 g.attribute_count)
 
   module _ (b : ℕ) (new : IsUndone g done b)
-      (least : (a : ℕ) → IsUndone g done a → (spot_of s b).stage ≤ (spot_of s a).stage) where
+      (least : (a : ℕ) → IsUndone g done a → (placing_of s b).stage ≤ (placing_of s a).stage) where
     abbrev of_the_pass : ℕ → Bool
-    of_the_pass a = is_undone g done a && is_in_pass (spot_of s) (spot_of s b) a
+    of_the_pass a = is_undone g done a && is_in_pass (placing_of s) (placing_of s b) a
 
     abbrev index : ℕ → ℕ
-    index a = (spot_of s a).index
+    index a = (placing_of s a).index
 
     abbrev the_list : List ℕ
     the_list = sorted_by index (filter of_the_pass (range_with_len 0 g.attribute_count))
@@ -82,30 +82,30 @@ module _ (g : AttributeGrammar) (law : IsLawful g) (s : Schedule) (ordered : IsO
     -- an entry is not done, and stands in the pass
     record IsOfPass (a : ℕ) : Type 0 where
       is_new : IsUndone g done a
-      one : IsOnePass (spot_of s a) (spot_of s b)
+      one : IsOnePass (placing_of s a) (placing_of s b)
 
     in_list : (a : ℕ) → Contains the_list a → IsOfPass a
     in_list a h =
         let f = in_filter of_the_pass (range_with_len 0 g.attribute_count) a
         (in_sorted index (filter of_the_pass (range_with_len 0 g.attribute_count)) a h) in
-        let both = and_parts (is_undone g done a) (is_in_pass (spot_of s) (spot_of s b) a) f.1 in
-        let pass = and_parts ((spot_of s a).stage == (spot_of s b).stage) ((spot_of s a).pass == (spot_of s b).pass)
+        let both = and_parts (is_undone g done a) (is_in_pass (placing_of s) (placing_of s b) a) f.1 in
+        let pass = and_parts ((placing_of s a).stage == (placing_of s b).stage) ((placing_of s a).pass == (placing_of s b).pass)
         both.1 in
         record {
           is_new = test_undone g done a (below_range g.attribute_count a f.0) both.0;
           one = (
-            eqb-true (spot_of s a).stage (spot_of s b).stage pass.0,
-            eqb-true (spot_of s a).pass (spot_of s b).pass pass.1,
+            eqb-true (placing_of s a).stage (placing_of s b).stage pass.0,
+            eqb-true (placing_of s a).pass (placing_of s b).pass pass.1,
           );
         }
 
-    list_has : (a : ℕ) → IsUndone g done a → IsOnePass (spot_of s a) (spot_of s b) → Contains the_list a
+    list_has : (a : ℕ) → IsUndone g done a → IsOnePass (placing_of s a) (placing_of s b) → Contains the_list a
     list_has a h one =
         sorted_has index (filter of_the_pass (range_with_len 0 g.attribute_count)) a
         (filter_has of_the_pass (range_with_len 0 g.attribute_count) a (in_range g.attribute_count a h.0.0)
-        (and_from (is_undone g done a) (is_in_pass (spot_of s) (spot_of s b) a) (undone_test g done a h)
-        (and_from ((spot_of s a).stage == (spot_of s b).stage) ((spot_of s a).pass == (spot_of s b).pass)
-        (eq-eqb (spot_of s a).stage (spot_of s b).stage one.0) (eq-eqb (spot_of s a).pass (spot_of s b).pass one.1))))
+        (and_from (is_undone g done a) (is_in_pass (placing_of s) (placing_of s b) a) (undone_test g done a h)
+        (and_from ((placing_of s a).stage == (placing_of s b).stage) ((placing_of s a).pass == (placing_of s b).pass)
+        (eq-eqb (placing_of s a).stage (placing_of s b).stage one.0) (eq-eqb (placing_of s a).pass (placing_of s b).pass one.1))))
 
     distinct_list : AreDistinct the_list
     distinct_list =
@@ -125,13 +125,13 @@ module _ (g : AttributeGrammar) (law : IsLawful g) (s : Schedule) (ordered : IsO
         distinct_list own
 
     list_key : (x y : VisitPlace) → Contains the_list x.attribute → Contains the_list y.attribute
-        → KeyBelow (spot_of s) x y → KeyBelow (placing_after done (spot_of s b).kind the_list) x y
+        → KeyBelow (placing_of s) x y → KeyBelow (placing_after done (placing_of s b).kind the_list) x y
     list_key x y in_x in_y h =
         ⊎_elim (λ less. inl (rising_place index the_list list_rises x.attribute y.attribute in_x in_y less))
         (λ same. inr (ap (place_in the_list) (own x.attribute y.attribute in_x in_y same.0), same.1)) h
 
     pair_met : (pair : Pair) → IsPair g pair → Contains the_list (defined_by_reader g pair)
-        → Met done (spot_of s b).kind the_list pair.runs_at pair.read (visit_place g pair.writer)
+        → Met done (placing_of s b).kind the_list pair.runs_at pair.read (visit_place g pair.writer)
         (visit_place g pair.reader)
     pair_met pair is there =
         let x = visit_place g pair.writer in
@@ -148,20 +148,20 @@ module _ (g : AttributeGrammar) (law : IsLawful g) (s : Schedule) (ordered : IsO
         (λ row.
         let in_x = list_has x.attribute is_new (row.0.0 ∙ of_y.one.0, row.0.1 ∙ of_y.one.1) in
         in_pass in_x
-        (row_moves pair.runs_at (spot_of s b).kind (spot_of s) (placing_after done (spot_of s b).kind the_list)
+        (row_moves pair.runs_at (placing_of s b).kind (placing_of s) (placing_after done (placing_of s b).kind the_list)
         pair.read x y (list_key x y in_x there)
-        (subst (λ k. Row pair.runs_at k (spot_of s) pair.read x y) (spot_of-one_kind s y.attribute b of_y.one) row.1)))
+        (subst (λ k. Row pair.runs_at k (placing_of s) pair.read x y) (placing_of-one_kind s y.attribute b of_y.one) row.1)))
         (ordered.pairs pair is))
         (cases_in done x.attribute)
 
-    list_fits : Fits g (spot_of s b).kind done the_list
+    list_fits : Fits g (placing_of s b).kind done the_list
     list_fits =
         record {
           distinct = distinct_list;
           computed = λ a h. (in_list a h).is_new.0;
           not_done = λ a h. (in_list a h).is_new.1;
           ordered = λ pair is there.
-              of_met done (spot_of s b).kind the_list pair.runs_at pair.read (visit_place g pair.writer)
+              of_met done (placing_of s b).kind the_list pair.runs_at pair.read (visit_place g pair.writer)
               (visit_place g pair.reader) (in_list (defined_by_reader g pair) there).is_new.1 there
               (pair_met pair is there);
         }
@@ -177,10 +177,10 @@ module _ (g : AttributeGrammar) (law : IsLawful g) (s : Schedule) (ordered : IsO
   pub some_fits : (a : ℕ) → IsUndone g done a → SomeFits
   some_fits a h =
       let e = earliest a h in
-      let least : (c : ℕ) → IsUndone g done c → (spot_of s e.best).stage ≤ (spot_of s c).stage =
+      let least : (c : ℕ) → IsUndone g done c → (placing_of s e.best).stage ≤ (placing_of s c).stage =
       λ c n. e.than_each c (in_range g.attribute_count c n.0.0) n in
       record {
-        kind = (spot_of s e.best).kind;
+        kind = (placing_of s e.best).kind;
         list = the_list e.best e.holds least;
         fits = list_fits e.best e.holds least;
         entry = e.best;

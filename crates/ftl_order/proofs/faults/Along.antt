@@ -1,40 +1,8 @@
--- Where no fault is found along a list.
-use Rattle.std.proofs.Common.{◌≡◌, ℕ, ◌+◌, List, [], ◌∷◌, Option, Some, None, refl, subst, Contains}
+-- The entries of a list with their numbers.
+use Rattle.std.proofs.Common.{ℕ, ◌+◌, List, [], ◌∷◌, subst, Contains}
 use Rattle.std.proofs.Common.{⊎_elim}
 use Rattle.std.specs.List.{enumerate_from}
 use Rattle.ftl_model.proofs.lists.Elements.{here_in, in_cases, later_in, nothing_in}
-use Rattle.ftl_order.specs.faults.FirstFault.{first_along, or_else}
-use Rattle.ftl_order.specs.declared.faults.fault.VerifyFault.{VerifyFault}
-
--- both of two faults are none
-pub record Neither (x y : Option VerifyFault) : Type 0 where
-  pub first : x ≡ None
-  pub later : y ≡ None
-
-pub neither : (x y : Option VerifyFault) → or_else x y ≡ None → Neither x y
-neither (Some x) y e = cc
-neither None y e = record { first = refl; later = e }
-
-pub or_none : (x y : Option VerifyFault) → x ≡ None → y ≡ None → or_else x y ≡ None
-or_none (Some x) y e f = cc
-or_none None y e f = f
-
--- no entry has a fault
-pub none_along : {X : Type 0} (fault_at : X → Option VerifyFault) (xs : List X) → first_along fault_at xs ≡ None
-    → (x : X) → Contains xs x → fault_at x ≡ None
-none_along fault_at [] e x there = absurd (nothing_in x there)
-none_along fault_at (y ∷ ys) e x there =
-    let both = neither (fault_at y) (first_along fault_at ys) e in
-    ⊎_elim (λ same. subst (λ z. fault_at z ≡ None) same both.first)
-    (λ later. none_along fault_at ys both.later x later) (in_cases y x ys there)
-
--- and the other way round
-pub along_none : {X : Type 0} (fault_at : X → Option VerifyFault) (xs : List X)
-    → ((x : X) → Contains xs x → fault_at x ≡ None) → first_along fault_at xs ≡ None
-along_none fault_at [] each = refl
-along_none fault_at (y ∷ ys) each =
-    or_none (fault_at y) (first_along fault_at ys) (each y (here_in y ys))
-    (along_none fault_at ys (λ x there. each x (later_in y x ys there)))
 
 -- each entry has a number
 pub numbered_has : {X : Type 0} (n : ℕ) (xs : List X) (x : X) → Contains xs x

@@ -5,6 +5,7 @@ use Rattle.std.proofs.Common.{zero, suc, cond}
 use Rattle.std.proofs.lemmas.Bool.{false≢true}
 use Rattle.std.proofs.lemmas.List.Sums.{sum_by-cons}
 use Rattle.std.specs.List.{count_by, range_with_len}
+use Rattle.ftl_model.proofs.lists.FirstAlong.{along_none, none_along}
 use Rattle.ftl_model.specs.lists.Lists.{is_listed}
 use Rattle.ftl_model.proofs.lists.Elements.{in_range_from, range_has}
 use Rattle.ftl_model.proofs.lists.Listed.{counted_in, listed}
@@ -14,7 +15,6 @@ use Rattle.ftl_order.specs.faults.FirstFault.{first_missing, first_twice, missin
 use Rattle.ftl_order.specs.faults.FaultLaws.{AreComputed}
 use Rattle.ftl_order.specs.declared.faults.fault.VerifyFault.{VerifyFault}
 use Rattle.ftl_order.specs.declared.faults.fault.VerifyFault.TheVariants.{Twice, Missing}
-use Rattle.ftl_order.proofs.faults.Along.{along_none, none_along}
 
 -- how often a number stands in a list
 abbrev count : List ℕ → ℕ → ℕ

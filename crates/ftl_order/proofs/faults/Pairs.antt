@@ -2,6 +2,7 @@
 use Rattle.std.proofs.Common.{◌≡◌, ℕ, ◌&&◌, Bool, true, false, not, Option, Some, None, refl, subst, ap, Contains}
 use Rattle.std.specs.List.{enumerate_from}
 use Rattle.std.proofs.lemmas.Bool.{and_parts, false≢true}
+use Rattle.ftl_model.proofs.lists.FirstAlong.{along_none, none_along}
 use Rattle.ftl_model.proofs.lists.Rising.{Mapped, in_map, map_has}
 use Rattle.ftl_model.specs.layout.AttributeGrammar.{AttributeGrammar, Read, RuleName}
 use Rattle.ftl_model.specs.layout.Solves.{rule_named}
@@ -17,7 +18,7 @@ use Rattle.ftl_order.proofs.dependencies.ReadsThere.{in_parts, of_parts}
 use Rattle.ftl_order.proofs.dependencies.Writers.{sites_say, writers_are_rules, writers_of_pairs}
 use Rattle.ftl_order.specs.faults.FirstFault.{fault_by, first_unordered, reads_fault, unordered_writer}
 use Rattle.ftl_order.specs.faults.OrderedReads.{is_ordered_read}
-use Rattle.ftl_order.proofs.faults.Along.{along_none, none_along, numbered_has, numbered_in}
+use Rattle.ftl_order.proofs.faults.Along.{numbered_has, numbered_in}
 use Rattle.ftl_order.proofs.faults.Tests.{ordered_tells}
 
 -- a test that fails on what another passes

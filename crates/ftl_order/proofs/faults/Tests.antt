@@ -7,7 +7,7 @@ use Rattle.ftl_model.specs.layout.AttributeGrammar.{self_read, single_read, this
 use Rattle.ftl_order.specs.orders.Ordered.{VisitPlace, visit_place, KeyBelow, IsSameRule, BlockBelow, IsSameBlock}
 use Rattle.ftl_order.specs.orders.Ordered.{SameClassRow, ParentRow, ChildRow, Row, IsOrderedRead}
 use Rattle.ftl_order.specs.orders.Pairs.{Where, child_class, child_read, is_by_prev, parent_class, same_class}
-use Rattle.ftl_order.specs.orders.Schedule.{PassKind, Placing, Spot, IsOnePass, bottomup, inorder, topdown}
+use Rattle.ftl_order.specs.orders.Schedule.{PassKind, Placing, SchedulePlace, IsOnePass, bottomup, inorder, topdown}
 use Rattle.ftl_order.specs.dependencies.DepLaws.{where_of}
 use Rattle.ftl_order.specs.dependencies.DepReads.{dep_read}
 use Rattle.ftl_order.specs.declared.dependencies.dep_read.DepRead.{DepRead}
@@ -97,7 +97,7 @@ row_tells sites.Below child_class kind at d r x y e p c =
     (subst (λ k. Decides (from_kid kind (is_prev d.form) (child_or_zero d.child) y) (ChildRow kind (is_prev d.form) k y))
     c (kid_tells kind (is_prev d.form) (child_or_zero d.child) y))
 
-one_pass_tells : (x y : Spot) → Decides (is_one_pass x y) (IsOnePass x y)
+one_pass_tells : (x y : SchedulePlace) → Decides (is_one_pass x y) (IsOnePass x y)
 one_pass_tells x y = Decides-and _ _ (Decides-eqb x.stage y.stage) (Decides-eqb x.pass y.pass)
 
 -- the whole row, for a read and where its writers run

@@ -14,15 +14,16 @@ use Rattle.ftl_order.specs.orders.Lawful.{IsLawful}
 use Rattle.ftl_order.specs.orders.LegalOrder.{IsLegalBy, IsStep, PrecedesBy}
 use Rattle.ftl_order.specs.orders.Ordered.{EachPairOrdered}
 use Rattle.ftl_order.specs.orders.Reads.{Reads}
-use Rattle.ftl_order.specs.orders.Schedule.{HasOneKind, Placing, Schedule, pass_at, spot_of}
+use Rattle.ftl_order.specs.orders.Schedule.{Placing, Schedule, pass_at, placing_of}
 use Rattle.ftl_order.proofs.orders.Instances.{instance_here, is_listed_instance, length-instances}
-use Rattle.ftl_order.proofs.orders.Near.{reads_near}
-use Rattle.ftl_order.proofs.orders.Rows.{near_precedes}
+use Rattle.ftl_order.proofs.orders.Precedence.{HasOneKind}
+use Rattle.ftl_order.proofs.orders.DirectPrecedence.{reads_direct}
+use Rattle.ftl_order.proofs.orders.Rows.{direct_precedes}
 use Rattle.ftl_order.proofs.orders.TreeEquations.{inside_by}
 
 -- the attributes of one stage and pass stand in one pass
-pub spot_of-one_kind : (s : Schedule) → HasOneKind (spot_of s)
-spot_of-one_kind s a b same = ap₂ (λ stage pass. (pass_at s stage pass).kind) same.0 same.1
+pub placing_of-one_kind : (s : Schedule) → HasOneKind (placing_of s)
+placing_of-one_kind s a b same = ap₂ (λ stage pass. (pass_at s stage pass).kind) same.0 same.1
 
 pub input_or_computed : (sort : Sort) → (sort ≡ input) ⊎ (sort ≢ input)
 input_or_computed input = inl refl
@@ -144,5 +145,5 @@ module _ (g : AttributeGrammar) (at : Placing) (t : Forest) (law : IsLawful g) (
   pub writer_precedes : (i j : Instance) → IsStep g t i → Reads g t i j → g.sort j.attribute ≢ input
       → PrecedesBy g at j i
   writer_precedes i j step reads computed =
-      ⊎_elim (λ e. absurd (computed e)) (λ near. near_precedes g at j i near)
-      (reads_near g law at t fits pairs i j step.0 reads)
+      ⊎_elim (λ e. absurd (computed e)) (λ near. direct_precedes g at j i near)
+      (reads_direct g law at t fits pairs i j step.0 reads)

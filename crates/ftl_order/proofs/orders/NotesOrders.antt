@@ -13,7 +13,7 @@ use Rattle.ftl_order.specs.orders.LegalOrder.{IsLegalOrder, IsStep, MustPrecede}
 use Rattle.ftl_order.specs.orders.NotesOrders.{notes_order, notes_schedule, size_twice}
 use Rattle.ftl_order.specs.orders.Ordered.{IsOrdered, IsOrderedRead, visit_place}
 use Rattle.ftl_order.specs.orders.Pairs.{Where, Writes, child_class, parent_class, same_class}
-use Rattle.ftl_order.specs.orders.Schedule.{EachStandsOnce, entries, spot_of}
+use Rattle.ftl_order.specs.orders.Schedule.{EachStandsOnce, entries, placing_of}
 use Rattle.ftl_order.proofs.orders.Bounded.{each_below}
 use Rattle.ftl_order.proofs.orders.Instances.{is_listed_instance}
 use Rattle.ftl_order.proofs.orders.NotesLawful.{each_rule}
@@ -48,7 +48,7 @@ notes_once =
 abbrev ReadOrdered : RuleName → Read → Type 0
 ReadOrdered reader r =
     (runs_at : Where) (w : RuleName) → Writes notes (class_of_rule reader) r runs_at w
-    → IsOrderedRead (spot_of notes_schedule) runs_at r (visit_place notes w) (visit_place notes reader)
+    → IsOrderedRead (placing_of notes_schedule) runs_at r (visit_place notes w) (visit_place notes reader)
 
 abbrev PairsOrdered : RuleName → Type 0
 PairsOrdered reader =
@@ -60,19 +60,19 @@ one_class P i h below e = subst P (sym e) h
 
 -- one writer, at the node itself or of its kids
 one_writer : (reader : RuleName) (r : Read) (at_class : Where) (v : RuleName)
-    → IsOrderedRead (spot_of notes_schedule) at_class r (visit_place notes v) (visit_place notes reader)
+    → IsOrderedRead (placing_of notes_schedule) at_class r (visit_place notes v) (visit_place notes reader)
     → (runs_at : Where) (w : RuleName) → (runs_at ≡ at_class) × (w ≡ v)
-    → IsOrderedRead (spot_of notes_schedule) runs_at r (visit_place notes w) (visit_place notes reader)
+    → IsOrderedRead (placing_of notes_schedule) runs_at r (visit_place notes w) (visit_place notes reader)
 one_writer reader r at_class v h runs_at w is =
-    subst₂ (λ p x. IsOrderedRead (spot_of notes_schedule) p r (visit_place notes x) (visit_place notes reader))
+    subst₂ (λ p x. IsOrderedRead (placing_of notes_schedule) p r (visit_place notes x) (visit_place notes reader))
     (sym is.0) (sym is.1) h
 
 -- the writers of a synthesized attribute of a kid of interface i
 kid_writer : (reader : RuleName) (r : Read) (i a : ℕ)
-    → IsOrderedRead (spot_of notes_schedule) child_class r (visit_place notes (for_self i a)) (visit_place notes reader)
+    → IsOrderedRead (placing_of notes_schedule) child_class r (visit_place notes (for_self i a)) (visit_place notes reader)
     → (runs_at : Where) (w : RuleName)
     → ((below : ℕ) × (below < 3) × (below ≡ i) × (runs_at ≡ child_class) × (w ≡ for_self below a))
-    → IsOrderedRead (spot_of notes_schedule) runs_at r (visit_place notes w) (visit_place notes reader)
+    → IsOrderedRead (placing_of notes_schedule) runs_at r (visit_place notes w) (visit_place notes reader)
 kid_writer reader r i a h runs_at w is =
     one_writer reader r child_class (for_self i a) h runs_at w (is.3, is.4 ∙ ap (λ b. for_self b a) is.2)
 

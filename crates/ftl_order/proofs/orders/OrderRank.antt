@@ -15,11 +15,12 @@ use Rattle.ftl_order.specs.orders.Lawful.{IsLawful}
 use Rattle.ftl_order.specs.orders.LegalOrder.{FirstInPass, KeyFirst, PrecedesBy, Turn, TurnPrecedes, address, turn_of}
 use Rattle.ftl_order.specs.orders.Ordered.{EachPairOrdered}
 use Rattle.ftl_order.specs.orders.Reads.{FallsAlongReads, Reads, equation_reads}
-use Rattle.ftl_order.specs.orders.Schedule.{HasOneKind, PassKind, Placing, bottomup, inorder, topdown}
+use Rattle.ftl_order.specs.orders.Schedule.{PassKind, Placing, bottomup, inorder, topdown}
 use Rattle.ftl_order.proofs.orders.Instances.{is_listed_instance}
 use Rattle.ftl_order.proofs.orders.Kids.{below_size, kid_size}
-use Rattle.ftl_order.proofs.orders.Near.{reads_near}
-use Rattle.ftl_order.proofs.orders.Rows.{near_precedes}
+use Rattle.ftl_order.proofs.orders.Precedence.{HasOneKind}
+use Rattle.ftl_order.proofs.orders.DirectPrecedence.{reads_direct}
+use Rattle.ftl_order.proofs.orders.Rows.{direct_precedes}
 use Rattle.ftl_order.proofs.orders.TreeEquations.{inside_by}
 
 abbrev pub depth_of : Path → ℕ
@@ -149,5 +150,5 @@ module _ (g : AttributeGrammar) (at : Placing) (t : Forest) where
       subst (λ n. read_rank j < n) (sym (step_or_nothing (g.sort i.attribute) i j refl reads))
       (below_step (g.sort j.attribute) j (step_rank i)
       (⊎_elim (λ e. inl e)
-      (λ near. inr (step_rises one_kind j i there (near_precedes g at j i near)))
-      (reads_near g law at t fits pairs i j valid reads)))
+      (λ near. inr (step_rises one_kind j i there (direct_precedes g at j i near)))
+      (reads_direct g law at t fits pairs i j valid reads)))

@@ -6,7 +6,11 @@ use Rattle.ftl_model.specs.lists.Lists.{Before}
 use Rattle.ftl_model.specs.layout.Path.{Above, Path, down, top}
 use Rattle.ftl_order.specs.orders.LegalOrder.{FirstInPass, KeyFirst, Turn, TurnPrecedes, address}
 use Rattle.ftl_order.specs.orders.Ordered.{IsSameRule, KeyBelow, VisitPlace}
-use Rattle.ftl_order.specs.orders.Schedule.{HasOneKind, PassKind, Placing, bottomup, inorder, topdown}
+use Rattle.ftl_order.specs.orders.Schedule.{IsOnePass, PassKind, Placing, bottomup, inorder, topdown}
+
+-- the attributes of one pass are of one kind of pass
+abbrev pub HasOneKind : Placing → Type 0
+HasOneKind at = (a b : ℕ) → IsOnePass (at a) (at b) → (at a).kind ≡ (at b).kind
 
 -- ---- transitive
 

@@ -10,7 +10,7 @@ use Rattle.ftl_model.specs.layout.Path.{Path, down, one_more, top}
 use Rattle.ftl_model.specs.layout.Solves.{Instance, instance_of}
 use Rattle.ftl_model.specs.layout.Worked.{numbers}
 use Rattle.ftl_order.specs.orders.LegalOrder.{address, turn_by, turn_of, way_to}
-use Rattle.ftl_order.specs.orders.Schedule.{IsOnePass, Placing, Spot}
+use Rattle.ftl_order.specs.orders.Schedule.{IsOnePass, Placing, SchedulePlace}
 use Rattle.ftl_order.specs.orders.Sequence.{is_in_pass, is_same_sort, keyed, steps_at}
 use Rattle.ftl_order.proofs.orders.LegalOrders.{computed}
 use Rattle.ftl_order.proofs.orders.Rows.{way_before}
@@ -113,7 +113,7 @@ module _ (g : AttributeGrammar) (at : Placing) where
     pub rising : Rising EarlierAddress is
     pub to_come : (i : Instance) → Contains is i → StillToCome p from seen i
 
-module _ (g : AttributeGrammar) (at : Placing) (x : Spot) where
+module _ (g : AttributeGrammar) (at : Placing) (x : SchedulePlace) where
   -- a keyed attribute is of its class, of its kind, and in the pass
   pub record Keyed (sort : Sort) (k a : ℕ) : Type 0 where
     pub of : Contains (attributes_of g k) a

@@ -9,7 +9,7 @@ use Rattle.ftl_model.specs.layout.Solves.{Instance}
 use Rattle.ftl_model.specs.layout.Tree.{Forest, IsTree, below_of, class_of, from_kid, none, tree}
 use Rattle.ftl_model.proofs.layout.Standing.{has_parent}
 use Rattle.ftl_order.specs.orders.Lawful.{OfClass}
-use Rattle.ftl_order.specs.orders.Schedule.{IsOnePass, Placing, Spot}
+use Rattle.ftl_order.specs.orders.Schedule.{IsOnePass, Placing, SchedulePlace}
 use Rattle.ftl_order.specs.orders.Sequence.{is_in_pass, is_same_sort, keyed, sequence_at, sequence_below, steps_at}
 
 both_pass : (p q : Bool) → p ≡ true → q ≡ true → (p && q) ≡ true
@@ -22,7 +22,7 @@ itself inherited = refl
 itself synthesized = refl
 itself local = refl
 
-module _ (g : AttributeGrammar) (at : Placing) (x : Spot) where
+module _ (g : AttributeGrammar) (at : Placing) (x : SchedulePlace) where
   pub keyed_has : (sort : Sort) (k a : ℕ) → g.sort a ≡ sort → OfClass g k a → IsOnePass (at a) x
       → Contains (keyed g at x sort k) a
   keyed_has sort k a e of pass =

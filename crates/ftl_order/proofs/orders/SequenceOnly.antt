@@ -10,7 +10,7 @@ use Rattle.ftl_model.specs.layout.Solves.{Instance, instance_of, rule_node}
 use Rattle.ftl_model.specs.layout.Tree.{Forest, IsTree, below_of, class_of, none, size, tree}
 use Rattle.ftl_model.proofs.layout.Numbering.{Left, left_all, left_next, left_below, at-left}
 use Rattle.ftl_order.specs.orders.LegalOrder.{IsStep, turn_of}
-use Rattle.ftl_order.specs.orders.Schedule.{IsOnePass, Placing, Spot}
+use Rattle.ftl_order.specs.orders.Schedule.{IsOnePass, Placing, SchedulePlace}
 use Rattle.ftl_order.specs.orders.Sequence.{sequence_at, sequence_below, steps_at}
 use Rattle.ftl_order.proofs.orders.SequenceAddresses.{is_keyed, steps_go}
 
@@ -19,7 +19,7 @@ pub rising_distinct : {X : Type 0} (R : X → X → Type 0) → ((x : X) → R x
 rising_distinct R never [] h = tt
 rising_distinct R never (x ∷ xs) h = ((λ again. never x (h.0 x again)), rising_distinct R never xs h.1)
 
-module _ (g : AttributeGrammar) (at : Placing) (x : Spot) (t : Forest) (r : Path) where
+module _ (g : AttributeGrammar) (at : Placing) (x : SchedulePlace) (t : Forest) (r : Path) where
   -- a step of the pass that runs at this node or below it
   abbrev pub InPass : Instance → Type 0
   InPass i = IsStep g t i × IsOnePass (at i.attribute) x × AtOrAbove r (turn_of g i).visit

@@ -14,7 +14,7 @@ use Rattle.ftl_model.proofs.layout.Fits.{fits_at}
 use Rattle.ftl_model.proofs.layout.Standing.{has_parent}
 use Rattle.ftl_order.specs.orders.Lawful.{IsLawful, OfClass, class_owner, interface_owner}
 use Rattle.ftl_order.specs.orders.LegalOrder.{FirstInPass, IsStep, MustPrecede, address, turn_of}
-use Rattle.ftl_order.specs.orders.Schedule.{EachStandsOnce, IsOnePass, Schedule, Spot, inorder, spot_of}
+use Rattle.ftl_order.specs.orders.Schedule.{EachStandsOnce, IsOnePass, Schedule, SchedulePlace, inorder, placing_of}
 use Rattle.ftl_order.specs.orders.Sequence.{keyed, sequence_at, sequence_below, steps_at}
 use Rattle.ftl_order.proofs.orders.Kids.{class_known}
 use Rattle.ftl_order.proofs.orders.LegalOrders.{computed}
@@ -22,36 +22,36 @@ use Rattle.ftl_order.proofs.orders.Owners.{attribute_known}
 use Rattle.ftl_order.proofs.orders.SequenceAddresses.{EarlierAddress, goes_before, into_block, local_goes, synthesized_goes}
 use Rattle.ftl_order.proofs.orders.SequenceHas.{keyed_has, kid_in, visit_in}
 use Rattle.ftl_order.proofs.orders.SequenceRises.{below_rises, starts_anywhere, steps_rise}
-use Rattle.ftl_order.proofs.orders.Spots.{own_keys}
+use Rattle.ftl_order.proofs.orders.SchedulePlaces.{own_keys}
 use Rattle.ftl_order.proofs.orders.TreeEquations.{root_inherits_nothing}
 
--- of the pass of this spot, over a node and all below it
+-- of the pass of this place, over a node and all below it
 module _ (g : AttributeGrammar) (law : IsLawful g) (s : Schedule) (once : EachStandsOnce g s)
     (t : Forest)
-    (fits : IsTreeOf g t) (x : Spot) (r : Path) (root : Has t r) where
+    (fits : IsTreeOf g t) (x : SchedulePlace) (r : Path) (root : Has t r) where
   step_in : (sort : Sort) (p : Path) (a : ℕ) → g.sort a ≡ sort → sort ≢ input → Has t p → OfClass g (class_at t p) a
       → AtOrAbove r (rule_node sort p)
-      → IsOnePass (spot_of s a) x → Contains (sequence_at g (spot_of s) x t r) (instance_of p a)
+      → IsOnePass (placing_of s a) x → Contains (sequence_at g (placing_of s) x t r) (instance_of p a)
   step_in input p a e computed there of below pass = absurd (computed refl)
   step_in inherited top a e computed there of below pass = absurd (root_inherits_nothing g law t fits a there of e)
   step_in inherited (down c k p) a e computed there of below pass =
-      visit_in g (spot_of s) x t r p below (has_parent t c k p there) (instance_of (down c k p) a)
+      visit_in g (placing_of s) x t r p below (has_parent t c k p there) (instance_of (down c k p) a)
       (inr (inl
-      (kid_in g (spot_of s) x (below_of (tree_at t p)) p (λ c. 0) c k k (let z : k ≡ 0 + k = omega arith in z) there
+      (kid_in g (placing_of s) x (below_of (tree_at t p)) p (λ c. 0) c k k (let z : k ≡ 0 + k = omega arith in z) there
       (instance_of (down c k p) a)
       (inl
-      (map_has (instance_of (down c k p)) (keyed g (spot_of s) x inherited (class_at t (down c k p))) a
-      (keyed_has g (spot_of s) x inherited (class_at t (down c k p)) a e of pass))))))
+      (map_has (instance_of (down c k p)) (keyed g (placing_of s) x inherited (class_at t (down c k p))) a
+      (keyed_has g (placing_of s) x inherited (class_at t (down c k p)) a e of pass))))))
   step_in synthesized p a e computed there of below pass =
-      visit_in g (spot_of s) x t r p below there (instance_of p a)
+      visit_in g (placing_of s) x t r p below there (instance_of p a)
       (inr (inr
-      (map_has (instance_of p) (keyed g (spot_of s) x synthesized (class_at t p)) a
-      (keyed_has g (spot_of s) x synthesized (class_at t p) a e of pass))))
+      (map_has (instance_of p) (keyed g (placing_of s) x synthesized (class_at t p)) a
+      (keyed_has g (placing_of s) x synthesized (class_at t p) a e of pass))))
   step_in local p a e computed there of below pass =
-      visit_in g (spot_of s) x t r p below there (instance_of p a)
+      visit_in g (placing_of s) x t r p below there (instance_of p a)
       (inl
-      (map_has (instance_of p) (keyed g (spot_of s) x local (class_at t p)) a
-      (keyed_has g (spot_of s) x local (class_at t p) a e of pass)))
+      (map_has (instance_of p) (keyed g (placing_of s) x local (class_at t p)) a
+      (keyed_has g (placing_of s) x local (class_at t p) a e of pass)))
 
   attribute_of_class : (k a : ℕ) → k < g.class_count → OfClass g k a → a < g.attribute_count
   attribute_of_class k a known of =
@@ -61,13 +61,13 @@ module _ (g : AttributeGrammar) (law : IsLawful g) (s : Schedule) (once : EachSt
       (Contains-append_cases (g.shared (g.interface k)) (g.private k) a of)
 
   keys : (k a b : ℕ) → k < g.class_count → Contains (attributes_of g k) a → Contains (attributes_of g k) b
-      → g.sort a ≢ input → g.sort b ≢ input → IsOnePass (spot_of s a) (spot_of s b)
-      → (spot_of s a).index ≡ (spot_of s b).index → a ≡ b
+      → g.sort a ≢ input → g.sort b ≢ input → IsOnePass (placing_of s a) (placing_of s b)
+      → (placing_of s a).index ≡ (placing_of s b).index → a ≡ b
   keys k a b known ha hb = own_keys g s once a b (attribute_of_class k a known ha) (attribute_of_class k b known hb)
 
-  pub sequence_rises : Rising (EarlierAddress g (spot_of s)) (sequence_at g (spot_of s) x t r)
+  pub sequence_rises : Rising (EarlierAddress g (placing_of s)) (sequence_at g (placing_of s) x t r)
   sequence_rises =
-      let at = spot_of s in
+      let at = placing_of s in
       let known = class_known g t fits r root in
       let ls = steps_at g at x local (class_at t r) r in
       let bs = sequence_below g at x r (λ c. 0) (below_of (tree_at t r)) in
@@ -93,15 +93,15 @@ module _ (g : AttributeGrammar) (law : IsLawful g) (s : Schedule) (once : EachSt
       (Contains-append_cases bs ss j hj))
 
   abbrev pub whole : List Instance
-  whole = sequence_at g (spot_of s) x t r
+  whole = sequence_at g (placing_of s) x t r
 
   abbrev pub Earlier : Instance → Instance → Type 0
-  Earlier i j = Before (address (spot_of s) (turn_of g i)) (address (spot_of s) (turn_of g j))
+  Earlier i j = Before (address (placing_of s) (turn_of g i)) (address (placing_of s) (turn_of g j))
 
   places_rise : (m n : ℕ) (d e : Instance) → m < n → n < length whole → Earlier (get_or whole m d) (get_or whole n e)
   places_rise m n d e less below =
       subst (λ z. Earlier (get_or whole m d) z) (get_or_default whole n d e below)
-      (rising_at (EarlierAddress g (spot_of s)) whole sequence_rises m n d less below)
+      (rising_at (EarlierAddress g (placing_of s)) whole sequence_rises m n d less below)
 
   pub stands_by_address : (i j : Instance) → Contains whole i → Contains whole j → Earlier i j → StandsBefore whole i j
   stands_by_address i j hi hj first = (
@@ -117,7 +117,7 @@ module _ (g : AttributeGrammar) (law : IsLawful g) (s : Schedule) (once : EachSt
       no_later late =
           ⊎_elim
           (λ less.
-          before_once (address (spot_of s) (turn_of g i)) (address (spot_of s) (turn_of g j)) first
+          before_once (address (placing_of s) (turn_of g i)) (address (placing_of s) (turn_of g j)) first
           (subst (λ z. Earlier z i) hj.2
           (subst (λ z. Earlier (get_or whole hj.0 j) z) hi.2 (places_rise hj.0 hi.0 j i less hi.1))))
           (λ least.
@@ -127,7 +127,7 @@ module _ (g : AttributeGrammar) (law : IsLawful g) (s : Schedule) (once : EachSt
           ∙ get_or_default whole hj.0 i j hj.1
           ∙ hj.2 in
           let again = subst (λ z. Earlier z j) e first in
-          before_once (address (spot_of s) (turn_of g j)) (address (spot_of s) (turn_of g j)) again again)
+          before_once (address (placing_of s) (turn_of g j)) (address (placing_of s) (turn_of g j)) again again)
           (cases_lt hj.0 hi.0)
 
   pub address_by_place : (i j : Instance) → StandsBefore whole i j → Earlier i j
@@ -135,7 +135,7 @@ module _ (g : AttributeGrammar) (law : IsLawful g) (s : Schedule) (once : EachSt
       subst (λ z. Earlier z j) (h.4 i)
       (subst (λ z. Earlier (get_or whole h.0 i) z) (h.5 i) (places_rise h.0 h.1 i i h.2 h.3))
 
-  pub step_there : (i : Instance) → IsStep g t i → AtOrAbove r (turn_of g i).visit → IsOnePass (spot_of s i.attribute) x
+  pub step_there : (i : Instance) → IsStep g t i → AtOrAbove r (turn_of g i).visit → IsOnePass (placing_of s i.attribute) x
       → Contains whole i
   step_there i step below pass =
       step_in (g.sort i.attribute) i.node i.attribute refl step.1 step.0.0 step.0.1 below pass
@@ -145,24 +145,24 @@ module _ (g : AttributeGrammar) (law : IsLawful g) (s : Schedule) (once : EachSt
     (t : Forest)
     (fits : IsTreeOf g t) (r : Path) (root : Has t r) (i j : Instance) (step_i : IsStep g t i) (step_j : IsStep g t j)
     (below_i : AtOrAbove r (turn_of g i).visit) (below_j : AtOrAbove r (turn_of g j).visit)
-    (pass : IsOnePass (spot_of s i.attribute) (spot_of s j.attribute))
-    (kind : (spot_of s j.attribute).kind ≡ inorder) where
+    (pass : IsOnePass (placing_of s i.attribute) (placing_of s j.attribute))
+    (kind : (placing_of s j.attribute).kind ≡ inorder) where
   pub precede_stands : MustPrecede g t s i j
-      → StandsBefore (sequence_at g (spot_of s) (spot_of s j.attribute) t r) i j
+      → StandsBefore (sequence_at g (placing_of s) (placing_of s j.attribute) t r) i j
   precede_stands first =
-      stands_by_address g law s once t fits (spot_of s j.attribute) r root i j
-      (step_there g law s once t fits (spot_of s j.attribute) r root i step_i below_i pass)
-      (step_there g law s once t fits (spot_of s j.attribute) r root j step_j below_j (refl, refl))
+      stands_by_address g law s once t fits (placing_of s j.attribute) r root i j
+      (step_there g law s once t fits (placing_of s j.attribute) r root i step_i below_i pass)
+      (step_there g law s once t fits (placing_of s j.attribute) r root j step_j below_j (refl, refl))
       (⊎_elim (λ stage. absurd (let e = pass.0 in let z : ⊥ = omega (arith, stage, e) in z))
-      (λ here. subst (λ k. FirstInPass k (spot_of s) (turn_of g i) (turn_of g j)) kind here.1) first)
+      (λ here. subst (λ k. FirstInPass k (placing_of s) (turn_of g i) (turn_of g j)) kind here.1) first)
 
-  pub stands_precede : StandsBefore (sequence_at g (spot_of s) (spot_of s j.attribute) t r) i j
+  pub stands_precede : StandsBefore (sequence_at g (placing_of s) (placing_of s j.attribute) t r) i j
       → MustPrecede g t s i j
   stands_precede h =
       inr (
         pass,
-        subst (λ k. FirstInPass k (spot_of s) (turn_of g i) (turn_of g j)) (sym kind)
-            (address_by_place g law s once t fits (spot_of s j.attribute) r root i j h),
+        subst (λ k. FirstInPass k (placing_of s) (turn_of g i) (turn_of g j)) (sym kind)
+            (address_by_place g law s once t fits (placing_of s j.attribute) r root i j h),
       )
 
 pub top_above : (p : Path) → AtOrAbove top p

@@ -11,13 +11,13 @@ use Rattle.ftl_model.specs.layout.Solves.{Instance, instance_of}
 use Rattle.ftl_model.specs.layout.Tree.{Forest, none, tree}
 use Rattle.ftl_model.specs.layout.TreeOf.{FitBelow, StartsFrom}
 use Rattle.ftl_order.specs.orders.Lawful.{IsLawful}
-use Rattle.ftl_order.specs.orders.Schedule.{IsOnePass, Placing, Spot}
+use Rattle.ftl_order.specs.orders.Schedule.{IsOnePass, Placing, SchedulePlace}
 use Rattle.ftl_order.specs.orders.Sequence.{is_in_pass, is_same_sort, keyed, sequence_below, steps_at}
 use Rattle.ftl_order.proofs.orders.LegalOrders.{computed}
 use Rattle.ftl_order.proofs.orders.Owners.{class_distinct}
 use Rattle.ftl_order.proofs.orders.SequenceAddresses.{EarlierAddress, Goes, RisesBelow, StillToCome, address_by, at_kid, goes_before, inherited_goes, into_block, into_kid, is_keyed, key_before, kid_first, local_goes, synthesized_goes}
 
-module _ (g : AttributeGrammar) (law : IsLawful g) (at : Placing) (x : Spot)
+module _ (g : AttributeGrammar) (law : IsLawful g) (at : Placing) (x : SchedulePlace)
     (own : (k a b : ℕ) → k < g.class_count → Contains (attributes_of g k) a → Contains (attributes_of g k) b
     → g.sort a ≢ input → g.sort b ≢ input → IsOnePass (at a) (at b) → (at a).index ≡ (at b).index → a ≡ b) where
   abbrev pub Earlier : Instance → Instance → Type 0

@@ -9,7 +9,7 @@ use Rattle.ftl_model.proofs.layout.ValueRanges.{sum_in}
 use Rattle.ftl_order.specs.orders.Lawful.{IsAlone, IsLawful, IsOwnSort, IsRule, KeepsRange, MayReadForChild, MayReadLater, Owner, Owns, PartsForChild, class_of_rule, class_owner, interface_owner}
 use Rattle.ftl_order.specs.orders.Ordered.{IsOrdered, IsOrderedRead, visit_place}
 use Rattle.ftl_order.specs.orders.Pairs.{Where, Writes, same_class}
-use Rattle.ftl_order.specs.orders.Schedule.{EachStandsOnce, entries, spot_of}
+use Rattle.ftl_order.specs.orders.Schedule.{EachStandsOnce, entries, placing_of}
 use Rattle.ftl_order.proofs.orders.Bounded.{each_below}
 use Rattle.ftl_order.proofs.orders.PartReads.{first_then_reads}
 use Rattle.ftl_order.proofs.orders.RuleOrder.{ordered_by_class}
@@ -135,14 +135,14 @@ chain_once = each_below (λ a. chain.sort a ≢ input → count_by (λ b. b == a
 abbrev WritersOrdered : ℕ → Read → Type 0
 WritersOrdered b r =
     (runs_at : Where) (w : RuleName) → Writes chain 0 r runs_at w
-    → IsOrderedRead (spot_of chain_inorder) runs_at r (visit_place chain w) (visit_place chain (for_child 0 0 b))
+    → IsOrderedRead (placing_of chain_inorder) runs_at r (visit_place chain w) (visit_place chain (for_child 0 0 b))
 
 prev_ordered : (b a : ℕ)
-    → IsOrderedRead (spot_of chain_inorder) same_class (prev_read 0 a) (visit_place chain (for_child 0 0 a))
+    → IsOrderedRead (placing_of chain_inorder) same_class (prev_read 0 a) (visit_place chain (for_child 0 0 a))
     (visit_place chain (for_child 0 0 b))
     → WritersOrdered b (prev_read 0 a)
 prev_ordered b a h runs_at w writes =
-    subst₂ (λ p x. IsOrderedRead (spot_of chain_inorder) p (prev_read 0 a) (visit_place chain x)
+    subst₂ (λ p x. IsOrderedRead (placing_of chain_inorder) p (prev_read 0 a) (visit_place chain x)
     (visit_place chain (for_child 0 0 b)))
     (sym writes.0) (sym writes.1) h
 
@@ -156,7 +156,7 @@ abbrev PairsOrdered : RuleName → Type 0
 PairsOrdered w =
     (part : Part) (r : Read) → Contains (reads_in (rule_named chain w).parts part) r
     → (runs_at : Where) (v : RuleName) → Writes chain (class_of_rule w) r runs_at v
-    → IsOrderedRead (spot_of chain_inorder) runs_at r (visit_place chain v) (visit_place chain w)
+    → IsOrderedRead (placing_of chain_inorder) runs_at r (visit_place chain v) (visit_place chain w)
 
 a_ordered : PairsOrdered (for_child 0 0 0)
 a_ordered part r h =

@@ -8,7 +8,7 @@ use Rattle.ftl_model.specs.layout.Tree.{Forest}
 use Rattle.ftl_model.specs.layout.TreeOf.{IsTreeOf}
 use Rattle.ftl_order.specs.orders.OneTable.{ExactlyOneList, ExactlyOneTable}
 use Rattle.ftl_order.specs.orders.Ordered.{IsOrdered, IsOrderedPair}
-use Rattle.ftl_order.specs.orders.Schedule.{EachStandsOnce, Schedule, entries, spot_of}
+use Rattle.ftl_order.specs.orders.Schedule.{EachStandsOnce, Schedule, entries, placing_of}
 use Rattle.ftl_order.proofs.orders.Bounded.{each_below}
 use Rattle.ftl_order.proofs.orders.Scheduled.{one_list_under, one_table_under}
 use Rattle.ftl_order.specs.worked.WorkedSchedules.{places_beside, sizes_then_places, stack_pairs}
@@ -30,7 +30,7 @@ sizes_then_places_ordered =
     record {
       once = stack_once sizes_then_places (refl, (refl, (refl, (refl, (refl, tt)))));
       pairs = λ pair is.
-          each_in (IsOrderedPair stack (spot_of sizes_then_places)) stack_pairs
+          each_in (IsOrderedPair stack (placing_of sizes_then_places)) stack_pairs
           (inr ((refl, refl), tt), (inr ((refl, refl), tt), (inr ((refl, refl), tt), (inr ((refl, refl), tt), (inr ((refl, refl), tt), (inr ((refl, refl), tt), (inr ((refl, refl), tt), (inr ((refl, refl), tt), (inr ((refl, refl), tt), (inr ((refl, refl), tt), (inr ((refl, refl), inr (refl, (refl, refl))), (inl (lit< tt), (inl (lit< tt), tt)))))))))))))
           pair (pairs_listed pair is);
     }
@@ -40,7 +40,7 @@ places_beside_ordered =
     record {
       once = stack_once places_beside (refl, (refl, (refl, (refl, (refl, tt)))));
       pairs = λ pair is.
-          each_in (IsOrderedPair stack (spot_of places_beside)) stack_pairs
+          each_in (IsOrderedPair stack (placing_of places_beside)) stack_pairs
           (inr ((refl, refl), tt), (inr ((refl, refl), tt), (inr ((refl, refl), tt), (inr ((refl, refl), tt), (inr ((refl, refl), tt), (inr ((refl, refl), tt), (inr ((refl, refl), tt), (inr ((refl, refl), tt), (inr ((refl, refl), tt), (inr ((refl, refl), tt), (inr ((refl, refl), inr (refl, (refl, refl))), (inl (lit< tt), (inl (lit< tt), tt)))))))))))))
           pair (pairs_listed pair is);
     }

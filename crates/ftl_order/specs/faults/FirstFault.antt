@@ -2,26 +2,18 @@
 -- writer the schedule doesn't have earlier.
 use Rattle.std.specs.Prelude.{ℕ, ◌&&◌, not, if◌then◌else◌, List, [], ◌∷◌, Option, Some, None}
 use Rattle.std.specs.List.{enumerate_from, position, range_with_len}
+use Rattle.std.specs.Option.{option_or}
+use Rattle.ftl_model.specs.lists.FirstAlong.{first_along}
 use Rattle.ftl_model.specs.lists.Lists.{is_listed}
 use Rattle.ftl_model.specs.layout.AttributeGrammar.{AttributeGrammar, RuleName, is_input}
 use Rattle.ftl_order.specs.orders.Lawful.{class_of_rule}
-use Rattle.ftl_order.specs.orders.Schedule.{Placing, Schedule, entries, spot_of}
+use Rattle.ftl_order.specs.orders.Schedule.{Placing, Schedule, entries, placing_of}
 use Rattle.ftl_order.specs.dependencies.DepReads.{rule_reads}
 use Rattle.ftl_order.specs.dependencies.Writers.{is_writer}
 use Rattle.ftl_order.specs.declared.dependencies.dep_read.DepRead.{DepRead}
 use Rattle.ftl_order.specs.faults.OrderedReads.{is_ordered_read}
 use Rattle.ftl_order.specs.declared.faults.fault.VerifyFault.{VerifyFault}
 use Rattle.ftl_order.specs.declared.faults.fault.VerifyFault.TheVariants.{Twice, Missing, Unordered}
-
--- the first of two faults, where there is one
-abbrev pub or_else : Option VerifyFault → Option VerifyFault → Option VerifyFault
-or_else (Some x) later = Some x
-or_else None later = later
-
--- the first fault that is found along a list
-abbrev pub first_along : {X : Type 0} → (X → Option VerifyFault) → List X → Option VerifyFault
-first_along fault_at [] = None
-first_along fault_at (x ∷ xs) = or_else (fault_at x) (first_along fault_at xs)
 
 -- the first entry whose attribute stands in an earlier one, where these stand before
 abbrev pub first_twice : (before : List ℕ) → List ℕ → Option VerifyFault
@@ -57,4 +49,4 @@ first_unordered g at = first_along (reads_fault g at) (enumerate_from 0 g.rules)
 -- the first fault of a schedule
 abbrev pub first_fault : AttributeGrammar → Schedule → Option VerifyFault
 first_fault g s =
-    or_else (first_twice [] (entries s)) (or_else (first_missing g (entries s)) (first_unordered g (spot_of s)))
+    option_or (first_twice [] (entries s)) (option_or (first_missing g (entries s)) (first_unordered g (placing_of s)))

@@ -2,7 +2,7 @@
 use Rattle.std.specs.Prelude.{ℕ, ◌==◌, ◌&&◌, ◌||◌, Bool, true, false, nat_lt, Option, Some, None}
 use Rattle.ftl_model.specs.layout.AttributeGrammar.{AttributeGrammar, RuleName}
 use Rattle.ftl_order.specs.orders.Ordered.{VisitPlace, visit_place}
-use Rattle.ftl_order.specs.orders.Schedule.{PassKind, Placing, Spot, bottomup, inorder, topdown}
+use Rattle.ftl_order.specs.orders.Schedule.{PassKind, Placing, SchedulePlace, bottomup, inorder, topdown}
 use Rattle.ftl_order.specs.declared.dependencies.dep_read.DepRead.{DepRead}
 use Rattle.ftl_order.specs.declared.dependencies.dep_read.Form.{Form}
 use Rattle.ftl_order.specs.declared.dependencies.dep_read.Form.TheVariants as forms
@@ -68,7 +68,7 @@ in_pass_by sites.Above kind at d x y = from_parent kind
 in_pass_by sites.Below kind at d x y = from_kid kind (is_prev d.form) (child_or_zero d.child) y
 
 -- in one stage and in one pass of it
-abbrev pub is_one_pass : Spot → Spot → Bool
+abbrev pub is_one_pass : SchedulePlace → SchedulePlace → Bool
 is_one_pass x y = x.stage == y.stage && x.pass == y.pass
 
 -- whether the schedule has the writer of a read earlier: in an earlier stage, or earlier in the same pass

@@ -8,7 +8,8 @@ use Rattle.ftl_model.specs.layout.Table.{instance_number, value_in}
 use Rattle.ftl_model.specs.layout.Tree.{Forest}
 use Rattle.ftl_model.specs.layout.Values.{Value}
 use Rattle.ftl_order.specs.orders.Ordered.{IsSameRule, KeyBelow, VisitPlace, block_of}
-use Rattle.ftl_order.specs.orders.Schedule.{IsOnePass, PassKind, Placing, Schedule, bottomup, inorder, spot_of, topdown}
+use Rattle.ftl_order.specs.orders.Schedule.{IsOnePass, PassKind, Placing, Schedule, bottomup, inorder, placing_of}
+use Rattle.ftl_order.specs.orders.Schedule.{topdown}
 
 -- a step is one computed instance
 abbrev pub IsStep : AttributeGrammar → Forest → Instance → Type 0
@@ -77,27 +78,27 @@ PrecedesBy g at i j = TurnPrecedes at (turn_of g i) (turn_of g j)
 
 -- of a tree, under a schedule
 abbrev pub MustPrecede : AttributeGrammar → Forest → Schedule → Instance → Instance → Type 0
-MustPrecede g t s i j = PrecedesBy g (spot_of s) i j
+MustPrecede g t s i j = PrecedesBy g (placing_of s) i j
 
 -- the same with the nearest visits alone: the parent's (topdown) or a kid's (bottomup)
-abbrev pub NearInPass : PassKind → Placing → Turn → Turn → Type 0
-NearInPass topdown at x y = ((x.visit ≡ y.visit) × KeyFirst at x y) ⊎ (parent_of y.visit ≡ Some x.visit)
-NearInPass bottomup at x y = ((x.visit ≡ y.visit) × KeyFirst at x y) ⊎ (parent_of x.visit ≡ Some y.visit)
-NearInPass inorder at x y = Before (address at x) (address at y)
+abbrev pub DirectlyFirstInPass : PassKind → Placing → Turn → Turn → Type 0
+DirectlyFirstInPass topdown at x y = ((x.visit ≡ y.visit) × KeyFirst at x y) ⊎ (parent_of y.visit ≡ Some x.visit)
+DirectlyFirstInPass bottomup at x y = ((x.visit ≡ y.visit) × KeyFirst at x y) ⊎ (parent_of x.visit ≡ Some y.visit)
+DirectlyFirstInPass inorder at x y = Before (address at x) (address at y)
 
 -- in an earlier stage, or in one pass and near before it there
-abbrev pub TurnNear : Placing → Turn → Turn → Type 0
-TurnNear at x y =
+abbrev pub TurnPrecedesDirectly : Placing → Turn → Turn → Type 0
+TurnPrecedesDirectly at x y =
     ((at x.rule.attribute).stage < (at y.rule.attribute).stage)
-    ⊎ (IsOnePass (at x.rule.attribute) (at y.rule.attribute) × NearInPass (at y.rule.attribute).kind at x y)
+    ⊎ (IsOnePass (at x.rule.attribute) (at y.rule.attribute) × DirectlyFirstInPass (at y.rule.attribute).kind at x y)
 
 -- of two steps, where attributes stand so
-abbrev pub IsNearBy : AttributeGrammar → Placing → Instance → Instance → Type 0
-IsNearBy g at i j = TurnNear at (turn_of g i) (turn_of g j)
+abbrev pub PrecedesDirectlyBy : AttributeGrammar → Placing → Instance → Instance → Type 0
+PrecedesDirectlyBy g at i j = TurnPrecedesDirectly at (turn_of g i) (turn_of g j)
 
 -- of two steps of a tree, under a schedule
-abbrev pub IsNearBefore : AttributeGrammar → Forest → Schedule → Instance → Instance → Type 0
-IsNearBefore g t s i j = IsNearBy g (spot_of s) i j
+abbrev pub PrecedesDirectly : AttributeGrammar → Forest → Schedule → Instance → Instance → Type 0
+PrecedesDirectly g t s i j = PrecedesDirectlyBy g (placing_of s) i j
 
 -- all steps, each once, and none before one that must come first by this relation
 pub record IsLegalBy (g : AttributeGrammar) (t : Forest) (First : Instance → Instance → Type 0)

@@ -10,11 +10,12 @@ use Rattle.ftl_model.specs.layout.Tree.{Forest}
 use Rattle.ftl_model.specs.layout.TreeOf.{IsTreeOf}
 use Rattle.ftl_model.specs.layout.Values.{Value}
 use Rattle.ftl_order.specs.orders.Lawful.{IsLawful}
-use Rattle.ftl_order.specs.orders.LegalOrder.{HoldsInputs, IsLegalOrder, IsNearBefore, IsStep, MustPrecede, run, turn_of}
+use Rattle.ftl_order.specs.orders.LegalOrder.{HoldsInputs, IsLegalOrder, PrecedesDirectly, IsStep, MustPrecede, run}
+use Rattle.ftl_order.specs.orders.LegalOrder.{turn_of}
 use Rattle.ftl_order.specs.orders.OneTable.{ExactlyOneList, ExactlyOneTable}
 use Rattle.ftl_order.specs.orders.Ordered.{IsOrdered}
 use Rattle.ftl_order.specs.orders.Reads.{Reads}
-use Rattle.ftl_order.specs.orders.Schedule.{IsOnePass, Schedule, Spot, inorder, spot_of}
+use Rattle.ftl_order.specs.orders.Schedule.{IsOnePass, Schedule, SchedulePlace, inorder, placing_of}
 use Rattle.ftl_order.specs.orders.Sequence.{sequence, sequence_at}
 
 -- of each tree of a lawful grammar, under each schedule that is ordered for it
@@ -24,9 +25,9 @@ UnderOrderedSchedules P =
 
 -- what a step reads, unless it is an input, stands in an earlier stage, or in the same pass: in the same visit by key,
 -- at the parent (topdown), at a kid (bottomup), or earlier in the sequence (inorder)
-abbrev pub WritersStandNear : AttributeGrammar → Schedule → Forest → Type 0
-WritersStandNear g s t =
-    (i j : Instance) → IsStep g t i → Reads g t i j → g.sort j.attribute ≢ input → IsNearBefore g t s j i
+abbrev pub WritersPrecedeDirectly : AttributeGrammar → Schedule → Forest → Type 0
+WritersPrecedeDirectly g s t =
+    (i j : Instance) → IsStep g t i → Reads g t i j → g.sort j.attribute ≢ input → PrecedesDirectly g t s j i
 
 -- and it must precede the step
 abbrev pub WritersPrecede : AttributeGrammar → Schedule → Forest → Type 0
@@ -62,16 +63,16 @@ RunsEndInTheTable g s t =
 abbrev pub InorderStepsStandInSequence : AttributeGrammar → Schedule → Forest → Type 0
 InorderStepsStandInSequence g s t =
     (i j : Instance) → IsStep g t i → IsStep g t j
-    → IsOnePass (spot_of s i.attribute) (spot_of s j.attribute) → (spot_of s j.attribute).kind ≡ inorder
-    → MustPrecede g t s i j ↔ StandsBefore (sequence g (spot_of s) (spot_of s j.attribute) t) i j
+    → IsOnePass (placing_of s i.attribute) (placing_of s j.attribute) → (placing_of s j.attribute).kind ≡ inorder
+    → MustPrecede g t s i j ↔ StandsBefore (sequence g (placing_of s) (placing_of s j.attribute) t) i j
 
 -- and in the sequence at any node, of two steps that run at that node or below it
 abbrev pub StepsBelowStandInSequence : AttributeGrammar → Schedule → Forest → Type 0
 StepsBelowStandInSequence g s t =
     (p : Path) (i j : Instance) → Has t p → IsStep g t i → IsStep g t j
     → AtOrAbove p (turn_of g i).visit → AtOrAbove p (turn_of g j).visit
-    → IsOnePass (spot_of s i.attribute) (spot_of s j.attribute) → (spot_of s j.attribute).kind ≡ inorder
-    → MustPrecede g t s i j ↔ StandsBefore (sequence_at g (spot_of s) (spot_of s j.attribute) t p) i j
+    → IsOnePass (placing_of s i.attribute) (placing_of s j.attribute) → (placing_of s j.attribute).kind ≡ inorder
+    → MustPrecede g t s i j ↔ StandsBefore (sequence_at g (placing_of s) (placing_of s j.attribute) t p) i j
 
 -- what must precede a step that must precede a third must precede that one
 abbrev pub PrecedenceIsTransitive : Type 0
@@ -88,7 +89,7 @@ PrecedenceIsDecided =
 -- the sequence of a pass at a node has the steps of the pass that run at the node or below it, each once, and no other
 abbrev pub SequencesHaveTheirSteps : AttributeGrammar → Schedule → Forest → Type 0
 SequencesHaveTheirSteps g s t =
-    (p : Path) (x : Spot) → Has t p
-    → AreDistinct (sequence_at g (spot_of s) x t p)
-    × ((i : Instance) → Contains (sequence_at g (spot_of s) x t p) i
-    ↔ (IsStep g t i × IsOnePass (spot_of s i.attribute) x × AtOrAbove p (turn_of g i).visit))
+    (p : Path) (x : SchedulePlace) → Has t p
+    → AreDistinct (sequence_at g (placing_of s) x t p)
+    × ((i : Instance) → Contains (sequence_at g (placing_of s) x t p) i
+    ↔ (IsStep g t i × IsOnePass (placing_of s i.attribute) x × AtOrAbove p (turn_of g i).visit))

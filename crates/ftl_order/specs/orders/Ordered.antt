@@ -3,7 +3,8 @@ use Rattle.std.specs.Prelude.{◌≡◌, ◌⊎◌, ℕ, ◌<◌, Bool, IsTrue}
 use Rattle.ftl_model.specs.layout.AttributeGrammar.{AttributeGrammar, Read, RuleName, Sort, for_child, for_self, inherited}
 use Rattle.ftl_model.specs.layout.AttributeGrammar.{input, local, synthesized}
 use Rattle.ftl_order.specs.orders.Pairs.{IsPair, Pair, Where, child_class, child_read, is_by_prev, parent_class, same_class}
-use Rattle.ftl_order.specs.orders.Schedule.{EachStandsOnce, IsOnePass, PassKind, Placing, Schedule, bottomup, inorder, spot_of}
+use Rattle.ftl_order.specs.orders.Schedule.{EachStandsOnce, IsOnePass, PassKind, Placing, Schedule, bottomup, inorder}
+use Rattle.ftl_order.specs.orders.Schedule.{placing_of}
 use Rattle.ftl_order.specs.orders.Schedule.{topdown}
 
 -- the block of a node's visit: 0 for the locals, 1 for the kids of a child, 2 for the synthesized attributes
@@ -88,4 +89,4 @@ EachPairOrdered g at = (pair : Pair) → IsPair g pair → IsOrderedPair g at pa
 -- a schedule that is accepted
 pub record IsOrdered (g : AttributeGrammar) (s : Schedule) : Type 0 where
   pub once : EachStandsOnce g s
-  pub pairs : EachPairOrdered g (spot_of s)
+  pub pairs : EachPairOrdered g (placing_of s)

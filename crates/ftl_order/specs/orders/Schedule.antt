@@ -29,7 +29,7 @@ EachStandsOnce g s =
     (a : ℕ) → a < g.attribute_count → g.sort a ≢ input → count_by (λ b. b == a) (entries s) ≡ 1
 
 -- where an attribute stands: the stage, the pass in it, the kind of that pass, and the place in its list
-pub record Spot : Type 0 where
+pub record SchedulePlace : Type 0 where
   pub stage : ℕ
   pub pass : ℕ
   pub kind : PassKind
@@ -37,15 +37,11 @@ pub record Spot : Type 0 where
 
 -- all that pairs and legal orders ask of a schedule
 abbrev pub Placing : Type 0
-Placing = ℕ → Spot
+Placing = ℕ → SchedulePlace
 
 -- in one stage and in one pass of it
-abbrev pub IsOnePass : Spot → Spot → Type 0
+abbrev pub IsOnePass : SchedulePlace → SchedulePlace → Type 0
 IsOnePass x y = (x.stage ≡ y.stage) × (x.pass ≡ y.pass)
-
--- the attributes of one pass are of one kind of pass
-abbrev pub HasOneKind : Placing → Type 0
-HasOneKind at = (a b : ℕ) → IsOnePass (at a) (at b) → (at a).kind ≡ (at b).kind
 
 -- the first pass that lists the attribute; the count of passes where none does
 abbrev pub pass_of : List Pass → ℕ → ℕ
@@ -74,9 +70,9 @@ pass_at s stage pass = slice_index_or (slice_index_or s stage []) pass empty_pas
 abbrev pub pass_in_stage : Schedule → ℕ → ℕ
 pass_in_stage s a = pass_of (slice_index_or s (stage_of s a) []) a
 
--- the spot of an attribute in a schedule
-abbrev pub spot_of : Schedule → Placing
-spot_of s a =
+-- the place of an attribute in a schedule
+abbrev pub placing_of : Schedule → Placing
+placing_of s a =
     record {
       stage = stage_of s a;
       pass = pass_in_stage s a;

@@ -7,7 +7,7 @@ use Rattle.ftl_model.specs.layout.Stack.{body_origin, box_h, box_w, box_x, box_y
 use Rattle.ftl_model.specs.layout.Stack.{stack, word}
 use Rattle.ftl_order.specs.orders.Ordered.{IsOrderedPair}
 use Rattle.ftl_order.specs.orders.Pairs.{IsPair, Pair, Where, child_class, parent_class, same_class}
-use Rattle.ftl_order.specs.orders.Schedule.{Pass, PassKind, Schedule, bottomup, spot_of, topdown}
+use Rattle.ftl_order.specs.orders.Schedule.{Pass, PassKind, Schedule, bottomup, placing_of, topdown}
 
 -- a pass of this kind with these attributes
 abbrev pub pass : PassKind → List ℕ → Pass
@@ -102,8 +102,8 @@ slanted_pair =
 
 -- a pair that the schedule orders, and one that it does not
 abbrev pub Orders : AttributeGrammar → Schedule → Pair → Type 0
-Orders g s pair = IsPair g pair × IsOrderedPair g (spot_of s) pair
+Orders g s pair = IsPair g pair × IsOrderedPair g (placing_of s) pair
 
 -- a pair that the schedule does not order
 abbrev pub LeavesUnordered : AttributeGrammar → Schedule → Pair → Type 0
-LeavesUnordered g s pair = IsPair g pair × (IsOrderedPair g (spot_of s) pair → ⊥)
+LeavesUnordered g s pair = IsPair g pair × (IsOrderedPair g (placing_of s) pair → ⊥)

@@ -1,6 +1,6 @@
 ghost use Rattle.ftl_order.specs.orders.ReadPairs.{ReadsArePairs};
 ghost use Rattle.ftl_order.specs.orders.OrderLaws.{PrecedenceIsTransitive, PrecedenceIsDecided};
-ghost use Rattle.ftl_order.specs.orders.OrderLaws.{UnderOrderedSchedules, WritersStandNear};
+ghost use Rattle.ftl_order.specs.orders.OrderLaws.{UnderOrderedSchedules, WritersPrecedeDirectly};
 ghost use Rattle.ftl_order.specs.orders.OrderLaws.{WritersPrecede, WritersStandBefore};
 ghost use Rattle.ftl_order.specs.orders.OrderLaws.{LegalOrderExists};
 ghost use Rattle.ftl_order.specs.orders.OrderLaws.{OneTableSolves, OneListSolves};
@@ -17,7 +17,7 @@ pub fn reads_are_pairs()
 /// A law: under an ordered schedule what a step reads is an input, or its writer stands near before
 /// it and must precede it, on every tree.
 pub fn ordered_reads()
-    ensures near { UnderOrderedSchedules WritersStandNear }
+    ensures direct { UnderOrderedSchedules WritersPrecedeDirectly }
     ensures precede { UnderOrderedSchedules WritersPrecede }
 {}
 

@@ -11,7 +11,7 @@ ghost use Rattle.ftl_model.specs.layout.AttributeGrammar.{prev_read, last_read, 
 ghost use Rattle.ftl_model.specs.layout.AttributeGrammar.{fold_over};
 ghost use Rattle.ftl_model.specs.layout.Worked.{numbers, empty_column, two_words, two_words_values};
 ghost use Rattle.ftl_order.specs.orders.Lawful.{IsLawful, PartsForSelf, PartsForChild};
-ghost use Rattle.ftl_order.specs.orders.Schedule.{EachStandsOnce, spot_of};
+ghost use Rattle.ftl_order.specs.orders.Schedule.{EachStandsOnce, placing_of};
 ghost use Rattle.ftl_order.specs.orders.Sequence.{sequence};
 ghost use Rattle.ftl_order.specs.orders.Reads.{Reads};
 ghost use Rattle.ftl_order.specs.orders.Pairs.{Where, Writes, Pair, IsPair};
@@ -68,7 +68,8 @@ pub fn refused_schedules()
 /// A law: the chain's steps, kid by kid, compute its table.
 pub fn a_chain_of_three()
     ensures tree { IsTreeOf chain three_kids }
-    ensures sequence { sequence chain (spot_of chain_inorder) (spot_of chain_inorder 0) three_kids
+    ensures sequence { sequence chain (placing_of chain_inorder) (placing_of chain_inorder 0)
+        three_kids
         ≡ chain_order }
     ensures values { run chain three_kids chain_order
         (numbers (0 ∷ (0 ∷ (0 ∷ (0 ∷ (0 ∷ (0 ∷ [])))))))

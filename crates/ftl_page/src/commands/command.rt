@@ -4,7 +4,7 @@ ghost use Rattle.std.specs.Prelude.{◌≡◌};
 ghost use Rattle.ftl_page.specs.declared.commands.command.CommandFault.TheVariants.{OutOfMemory};
 
 use crate::workers::Solving;
-use ftl_tokens::scanner::Name;
+use ftl_tokens::Name;
 use std::alloc::{AllocError, AllocFailed};
 
 /// What the program is to do.

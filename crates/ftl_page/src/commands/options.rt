@@ -3,7 +3,8 @@
 ghost use Rattle.std.specs.Prelude.{◌≡◌, IfOk, true, false, map, option_map};
 ghost use Rattle.std.specs.String.{string_bytes};
 ghost use Rattle.clap.specs.Walk.{first_of, rows_of};
-ghost use Rattle.clap.specs.Words.{app_of, found_of, is_simple_and_free, new_app, rule_of, with_rule};
+ghost use Rattle.clap.specs.Words.{app_of, found_of, is_simple_and_free, new_app};
+ghost use Rattle.clap.specs.Words.{rule_of, with_rule};
 ghost use Rattle.ftl_model.specs.layout.Outcome.{Gives};
 ghost use Rattle.ftl_page.specs.commands.Commands.{answer_by};
 ghost use Rattle.ftl_page.specs.commands.Options.{plain_app, sample_app, solving_app, taken};

@@ -16,7 +16,7 @@ use crate::commands::options::{options, plain_command, sample_command, solving_c
 use crate::workers::{Solving, number, solving_by};
 use clap::ArgMatches;
 use ftl_boxes::shipped;
-use ftl_tokens::scanner::Name;
+use ftl_tokens::Name;
 use std::alloc::{AllocError, Global};
 
 /// The command that the words after the program's name are.
@@ -105,7 +105,8 @@ fn sample_by(alloc: Global, pieces: &str, matches: &ArgMatches<'_>) -> Result<Co
 
 /// The name of the grammar of a sample, where one of this name is shipped.
 fn grammar<'a>(name: Option<&'a str>) -> Option<&'a str>
-    ensures name { option_map (λ s. s.now) result ≡ grammar_by (option_map (λ s. s.now) name.entry) }
+    ensures name { option_map (λ s. s.now) result
+        ≡ grammar_by (option_map (λ s. s.now) name.entry) }
 {
     match name {
         None => Some("flow"),

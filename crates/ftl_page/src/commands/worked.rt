@@ -25,7 +25,8 @@ pub fn words_that_are_commands()
         ≡ Some (command.Schedule) }
     ensures sample { command_of (codes "sample" ∷ codes "8" ∷ [])
         ≡ Some (command.Sample 8 (codes "flow") (solving 1 64)) }
-    ensures sample_of { command_of (codes "sample" ∷ codes "200000" ∷ codes "--workers" ∷ codes "2" ∷ codes "--grammar" ∷ codes "stack" ∷ [])
+    ensures sample_of { command_of (codes "sample" ∷ codes "200000" ∷ codes "--workers" ∷ codes "2"
+        ∷ codes "--grammar" ∷ codes "stack" ∷ [])
         ≡ Some (command.Sample 200000 (codes "stack") (solving 2 64)) }
 {}
 
@@ -36,7 +37,8 @@ pub fn words_that_are_none()
     ensures unknown { command_of (codes "help" ∷ []) ≡ None }
     ensures help { command_of (codes "run" ∷ codes "--help" ∷ []) ≡ None }
     ensures positional { command_of (codes "run" ∷ codes "page" ∷ []) ≡ None }
-    ensures twice { command_of (codes "run" ∷ codes "--workers" ∷ codes "1" ∷ codes "--workers" ∷ codes "1" ∷ []) ≡ None }
+    ensures twice { command_of (codes "run" ∷ codes "--workers" ∷ codes "1" ∷ codes "--workers"
+        ∷ codes "1" ∷ []) ≡ None }
     ensures negative { command_of (codes "run" ∷ codes "--workers" ∷ codes "-4" ∷ []) ≡ None }
     ensures no_value { command_of (codes "run" ∷ codes "--workers" ∷ []) ≡ None }
     ensures no_text { command_of (codes "run" ∷ codes "--workers=" ∷ []) ≡ None }
@@ -44,15 +46,20 @@ pub fn words_that_are_none()
     ensures no_worker { command_of (codes "run" ∷ codes "--workers" ∷ codes "0" ∷ []) ≡ None }
     ensures many_workers { command_of (codes "run" ∷ codes "--workers" ∷ codes "65" ∷ []) ≡ None }
     ensures large_grain { command_of (codes "run" ∷ codes "--grain" ∷ codes "1048577" ∷ []) ≡ None }
-    ensures eight_digits { command_of (codes "run" ∷ codes "--workers" ∷ codes "00000064" ∷ []) ≡ None }
+    ensures eight_digits { command_of (codes "run" ∷ codes "--workers" ∷ codes "00000064" ∷ [])
+        ≡ None }
     ensures plus { command_of (codes "run" ∷ codes "--workers" ∷ codes "+4" ∷ []) ≡ None }
     ensures grammar { command_of (codes "run" ∷ codes "--grammar" ∷ codes "flow" ∷ []) ≡ None }
-    ensures options_of_check { command_of (codes "check" ∷ codes "--workers" ∷ codes "1" ∷ []) ≡ None }
-    ensures options_of_schedule { command_of (codes "schedule" ∷ codes "--grain" ∷ codes "1" ∷ []) ≡ None }
+    ensures options_of_check { command_of (codes "check" ∷ codes "--workers" ∷ codes "1" ∷ [])
+        ≡ None }
+    ensures options_of_schedule { command_of (codes "schedule" ∷ codes "--grain" ∷ codes "1" ∷ [])
+        ≡ None }
     ensures no_size { command_of (codes "sample" ∷ []) ≡ None }
     ensures no_piece { command_of (codes "sample" ∷ codes "0" ∷ []) ≡ None }
     ensures many_pieces { command_of (codes "sample" ∷ codes "200001" ∷ []) ≡ None }
-    ensures size_as_option { command_of (codes "sample" ∷ codes "--grammar" ∷ codes "flow" ∷ []) ≡ None }
-    ensures unknown_grammar { command_of (codes "sample" ∷ codes "8" ∷ codes "--grammar" ∷ codes "page" ∷ []) ≡ None }
+    ensures size_as_option { command_of (codes "sample" ∷ codes "--grammar" ∷ codes "flow" ∷ [])
+        ≡ None }
+    ensures unknown_grammar { command_of (codes "sample" ∷ codes "8" ∷ codes "--grammar"
+        ∷ codes "page" ∷ []) ≡ None }
     ensures two_sizes { command_of (codes "sample" ∷ codes "8" ∷ codes "8" ∷ []) ≡ None }
 {}

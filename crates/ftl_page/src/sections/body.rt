@@ -17,8 +17,8 @@ pub struct Body<'a> {
 
 /// The lines of `text` before its first heading.
 pub fn split_body(text: &str) -> Body<'_>
-    requires { length text.now < 2 ^ 32 }
-    ensures { IsBody text.now result.text.now result.lines result.rest.now }
+    requires bound { length text.now < 2 ^ 32 }
+    ensures body { IsBody text.now result.text.now result.lines result.rest.now }
 {
     let mut rest = text;
     let mut lines = 0;

@@ -8,7 +8,7 @@ ghost use Rattle.ftl_page.specs.sections.Lines.{lines_of, is_stray, is_heading};
 
 #[inline]
 pub fn is_white_space(b: u8) -> bool
-    ensures { result ≡ is_white_space b }
+    ensures space { result ≡ is_white_space b }
 {
     b == b' ' || b == b'\t' || b == b'\r' || b == b'\n'
 }
@@ -40,14 +40,14 @@ pub fn split_line(text: &str) -> (&str, &str)
 }
 
 pub fn is_heading(line: &str) -> bool
-    ensures { result ≡ is_heading line.now }
+    ensures heading { result ≡ is_heading line.now }
 {
     line.as_bytes().first() == Some(&b'%')
 }
 
 /// Whether a line is neither blank nor a comment.
 pub fn is_stray(line: &str) -> bool
-    ensures { result ≡ is_stray line.now }
+    ensures stray { result ≡ is_stray line.now }
 {
     for b in line.as_bytes() {
         if !is_white_space(*b) {

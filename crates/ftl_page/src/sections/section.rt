@@ -34,8 +34,8 @@ pub struct Sections<'a> {
 
 /// The fault of the first stray line, where the first line has this number.
 pub fn no_stray(number: u32, text: &str) -> Result<(), PageFault>
-    requires { number + length text.now < 2 ^ 32 }
-    ensures { result_err result ≡ first_stray number (lines_of text.now) }
+    requires bound { number + length text.now < 2 ^ 32 }
+    ensures stray { result_err result ≡ first_stray number (lines_of text.now) }
 {
     let mut rest = text;
     let mut number = number;
@@ -55,8 +55,8 @@ fn text_of_section<'a>(
     number: u32,
     body: &'a str,
 ) -> Result<SectionText<'a>, PageFault>
-    requires { number + 1 + length body.now < 2 ^ 32 }
-    ensures { TextGives result (content heading.entry) number (lines_of body.now) }
+    requires bound { number + 1 + length body.now < 2 ^ 32 }
+    ensures text { TextGives result (content heading.entry) number (lines_of body.now) }
 {
     match heading {
         Heading::Own(_) => Ok(SectionText::Given(body)),
@@ -75,7 +75,7 @@ fn text_of_section<'a>(
 }
 
 fn section_of(heading: Heading<'_>) -> Section
-    ensures { result ≡ section_of (content heading.entry) }
+    ensures section { result ≡ section_of (content heading.entry) }
 {
     match heading {
         Heading::Own(section) => section,
@@ -86,7 +86,7 @@ fn section_of(heading: Heading<'_>) -> Section
 
 impl<'a> Sections<'a> {
     pub fn new() -> Sections<'a>
-        ensures { (s : Section) → found_in s result ≡ None }
+        ensures none { (s : Section) → found_in s result ≡ None }
     {
         Sections {
             grammar: None,
@@ -97,7 +97,7 @@ impl<'a> Sections<'a> {
     }
 
     fn has(&self, which: Section) -> bool
-        ensures { result ≡ is_some (found_in which self.now) }
+        ensures found { result ≡ is_some (found_in which self.now) }
     {
         match which {
             Section::Grammar => self.grammar.is_some(),
@@ -108,7 +108,7 @@ impl<'a> Sections<'a> {
     }
 
     fn with(&self, which: Section, text: SectionText<'a>) -> Sections<'a>
-        ensures { (s : Section) → found_in s result
+        ensures added { (s : Section) → found_in s result
             ≡ (if is_same s which then Some (given_text text.entry) else found_in s self.now) }
     {
         match which {
@@ -138,8 +138,8 @@ impl<'a> Sections<'a> {
         heading: &'a str,
         body: &'a str,
     ) -> Result<Sections<'a>, PageFault>
-        requires { number + 1 + length body.now < 2 ^ 32 }
-        ensures { AddGives result self.now
+        requires bound { number + 1 + length body.now < 2 ^ 32 }
+        ensures added { AddGives result self.now
             (content_of (words_of heading.now)) number (lines_of body.now) }
     {
         let Some(heading) = heading_of(heading.as_bytes()) else {

@@ -33,7 +33,7 @@ fn sections_of<'a>(
 ) -> Result<Sections<'a>, PageFault>
     requires bound { number + length text.now < 2 ^ 32 }
     requires heading { (length text.now ≡ 0) ⊎ (is_heading text.now ≡ true) }
-    ensures { SectionsGive result sections.now (blocks_of number (lines_of text.now)) }
+    ensures sections { SectionsGive result sections.now (blocks_of number (lines_of text.now)) }
 {
     if text.is_empty() {
         return Ok(*sections);
@@ -51,7 +51,7 @@ fn needed_text(
     needed: bool,
     found: Option<SectionText<'_>>,
 ) -> Result<Option<Text>, PageFault>
-    ensures { Gives OutOfMemory (λ text. text) result
+    ensures exact { Gives OutOfMemory (λ text. text) result
         (needed_text which needed (option_map given_text found.entry)) }
 {
     match found {
@@ -67,7 +67,7 @@ fn needed_schedule(
     needed: bool,
     found: Option<SectionText<'_>>,
 ) -> Result<Option<Text>, PageFault>
-    ensures { Gives OutOfMemory (λ text. text) result
+    ensures exact { Gives OutOfMemory (λ text. text) result
         (needed_schedule needed (option_map given_text found.entry)) }
 {
     match found {
@@ -86,7 +86,7 @@ fn page_of_sections(
     sections: &Sections<'_>,
     need: Need,
 ) -> Result<Page, PageFault>
-    ensures { Gives OutOfMemory (λ page. page) result (page_with width need
+    ensures exact { Gives OutOfMemory (λ page. page) result (page_with width need
         (found_in Grammar sections.now) (found_in Schedule sections.now)
         (found_in Document sections.now) (found_in Edits sections.now)) }
 {
@@ -126,7 +126,7 @@ pub fn split_page(alloc: Global, bytes: &[u8], need: Need) -> Result<Page, PageF
 }
 
 fn width_of_line(line: &str) -> Option<Width>
-    ensures { result ≡ width_of_line line.now }
+    ensures width { result ≡ width_of_line line.now }
 {
     if is_heading(line) {
         width_of_opening(line.as_bytes())
@@ -136,8 +136,9 @@ fn width_of_line(line: &str) -> Option<Width>
 }
 
 fn page_of_text(alloc: Global, text: &str, need: Need) -> Result<Page, PageFault>
-    requires { length text.now ≤ 67108864 }
-    ensures { Gives OutOfMemory (λ page. page) result (page_of_text need (lines_of text.now)) }
+    requires limit { length text.now ≤ 67108864 }
+    ensures exact { Gives OutOfMemory (λ page. page) result
+        (page_of_text need (lines_of text.now)) }
 {
     let (first, rest) = split_line(text);
     let Some(width) = width_of_line(first) else {
@@ -147,8 +148,8 @@ fn page_of_text(alloc: Global, text: &str, need: Need) -> Result<Page, PageFault
 }
 
 fn page_of_lines(alloc: Global, width: Width, text: &str, need: Need) -> Result<Page, PageFault>
-    requires { length text.now ≤ 67108864 }
-    ensures { Gives OutOfMemory (λ page. page) result
+    requires limit { length text.now ≤ 67108864 }
+    ensures exact { Gives OutOfMemory (λ page. page) result
         (page_of_lines width need (lines_of text.now)) }
 {
     let body = split_body(text);

@@ -21,7 +21,7 @@ impl Model for Text {
 
 impl Text {
     pub(crate) fn new(alloc: Global, text: &str) -> Result<Text, AllocError>
-        ensures { IfOk result (λ t. t ≡ text.now) }
+        ensures text { IfOk result (λ t. t ≡ text.now) }
     {
         Ok(Text {
             text: String::from_str(alloc, text)?,

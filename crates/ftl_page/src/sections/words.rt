@@ -60,13 +60,13 @@ fn next_word(line: &[u8]) -> (&[u8], &[u8])
 
 // Whether no word is left.
 fn is_end(line: &[u8]) -> bool
-    ensures { IsTrue result ↔ (words_of line.now ≡ []) }
+    ensures end { IsTrue result ↔ (words_of line.now ≡ []) }
 {
     next_word(line).0.is_empty()
 }
 
 fn grammar_heading(line: &[u8]) -> Option<Heading<'_>>
-    ensures { option_map content result ≡ grammar_content (words_of line.now) }
+    ensures heading { option_map content result ≡ grammar_content (words_of line.now) }
 {
     let (name, rest) = next_word(line);
     if name.is_empty() {
@@ -79,7 +79,7 @@ fn grammar_heading(line: &[u8]) -> Option<Heading<'_>>
 }
 
 fn schedule_heading(line: &[u8]) -> Option<Heading<'_>>
-    ensures { option_map content result ≡ schedule_content (words_of line.now) }
+    ensures heading { option_map content result ≡ schedule_content (words_of line.now) }
 {
     let (word, rest) = next_word(line);
     if word.is_empty() {
@@ -93,7 +93,7 @@ fn schedule_heading(line: &[u8]) -> Option<Heading<'_>>
 
 // The heading of a section that takes no more words.
 fn plain_heading(section: Section, line: &[u8]) -> Option<Heading<'_>>
-    ensures { option_map content result ≡ plain_content section (words_of line.now) }
+    ensures heading { option_map content result ≡ plain_content section (words_of line.now) }
 {
     if is_end(line) {
         Some(Heading::Own(section))
@@ -104,7 +104,7 @@ fn plain_heading(section: Section, line: &[u8]) -> Option<Heading<'_>>
 
 /// What a heading stands for, if it is known.
 pub fn heading_of(line: &[u8]) -> Option<Heading<'_>>
-    ensures { option_map content result ≡ content_of (words_of line.now) }
+    ensures heading { option_map content result ≡ content_of (words_of line.now) }
 {
     let (first, rest) = next_word(line);
     if first.is_empty() {
@@ -124,7 +124,7 @@ pub fn heading_of(line: &[u8]) -> Option<Heading<'_>>
 
 // The width that a version names, which stands alone.
 fn width_of_version(line: &[u8]) -> Option<Width>
-    ensures { result ≡ width_of_version (words_of line.now) }
+    ensures width { result ≡ width_of_version (words_of line.now) }
 {
     let (word, rest) = next_word(line);
     if word.is_empty() || !is_end(rest) {
@@ -140,7 +140,7 @@ fn width_of_version(line: &[u8]) -> Option<Width>
 
 /// The width of a page whose line 1 has these words, if they are `%page` and a version.
 pub fn width_of_opening(line: &[u8]) -> Option<Width>
-    ensures { result ≡ width_of_opening (words_of line.now) }
+    ensures width { result ≡ width_of_opening (words_of line.now) }
 {
     let (first, rest) = next_word(line);
     if !first.is_empty() && first == b"%page".as_slice() {

@@ -11,9 +11,9 @@ use Rattle.ftl_order.specs.orders.GrammarLaws.{TablesAreInRange}
 use Rattle.ftl_order.specs.orders.Lawful.{IsLawful}
 use Rattle.ftl_order.specs.orders.OneTable.{ReadsEndByRank}
 use Rattle.ftl_order.specs.orders.Ordered.{IsOrdered}
-use Rattle.ftl_order.specs.orders.Schedule.{Schedule, spot_of}
+use Rattle.ftl_order.specs.orders.Schedule.{Schedule, placing_of}
 use Rattle.ftl_order.proofs.orders.Instances.{instance_here}
-use Rattle.ftl_order.proofs.orders.LegalOrders.{spot_of-one_kind}
+use Rattle.ftl_order.proofs.orders.LegalOrders.{placing_of-one_kind}
 use Rattle.ftl_order.proofs.orders.OrderRank.{rank_falls, read_rank}
 use Rattle.ftl_items.specs.solution.Solution.{IsOnlySolution, solution}
 
@@ -34,9 +34,9 @@ module _ (g : AttributeGrammar) (s : Schedule) (t : Forest) (law : IsLawful g) (
   in_range tables ends only c below =
       let i = get_or (instances g t) c no_instance in
       let here = instance_here g t law fits c no_instance below in
-      let rank = read_rank g (spot_of s) t in
+      let rank = read_rank g (placing_of s) t in
       let end = ends g t law fits rank
-      (rank_falls g (spot_of s) t (spot_of-one_kind s) law ordered.pairs fits) in
+      (rank_falls g (placing_of s) t (placing_of-one_kind s) law ordered.pairs fits) in
       let range : IsValueIn g.greatest (value_in g t (solution g t) i) =
       tables t fits (λ j. suc (rank j)) end (value_in g t (solution g t)) only.solves.solves i here.0 in
       in_wide g.greatest (get_or (solution g t) c overflow) (greatest_is g law)

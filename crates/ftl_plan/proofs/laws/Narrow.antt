@@ -1,10 +1,11 @@
 -- A plan without a fault has no step that reads too much.
-use Rattle.std.proofs.Common.{◌≡◌, ◌≢◌, ℕ, zero, suc, ◌+◌, ◌<◌, ◌≤◌, ◌&&◌, not, Bool, true, false, cond, ltb, ltb-true, ltb-false, refl, sym, ◌∙◌, ap, ap₂, subst, ⊎_elim, eq-eqb, arith, List, [], ◌∷◌, length, Contains, Option, Some, None}
+use Rattle.std.proofs.Common.{◌≡◌, ◌≢◌, ℕ, ◌<◌, ◌≤◌, ◌&&◌, not, Bool, true, false, cond, ltb, ltb-true, ltb-false, refl, sym, ◌∙◌, ap, ap₂, subst, ⊎_elim, eq-eqb, arith, List, [], ◌∷◌, length, Contains, Option, Some, None}
 use Rattle.std.specs.List.{find, range_with_len}
 use Rattle.std.specs.Option.{option_map}
 use Rattle.std.proofs.lemmas.List.{get_or_past}
 use Rattle.std.proofs.lemmas.Option.{none-some}
-use Rattle.ftl_model.proofs.lists.Elements.{filter_has, in_cases, nothing_in}
+use Rattle.ftl_model.proofs.lists.FirstAlong.{neither, none_along}
+use Rattle.ftl_model.proofs.lists.Elements.{filter_has, in_cases, nothing_in, range_has}
 use Rattle.ftl_items.specs.stage_items.Items.{items}
 use Rattle.ftl_items.specs.stage_items.Limits.{first_wide_step, is_of_stage, read_count, steps_of_stage}
 use Rattle.ftl_items.specs.stage_items.StepLaws.{EachStepInOneItem}
@@ -14,29 +15,10 @@ use Rattle.ftl_model.specs.layout.Table.{instances}
 use Rattle.ftl_model.specs.layout.Tree.{Forest}
 use Rattle.ftl_order.specs.orders.LegalOrder.{IsStep}
 use Rattle.ftl_order.specs.orders.Reads.{reads_of}
-use Rattle.ftl_order.specs.orders.Schedule.{Pass, Schedule, spot_of}
+use Rattle.ftl_order.specs.orders.Schedule.{Pass, Schedule, placing_of}
 use Rattle.ftl_order.proofs.orders.Instances.{is_listed_instance}
-use Rattle.ftl_limits.specs.faults.PlanFaults.{first_along, first_fault, first_of_stages, or_else, step_too_wide, too_many_reads}
+use Rattle.ftl_limits.specs.faults.PlanFaults.{first_fault, first_of_stages, step_too_wide, too_many_reads}
 use Rattle.ftl_limits.specs.declared.faults.fault.PlanFault.{PlanFault}
-
-neither : (a b : Option PlanFault) → or_else a b ≡ None → (a ≡ None) × (b ≡ None)
-neither None b e = (refl, e)
-neither (Some x) b e = absurd (none-some x (sym e))
-
-none_along : (f : ℕ → Option PlanFault) (from n : ℕ) → first_along f (range_with_len from n) ≡ None
-    → (k : ℕ) → from ≤ k → k < from + n → f k ≡ None
-none_along f from zero e k low high = absurd (let z : ⊥ = omega (arith, low, high) in z)
-none_along f from (suc n) e k low high =
-    let both = neither (f from) (first_along f (range_with_len (from + 1) n)) e in
-    elim (ltb from k) as (λ b. (ltb from k ≡ b) → f k ≡ None) [
-      | true ↦ λ h.
-          let later = ltb-true from k h in
-          none_along f (from + 1) n both.1 k (omega (arith, later)) (omega (arith, high))
-      | false ↦ λ h.
-          let here = ltb-false from k h in
-          ap f (let z : k ≡ from = omega (arith, here, low) in z) ∙ both.0
-    ]
-    refl
 
 none_mapped : {X : Type 0} (f : X → PlanFault) (o : Option X) → option_map f o ≡ None → o ≡ None
 none_mapped f None e = refl
@@ -63,18 +45,19 @@ module _ (g : AttributeGrammar) (s : Schedule) (t : Forest) (none : first_fault 
   not_wide k known =
       let both = neither (first_of_stages s (too_many_reads g s t)) (first_of_stages s (step_too_wide g s t)) none in
       none_mapped _ (first_wide_step g t s k 1048576)
-      (none_along (step_too_wide g s t) 0 (length s) both.1 k (omega arith) (omega (arith, known)))
+      (none_along (step_too_wide g s t) (range_with_len 0 (length s)) both.later k
+      (range_has 0 (length s) k (omega arith) (omega (arith, known))))
 
-  in_stage : (i : Instance) → IsStep g t i → is_of_stage g s (spot_of s i.attribute).stage i ≡ true
+  in_stage : (i : Instance) → IsStep g t i → is_of_stage g s (placing_of s i.attribute).stage i ≡ true
   in_stage i step =
       ap₂ (λ a b. a && b) (ap not (computed (g.sort i.attribute) step.1))
-      (eq-eqb (spot_of s i.attribute).stage (spot_of s i.attribute).stage refl)
+      (eq-eqb (placing_of s i.attribute).stage (placing_of s i.attribute).stage refl)
 
   -- a step of a stage that there is
-  narrow_in : (i : Instance) → IsStep g t i → (spot_of s i.attribute).stage < length s
+  narrow_in : (i : Instance) → IsStep g t i → (placing_of s i.attribute).stage < length s
       → length (reads_of g t i) ≤ 1048576
   narrow_in i step known =
-      let k = (spot_of s i.attribute).stage in
+      let k = (placing_of s i.attribute).stage in
       let there : Contains (steps_of_stage g t s k) i =
       filter_has (is_of_stage g s k) (instances g t) i (is_listed_instance g t i step.0) (in_stage i step) in
       ltb-false 1048576 (read_count g t i)
@@ -84,7 +67,7 @@ module _ (g : AttributeGrammar) (s : Schedule) (t : Forest) (none : first_fault 
   pub narrow : ((stage : ℕ) → EachStepInOneItem g s t 1 stage) → (i : Instance) → IsStep g t i
       → length (reads_of g t i) ≤ 1048576
   narrow each i step =
-      let k = (spot_of s i.attribute).stage in
+      let k = (placing_of s i.attribute).stage in
       elim (ltb k (length s)) as (λ b. (ltb k (length s) ≡ b) → length (reads_of g t i) ≤ 1048576) [
         | true ↦ λ e. narrow_in i step (ltb-true k (length s) e)
         | false ↦ λ e.

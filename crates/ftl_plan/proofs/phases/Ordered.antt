@@ -10,7 +10,7 @@ use Rattle.ftl_items.specs.stage_items.Cut.{begins, is_small}
 use Rattle.ftl_items.specs.stage_items.Items.{hands_on}
 use Rattle.ftl_items.proofs.stage_items.HandingLaws.{kid_of}
 use Rattle.ftl_items.proofs.stage_items.Homes.{open_all}
-use Rattle.ftl_cells.specs.work_phases.Phases.{ComesBefore, IsInRange}
+use Rattle.ftl_cells.specs.work_phases.Phases.{ComesBefore, IsCellOfRange}
 use Rattle.ftl_cells.specs.declared.work_phases.phase.Phase.{Phase}
 use Rattle.ftl_cells.specs.declared.work_phases.phase.Phase.TheVariants.{First, Range, Last}
 use Rattle.ftl_plan.specs.phases.StagePhases.{cells_end, item_phase, range_phase}
@@ -53,7 +53,7 @@ module _ (g : AttributeGrammar) (t : Forest) (size : ℕ) (p : Path) where
       ]) refl e
 
   pub in_range : (b cell : ℕ) → TakesRange g t size b p → first_instance g t p ≤ cell → cell < cells_end g t p
-      → IsInRange size b cell
+      → IsCellOfRange size b cell
   in_range b cell takes from to =
       let low =
       subst (λ k. k * size ≤ first_instance g t p) takes.is (div-mul-le_self (first_instance g t p) size) in

@@ -29,7 +29,7 @@ use Rattle.ftl_items.proofs.stage_items.StepLaws.{ItemHere, item_here, step_here
 use Rattle.ftl_items.proofs.stage_items.Subtrees.{in_subtree}
 use Rattle.ftl_items.specs.solution.Solution.{solution}
 use Rattle.ftl_plan.specs.laws.StageMeanings.{CanBePlanned, stage_meaning}
-use Rattle.ftl_cells.specs.work_phases.Phases.{CanTake, ComesBefore, IsInRange, phase_at}
+use Rattle.ftl_cells.specs.work_phases.Phases.{CanTake, ComesBefore, IsCellOfRange, phase_at}
 use Rattle.ftl_cells.specs.declared.work_phases.phase.Phase.{Phase}
 use Rattle.ftl_cells.specs.declared.work_phases.phase.Phase.TheVariants.{Range, Last}
 use Rattle.ftl_cells.specs.declared.work_phases.phase.Phases.{Phases}
@@ -184,17 +184,17 @@ module _ (g : AttributeGrammar) (s : Schedule) (t : Forest) (can : CanBePlanned 
 
     -- the cell of an instance at that node or below it is in the range
     cell_in_range : (i b : ℕ) → phase_at phases i ≡ Range b → (q : Instance) → AtOrAbove (x_at i).first q.node
-        → IsInstance g t q → IsInRange phases.size b (instance_number g t q)
+        → IsInstance g t q → IsCellOfRange phases.size b (instance_number g t q)
     cell_in_range i b e q above valid =
         let cells = cells_within g t can.is_tree (x_at i).first q above valid in
         in_range g t phases.size (x_at i).first b (instance_number g t q) (is_ranged i b e).takes cells.0 cells.1
 
-    within : (i j b : ℕ) → IsStepOfItem m i j → phase_at phases i ≡ Range b → IsInRange phases.size b (target_of m i j)
+    within : (i j b : ℕ) → IsStepOfItem m i j → phase_at phases i ≡ Range b → IsCellOfRange phases.size b (target_of m i j)
     within i j b is e =
         let has = has_step shape i j is in
         let q = step_at g s t grain stage i j in
         let step = step_below i j b has e in
-        subst (IsInRange phases.size b) (sym (target_of-listed shape i j has))
+        subst (IsCellOfRange phases.size b) (sym (target_of-listed shape i j has))
         (cell_in_range i b e q
         (at_or_above (x_at i).first (turn_of g q).visit q.node step.above (runs_above (g.sort q.attribute) q.node))
         step.valid)
@@ -202,7 +202,7 @@ module _ (g : AttributeGrammar) (s : Schedule) (t : Forest) (can : CanBePlanned 
     -- ---- and what they read
 
     reads : (i j r b : ℕ) → IsStepOfItem m i j → r < read_total m i j → phase_at phases i ≡ Range b
-        → IsInRange phases.size b (read_of m i j r)
+        → IsCellOfRange phases.size b (read_of m i j r)
     reads i j r b is below e =
         let has = has_step shape i j is in
         let q = step_at g s t grain stage i j in
@@ -211,7 +211,7 @@ module _ (g : AttributeGrammar) (s : Schedule) (t : Forest) (can : CanBePlanned 
         let o = get_or (reads_at g s t grain stage i j) r no_instance in
         let read = Contains-get_or (reads_at g s t grain stage i j) r no_instance known in
         let step = step_below i j b has e in
-        subst (IsInRange phases.size b) (sym (read_of-listed shape i j r has known))
+        subst (IsCellOfRange phases.size b) (sym (read_of-listed shape i j r has known))
         (cell_in_range i b e o
         (at_or_above (x_at i).first (turn_of g q).visit o.node step.above
         (read_below g t (g.sort q.attribute) q.node q.attribute o read))

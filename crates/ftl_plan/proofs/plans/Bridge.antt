@@ -5,7 +5,7 @@ use Rattle.std.proofs.lemmas.List.Elements.{Contains-get_or}
 use Rattle.std.proofs.lemmas.List.FromFn.{get_or-map-range_with_len, length-map-range_with_len}
 use Rattle.std.proofs.lemmas.Simd.{map-map}
 use mathlib.Core.Path.{fun_ext}
-use Rattle.ftl_cells.specs.shared.Shape.{HasStep, listed, listing}
+use Rattle.ftl_cells.specs.shared.Shape.{HasStep, WorkShape, listed, listing}
 use Rattle.ftl_cells.specs.shared.Work.{Meaning, IsStepOfItem, cell_total, item_total, kind_at, next_at, next_total, pred_total, read_total, reads_of_step, solution_at, step_total, target_of as cell_of}
 use Rattle.ftl_cells.proofs.shared.Shapes.{cell_total-listed, has_step, item_below, item_total-listed, kind_at-listed, next_at-listed, next_total-listed, pred_total-listed, read_total-listed, reads_of_step-listed, solution_at-listed, step_total-listed, target_of-listed}
 use Rattle.ftl_deps.specs.reads.Meant.{meant}
@@ -14,7 +14,7 @@ use Rattle.ftl_cursors.specs.item_cursor.ItemSteps.{AreStepsOf, IsCursorOf, no_s
 use Rattle.ftl_cursors.specs.declared.item_cursor.cursor.ItemCursor.{ItemCursor}
 use Rattle.ftl_cursors.specs.items.StageItems.{items_in, passes_in}
 use Rattle.ftl_items.specs.stage_items.Items.{items, nexts, no_item, passes_of, predecessors, steps_of_item}
-use Rattle.ftl_items.specs.stage_items.StageWork.{kind_of, no_instance, reads_at}
+use Rattle.ftl_items.specs.stage_items.StageWork.{kind_of, no_instance, reads_at, stage_work}
 use Rattle.ftl_model.specs.layout.AttributeGrammar.{AttributeGrammar}
 use Rattle.ftl_model.specs.layout.Table.{SolvesList, instance_count, instance_number, instances, value_in}
 use Rattle.ftl_model.specs.layout.Tree.{Forest}
@@ -24,13 +24,13 @@ use Rattle.ftl_order.specs.orders.Schedule.{Pass, Schedule}
 use Rattle.ftl_items.specs.solution.Solution.{solution}
 use Rattle.ftl_step_value.specs.cells.ReadCells.{filled_cell, read_cells}
 use Rattle.ftl_step_value.proofs.cells.StepRules.{target_there}
-use Rattle.ftl_step_value.specs.neighbours.NearParts.{AreNearParts}
+use Rattle.ftl_step_value.specs.neighbours.NeighbourParts.{AreNeighbourParts}
 use Rattle.ftl_step_value.specs.value.RuleCopies.{AreCopies}
 use Rattle.ftl_step_value.specs.value.StepValue.{GivesItsRead, value_of_step}
 use Rattle.ftl_order.specs.steps.Steps.{IsStepOf, target_of}
 use Rattle.ftl_order.specs.declared.steps.step.Step.{Step}
 use Rattle.ftl_tree.specs.trees.CheckedTree.{CheckedTree}
-use Rattle.ftl_plan.specs.plans.StageParts.{IsStage, IsStepAt, StageView, grain_of, grammar_of, meaning_at, meaning_of, schedule_of, shape_of, steps_of, tree_of}
+use Rattle.ftl_plan.specs.plans.StageParts.{IsStage, IsStepAt, StageView, grain_of, grammar_of, meaning_at, meaning_of, schedule_of, steps_of, tree_of}
 use Rattle.ftl_plan.specs.declared.plans.parts.StageParts.{StageParts}
 
 -- a function of the entries of a list
@@ -44,6 +44,12 @@ listed_map f xs d e =
     let within : i < length xs = omega (arith, below, long) in
     get_or-map-range_with_len (λ k. f (get_or xs k d)) 0 (length xs) i i e within (omega arith)
     ∙ sym (get_or-map f xs i d e within))
+
+-- the work of a stage, by functions
+abbrev pub shape_of : StageParts → WorkShape
+shape_of w =
+    stage_work (grammar_of w) (schedule_of w) (tree_of w) (grain_of w) w.stage (solution (grammar_of w) (tree_of w))
+    1048576 w.programs.now.max_stack
 
 -- the limits are those that the stage is known by
 pub most_reads : (v : StageView) → (meaning_at v).max_reads ≡ 1048576
@@ -86,8 +92,8 @@ module _ (w : StageParts) (fit : IsStage w) where
     pub copies_there : AreCopies u.checked w.copies.now
     copies_there = subst (λ (v : CheckedTree). AreCopies v.checked w.copies.now) (sym same) fit.copies
 
-    pub near_there : AreNearParts u.checked w.near.now
-    near_there = subst (λ (v : CheckedTree). AreNearParts v.checked w.near.now) (sym same) fit.near
+    pub neighbours_there : AreNeighbourParts u.checked w.neighbours.now
+    neighbours_there = subst (λ (v : CheckedTree). AreNeighbourParts v.checked w.neighbours.now) (sym same) fit.neighbours
 
     pub step_there : (x : Step) → IsStepOf g t x → IsStepOf (meant u.checked) u.tree x
     step_there x is = subst (λ (v : CheckedTree). IsStepOf (meant v.checked) v.tree x) (sym same) is

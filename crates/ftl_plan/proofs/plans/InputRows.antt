@@ -3,7 +3,7 @@ use Rattle.std.proofs.Common.{◌≡◌, ℕ, ◌+◌, ◌<◌, Bool, true, fals
 use Rattle.std.proofs.lemmas.Bool.{cases_eq}
 use Rattle.std.proofs.lemmas.Grind.{same_number_lists}
 use Rattle.std.proofs.lemmas.List.{get_or-map, get_or-set_other, get_or-set_same, length-map, length-replicate, length-set, replicate-append-replicate, take-append-le, take_all, take_more}
-use Rattle.std.proofs.lemmas.List.Elements.{Contains-append_cases}
+use Rattle.std.proofs.lemmas.List.Elements.{Contains-append_cases, Contains-get_or}
 use Rattle.ftl_model.proofs.lists.Elements.{in_cases, in_filter, nothing_in}
 use Rattle.ftl_items.specs.stage_items.WordLaws.{first_word, first_words}
 use Rattle.ftl_model.specs.layout.AttributeGrammar.{AttributeGrammar, Sort, attributes_of, class_inputs, inherited, input, is_input, local, synthesized}
@@ -15,7 +15,7 @@ use Rattle.ftl_model.specs.layout.TreeOf.{IsTreeOf}
 use Rattle.ftl_model.proofs.layout.Standing.{node_at-number_of, number_of-lt}
 use Rattle.ftl_order.specs.orders.Lawful.{IsLawful, OfClass}
 use Rattle.ftl_order.proofs.orders.Instances.{Numbered, instance_at_number, length-instances, number_within, numbered}
-use Rattle.ftl_limits.proofs.reads.Entries.{class_in_range, entry, there, whole}
+use Rattle.ftl_limits.proofs.reads.Entries.{class_entry, there, whole}
 use Rattle.ftl_plan.specs.plans.InputWords.{AreInputsSet, AreSet, HoldsItsFirst, inputs_by_class}
 use Rattle.ftl_plan.proofs.plans.Inputs.{input_listed}
 
@@ -107,9 +107,20 @@ module _ (g : AttributeGrammar) (law : IsLawful g) (t : Forest) (fits : IsTreeOf
   pub input_row : (rows : List (List ℕ)) (node class : ℕ) → rows ≡ inputs_by_class g → node < size t
       → class ≡ class_at t (node_at t node) → InputRow rows node class
   input_row rows node class are known is =
-      let range = class_in_range g law t fits node known in
-      let at = entry (class_inputs g) g.class_count rows class are (omega (arith, range, is)) in
+      let at = class_entry g law t fits (class_inputs g) node known is are in
       record { within = at.within; is = λ d. at.is d ∙ ap (class_inputs g) is }
+
+  -- the same, where the row of the node's class was found
+  module _ (rows : List (List ℕ)) (node class : ℕ) {row : List ℕ} (entry_there : List ℕ) (are : rows ≡ inputs_by_class g)
+      (known : node < size t) (is : class ≡ class_at t (node_at t node)) (found : row ≡ get_or rows class entry_there)
+    where
+      pub row_inputs : row ≡ class_inputs g (class_at t (node_at t node))
+      row_inputs = found ∙ (input_row rows node class are known is).is entry_there
+
+      pub input_at : (place : ℕ) → place < length row
+          → Contains (class_inputs g (class_at t (node_at t node))) (get_or row place 0)
+      input_at place inside =
+          subst (λ (xs : List ℕ). Contains xs (get_or row place 0)) row_inputs (Contains-get_or row place 0 inside)
 
   -- an input is an attribute of the class
   pub of_class : (class a : ℕ) → Contains (class_inputs g class) a → OfClass g class a

@@ -42,7 +42,7 @@ use Rattle.ftl_cursors.specs.contracts.item_cursor.item.ItemTables as ItemTables
 use Rattle.ftl_schedule.proofs.check.accepted.Accepted.TheSendSync as accepted
 use Rattle.ftl_visit.proofs.compiled.programs.Programs.TheSendSync as programs
 use Rattle.ftl_limits.proofs.reads.tables.ReadTables.TheSendSync as reads
-use Rattle.ftl_step_value.proofs.neighbours.parts.NearParts.TheSendSync as near
+use Rattle.ftl_step_value.proofs.neighbours.parts.NeighbourParts.TheSendSync as neighbours
 use Rattle.ftl_step_value.proofs.value.copies.RuleCopy.TheSendSync as copy
 use Rattle.ftl_plan.specs.contracts.plans.parts.StageParts as StageParts
 use Rattle.ftl_plan.specs.contracts.plans.work.StageWork as StageWork
@@ -126,7 +126,7 @@ parts_sync κ =
       programs.the_sync,
       reads.the_field_sync,
       copy.the_sync,
-      near.the_sync,
+      neighbours.the_sync,
       sendable,
     ) depth 30
 

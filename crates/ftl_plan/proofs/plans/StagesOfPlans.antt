@@ -16,7 +16,7 @@ use Rattle.ftl_order.specs.orders.Schedule as order
 use Rattle.ftl_plan.specs.plans.StageParts.{IsStage, StageView}
 use Rattle.ftl_plan.specs.declared.plans.parts.StageParts.{StageParts}
 use Rattle.ftl_plan.specs.laws.StageMeanings.{CanBePlanned}
-use Rattle.ftl_step_value.specs.neighbours.NearParts.{AreNearParts}
+use Rattle.ftl_step_value.specs.neighbours.NeighbourParts.{AreNeighbourParts}
 use Rattle.ftl_step_value.specs.value.RuleCopies.{AreCopies}
 use Rattle.ftl_step_value.specs.value.StepValue.{IsCodeFor}
 use Rattle.ftl_cursors.specs.stages.StageRows.{AreStageRows, pass_places, pass_visits}
@@ -111,9 +111,9 @@ module _ (p : Inside) (is : IsPlan p) where
   -- parts that are made of the fields are a stage
   pub stage_fits : (w : StageParts) → AreTablesOf (plan_inside p) w.stage w.item_tables
       → w.accepted.now ≡ p.accepted.now → w.programs.now ≡ p.programs.now → w.read_tables.now ≡ p.tables
-      → w.copies.now ≡ p.copies.items → w.near.now ≡ p.near.items
+      → w.copies.now ≡ p.copies.items → w.neighbours.now ≡ p.neighbours.items
       → CanBePlanned (meant p.checked.now) (stages_of p.accepted.now) p.tree.now.tree → IsStage w
-  stage_fits w at accepted programs tables copies near can =
+  stage_fits w at accepted programs tables copies neighbours can =
       let back : p.checked.now ≡ w.item_tables.items.rows.now.tree.now.checked = sym at.checked in
       record {
         sound = subst (λ (c : CheckedGrammar). IsSound (meant c)) back is.sound;
@@ -138,9 +138,9 @@ module _ (p : Inside) (is : IsPlan p) where
         copies =
             subst (λ (c : CheckedGrammar). AreCopies c w.copies.now) back
             (subst (AreCopies p.checked.now) (sym copies) is.copies);
-        near =
-            subst (λ (c : CheckedGrammar). AreNearParts c w.near.now) back
-            (subst (AreNearParts p.checked.now) (sym near) is.near);
+        neighbours =
+            subst (λ (c : CheckedGrammar). AreNeighbourParts c w.neighbours.now) back
+            (subst (AreNeighbourParts p.checked.now) (sym neighbours) is.neighbours);
       }
 
   -- and are known by what the plan means

@@ -3,7 +3,7 @@ use Rattle.std.specs.Prelude.{◌≡◌, None, map}
 use Rattle.ftl_deps.specs.reads.Meant.{meant}
 use Rattle.ftl_limits.specs.reads.ReadTables.{AreTables, IsSound}
 use Rattle.ftl_cursors.specs.items.StageItems.{tree_in}
-use Rattle.ftl_step_value.specs.neighbours.NearParts.{AreNearParts}
+use Rattle.ftl_step_value.specs.neighbours.NeighbourParts.{AreNeighbourParts}
 use Rattle.ftl_schedule.specs.stages.Stages.{stages_of}
 use Rattle.ftl_step_value.specs.value.RuleCopies.{AreCopies}
 use Rattle.ftl_limits.specs.faults.PlanFaults.{first_fault}
@@ -31,6 +31,6 @@ pub record IsPlan (p : Inside) : Type 0 where
   pub items : p.items.tree.now ≡ p.tree.now
   pub targets : p.targets.items ≡ map target_of (meant p.checked.now).rules
   pub copies : AreCopies p.checked.now p.copies.items
-  pub near : AreNearParts p.checked.now p.near.items
+  pub neighbours : AreNeighbourParts p.checked.now p.neighbours.items
   pub rows : HaveRows (meant p.checked.now) (tree_in p.items) p.items.grain p.accepted.now.stages p.stages.items
   pub no_fault : first_fault (meant p.checked.now) (stages_of p.accepted.now) p.tree.now.tree ≡ None

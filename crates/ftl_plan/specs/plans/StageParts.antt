@@ -1,6 +1,5 @@
 -- What the work of a stage is made of, and what it means.
 use Rattle.std.specs.Prelude.{◌≡◌, ℕ, List}
-use Rattle.ftl_cells.specs.shared.Shape.{WorkShape}
 use Rattle.ftl_cells.specs.shared.Work.{Meaning}
 use Rattle.ftl_deps.specs.reads.Meant.{meant}
 use Rattle.ftl_meaning.specs.faults.Checked.{CheckedGrammar}
@@ -8,13 +7,12 @@ use Rattle.ftl_limits.specs.reads.ReadTables.{AreTables, IsSound}
 use Rattle.ftl_cursors.specs.item_cursor.ItemSteps.{AreItemTables, forest_in, grammar_in}
 use Rattle.ftl_cursors.specs.items.StageItems.{passes_in}
 use Rattle.ftl_items.specs.stage_items.Items.{passes_of}
-use Rattle.ftl_items.specs.stage_items.StageWork.{stage_work, step_at, steps_in}
+use Rattle.ftl_items.specs.stage_items.StageWork.{step_at, steps_in}
 use Rattle.ftl_model.specs.layout.AttributeGrammar.{AttributeGrammar}
 use Rattle.ftl_model.specs.layout.Solves.{Instance}
 use Rattle.ftl_model.specs.layout.Tree.{Forest}
-use Rattle.ftl_step_value.specs.neighbours.NearParts.{AreNearParts}
+use Rattle.ftl_step_value.specs.neighbours.NeighbourParts.{AreNeighbourParts}
 use Rattle.ftl_order.specs.orders.Schedule as order
-use Rattle.ftl_items.specs.solution.Solution.{solution}
 use Rattle.ftl_plan.specs.laws.StageMeanings.{CanBePlanned, stage_meaning}
 use Rattle.ftl_schedule.specs.stages.Stages.{stages_of}
 use Rattle.ftl_schedule.specs.declared.stages.types.Schedule.{Schedule}
@@ -40,8 +38,8 @@ schedule_of w = stages_of w.accepted.now
 abbrev pub grain_of : StageParts → ℕ
 grain_of w = w.item_tables.items.rows.now.grain
 
--- all is of one plan: the tables are the grammar's, code, copies and near reads those of its rules, and the items those
--- of this stage
+-- all is of one plan: the tables are the grammar's, code, copies and reads of neighbours those of its rules, and the
+-- items those of this stage
 pub record IsStage (w : StageParts) : Type 0 where
   pub sound : IsSound (grammar_of w)
   pub can : CanBePlanned (grammar_of w) (schedule_of w) (tree_of w)
@@ -50,7 +48,7 @@ pub record IsStage (w : StageParts) : Type 0 where
   pub passes : passes_of (schedule_of w) w.stage ≡ passes_in w.item_tables.items
   pub items : AreItemTables w.item_tables
   pub copies : AreCopies w.item_tables.items.rows.now.tree.now.checked w.copies.now
-  pub near : AreNearParts w.item_tables.items.rows.now.tree.now.checked w.near.now
+  pub neighbours : AreNeighbourParts w.item_tables.items.rows.now.tree.now.checked w.neighbours.now
 
 -- ---- what it means
 
@@ -82,12 +80,6 @@ view_of w =
 -- what they mean
 abbrev pub meaning_of : StageParts → Meaning
 meaning_of w = meaning_at (view_of w)
-
--- the same by functions
-abbrev pub shape_of : StageParts → WorkShape
-shape_of w =
-    stage_work (grammar_of w) (schedule_of w) (tree_of w) (grain_of w) w.stage (solution (grammar_of w) (tree_of w))
-    1048576 w.programs.now.max_stack
 
 -- the instances that an item computes, in order
 abbrev pub steps_of : StageParts → (item : ℕ) → List Instance

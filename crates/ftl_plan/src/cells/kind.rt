@@ -7,10 +7,10 @@ ghost use Rattle.ftl_items.specs.stage_items.StageWork.{kind_by_stage, kind_of, 
 ghost use Rattle.ftl_schedule.specs.stages.Stages.{stages_of};
 
 use crate::cells::node::attr_of_cell;
-use ftl_cells::shared::CellKind;
-use ftl_limits::reads::ReadTables;
-use ftl_schedule::check::{Accepted, is_input};
-use ftl_tree::trees::Tree;
+use ftl_cells::CellKind;
+use ftl_limits::ReadTables;
+use ftl_schedule::{Accepted, is_input};
+use ftl_tree::Tree;
 
 /// The kind of a cell in a stage: an input is given, and what is computed is given after its
 /// stage.
@@ -31,7 +31,7 @@ pub fn cell_kind(
     if is_input(tree.checked(), attr) {
         return CellKind::Given;
     }
-    kind_by_stage(accepted.spot(attr).stage, stage as usize)
+    kind_by_stage(accepted.schedule_place(attr).stage, stage as usize)
 }
 
 /// The kind by the stage that computes the cell's attribute.

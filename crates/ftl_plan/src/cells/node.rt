@@ -6,8 +6,8 @@ ghost use Rattle.ftl_limits.specs.reads.ReadTables.{AreTables, IsSound};
 ghost use Rattle.ftl_items.specs.stage_items.StageWork.{no_instance};
 ghost use Rattle.ftl_plan.specs.cells.NodeCells.{IsCellOf};
 
-use ftl_limits::reads::ReadTables;
-use ftl_tree::trees::Tree;
+use ftl_limits::ReadTables;
+use ftl_tree::Tree;
 
 /// The node that has a cell, by halving over where the cells of the nodes begin.
 fn node_of_cell(tree: &Tree<'_>, cell: u32) -> u32

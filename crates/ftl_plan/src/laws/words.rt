@@ -2,8 +2,7 @@ ghost use Rattle.ftl_plan.specs.laws.StageMeanings.{OfPlans};
 ghost use Rattle.ftl_plan.specs.laws.StageWords.{FirstWordsFit, LastWordsAreTheSolution};
 ghost use Rattle.ftl_plan.specs.laws.StageWords.{NoStagesNoSteps, WordsFitTheNextStage};
 
-use ftl_items::solution::solution_solves;
-use ftl_items::stage_items::{words_at_the_ends, words_between};
+use ftl_items::{solution_solves, words_at_the_ends, words_between};
 
 /// A law: the words of the inputs fit the first stage, and those that close a stage fit the next.
 /// After the last stage, or with none, each cell holds the word of the solution.

@@ -8,10 +8,10 @@ ghost use Rattle.ftl_schedule.specs.stages.Stages.{kind_of};
 ghost use Rattle.ftl_plan.specs.phases.StagePhases.{cells_end, grammar_in, range_phase};
 ghost use Rattle.ftl_plan.specs.phases.StagePhases.{tree_phase, item_phase};
 
-use ftl_cells::work_phases::Phase;
-use ftl_cursors::items::ItemRows;
-use ftl_schedule::syntax::PassKind;
-use ftl_tree::trees::Tree;
+use ftl_cells::Phase;
+use ftl_cursors::ItemRows;
+use ftl_schedule::PassKind;
+use ftl_tree::Tree;
 
 /// The phase of the item of a pass that begins at a node, where ranges have so many cells.
 pub(crate) fn phase_of(rows: &ItemRows<'_>, kind: PassKind, node: u32, size: u32) -> Phase

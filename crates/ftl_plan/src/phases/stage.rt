@@ -7,9 +7,9 @@ ghost use Rattle.ftl_plan.specs.phases.StagePhases.{phases_of_pass, phases_to};
 ghost use Rattle.ftl_cells.specs.declared.work_phases.phase.Phases.{Phases};
 
 use crate::phases::item::phase_of;
-use ftl_cells::work_phases::{Phase, Phases};
-use ftl_cursors::items::{ItemRows, StageItems};
-use ftl_schedule::syntax::PassKind;
+use ftl_cells::{Phase, Phases};
+use ftl_cursors::{ItemRows, StageItems};
+use ftl_schedule::PassKind;
 use std::alloc::{AllocError, Global};
 
 // Below so many cells ranges cost more than they save.

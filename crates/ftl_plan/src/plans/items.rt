@@ -8,8 +8,8 @@ ghost use Rattle.ftl_plan.specs.plans.StageParts.{IsStage, meaning_of};
 use crate::cells::cell_kind;
 use crate::laws::stages_are_lawful;
 use crate::plans::parts::StageParts;
-use ftl_cells::shared::CellKind;
-use ftl_cursors::item_cursor::step_count;
+use ftl_cells::CellKind;
+use ftl_cursors::step_count;
 
 impl<'a> StageParts<'a> {
     pub(crate) fn items(&self) -> u32

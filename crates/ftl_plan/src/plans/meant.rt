@@ -1,7 +1,7 @@
 //! What the work of a stage means, and its answers.
 use crate::plans::work::StageWork;
 use ftl_base::{CodeStack, Val};
-use ftl_cells::shared::{CellKind, Filler, Meant, Work};
+use ftl_cells::{CellKind, Filler, Meant, Work};
 
 // No step of a tree that has a plan reads more cells.
 const MAX_READS: u32 = 1048576;

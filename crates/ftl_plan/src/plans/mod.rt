@@ -23,7 +23,7 @@ mod words;
 mod work;
 
 pub use alone::solve_alone;
-pub use ftl_limits::faults::PlanFault;
+pub use ftl_limits::PlanFault;
 pub use parts::StageParts;
 pub use plan::Plan;
 pub use work::StageWork;

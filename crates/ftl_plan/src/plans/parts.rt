@@ -6,14 +6,13 @@ ghost use Rattle.ftl_plan.specs.plans.StageParts.{IsStage, IsStepAt, grammar_of,
 ghost use Rattle.ftl_plan.specs.plans.StageParts.{steps_of};
 ghost use Rattle.ftl_plan.specs.plans.StageParts.{tree_of};
 
-use ftl_cursors::item_cursor::{ItemCursor, ItemTables, item_steps, step_at};
-use ftl_limits::reads::ReadTables;
-use ftl_order::steps::Step;
-use ftl_schedule::check::Accepted;
-use ftl_step_value::neighbours::NearParts;
-use ftl_step_value::value::RuleCopy;
-use ftl_tree::trees::Tree;
-use ftl_visit::compiled::Programs;
+use ftl_cursors::{ItemCursor, ItemTables, item_steps, step_at};
+use ftl_limits::ReadTables;
+use ftl_order::Step;
+use ftl_schedule::Accepted;
+use ftl_step_value::{NeighbourParts, RuleCopy};
+use ftl_tree::Tree;
+use ftl_visit::Programs;
 
 /// What a plan keeps, for one stage.
 #[derive(Clone, Copy)]
@@ -23,7 +22,7 @@ pub struct StageParts<'a> {
     pub read_tables: &'a ReadTables,
     pub item_tables: ItemTables<'a>,
     pub copies: &'a [RuleCopy],
-    pub near: &'a [NearParts],
+    pub neighbours: &'a [NeighbourParts],
     pub stage: u32,
 }
 

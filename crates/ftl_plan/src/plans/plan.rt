@@ -14,23 +14,19 @@ use crate::plans::sound::is_sound;
 use crate::plans::stages::rows_of_stages;
 use crate::plans::words::first_words;
 use crate::plans::work::StageWork;
-use ftl_checked::grammars::Checked;
-use ftl_cursors::item_cursor::ItemTables;
-use ftl_cursors::items::{ItemRows, StageItems};
-use ftl_cursors::stages::StageRows;
-use ftl_limits::faults::{PlanFault, ReadTables, first_fault};
-use ftl_schedule::check::Accepted;
-use ftl_step_value::neighbours::{NearParts, near_parts};
-use ftl_step_value::value::{RuleCopy, rule_copies};
-use ftl_tree::trees::Tree;
-use ftl_visit::compiled::Programs;
-use ftl_visit::passes::{RuleTarget, rule_targets};
+use ftl_checked::Checked;
+use ftl_cursors::{ItemRows, ItemTables, StageItems, StageRows};
+use ftl_limits::{PlanFault, ReadTables, first_fault};
+use ftl_schedule::Accepted;
+use ftl_step_value::{NeighbourParts, RuleCopy, neighbour_parts, rule_copies};
+use ftl_tree::Tree;
+use ftl_visit::{Programs, RuleTarget, rule_targets};
 use std::alloc::{AllocError, Global};
 use std::marker::Model;
 
 /// The stages of a tree. It borrows what it is made of, and keeps no list of steps: for each class
-/// and pass what a visit does, for each rule what its steps copy and read, and for each node where items
-/// begin.
+/// and pass what a visit does, for each rule what its steps copy and read, and for each node where
+/// items begin.
 #[derive(Drop)]
 pub struct Plan<'a> {
     checked: &'a Checked,
@@ -41,7 +37,7 @@ pub struct Plan<'a> {
     items: ItemRows<'a>,
     targets: Vec<RuleTarget>,
     copies: Vec<RuleCopy>,
-    near: Vec<NearParts>,
+    neighbours: Vec<NeighbourParts>,
     stages: Vec<StageRows>,
 }
 
@@ -97,7 +93,7 @@ impl<'a> Plan<'a> {
         let items = ItemRows::new(alloc, tree, grain)?;
         let targets = rule_targets(alloc, checked)?;
         let copies = rule_copies(alloc, programs, &tables, checked)?;
-        let near = near_parts(alloc, &tables, checked)?;
+        let neighbours = neighbour_parts(alloc, &tables, checked)?;
         let stages = rows_of_stages(
             alloc,
             checked,
@@ -113,7 +109,7 @@ impl<'a> Plan<'a> {
             items,
             targets,
             copies,
-            near,
+            neighbours,
             stages,
         })
     }
@@ -136,14 +132,14 @@ impl<'a> Plan<'a> {
     {
         let _stages = self.stage_count();
         let copies = self.copies.as_slice();
-        let near = self.near.as_slice();
+        let neighbours = self.neighbours.as_slice();
         StageWork::new(StageParts {
             accepted: self.accepted,
             programs: self.programs,
             read_tables: &self.tables,
             item_tables: self.item_tables(stage),
             copies,
-            near,
+            neighbours,
             stage,
         })
     }

@@ -4,11 +4,10 @@ ghost use Rattle.ftl_deps.specs.reads.Meant.{meant};
 ghost use Rattle.ftl_cursors.specs.items.StageItems.{tree_in};
 ghost use Rattle.ftl_plan.specs.plans.PlannedStages.{HaveFewPasses, HaveRows};
 
-use ftl_checked::grammars::Checked;
-use ftl_cursors::items::ItemRows;
-use ftl_cursors::stages::StageRows;
-use ftl_schedule::stages::Stage;
-use ftl_visit::visits::RuleIndex;
+use ftl_checked::Checked;
+use ftl_cursors::{ItemRows, StageRows};
+use ftl_schedule::Stage;
+use ftl_visit::RuleIndex;
 use std::alloc::{AllocError, Global};
 
 /// The rows of each stage.

@@ -8,10 +8,9 @@ ghost use Rattle.ftl_plan.specs.plans.StageParts.{IsStage, grammar_of, meaning_o
 
 use crate::plans::parts::StageParts;
 use ftl_base::{CodeStack, Val};
-use ftl_items::solution::solution_solves;
-use ftl_order::steps::Step;
-use ftl_step_value::cells::{read_at, read_count, target_cell};
-use ftl_step_value::value::step_value;
+use ftl_items::solution_solves;
+use ftl_order::Step;
+use ftl_step_value::{read_at, read_count, step_value, target_cell};
 
 impl<'a> StageParts<'a> {
     pub(crate) fn target(&self, item: u32, step: u32) -> u32

@@ -10,10 +10,10 @@ ghost use Rattle.ftl_model.specs.layout.Tree.{size};
 ghost use Rattle.ftl_plan.specs.plans.InputWords.{AreInputsSet, inputs_by_class};
 
 use ftl_base::{Val, word_of};
-use ftl_checked::grammars::Checked;
-use ftl_limits::faults::ReadTables;
-use ftl_schedule::check::is_input;
-use ftl_tree::trees::Tree;
+use ftl_checked::Checked;
+use ftl_limits::ReadTables;
+use ftl_schedule::is_input;
+use ftl_tree::Tree;
 use sqlite_items::Items;
 use std::alloc::{AllocError, Global};
 

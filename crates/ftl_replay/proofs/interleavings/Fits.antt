@@ -36,43 +36,43 @@ sends_can (live Ended) i k s = absurd s
 sends_can spent i k s = absurd s
 
 module _ (m : Meaning) (words : List ℕ) (v : HandState) where
-  told : (s t : OneStep) → Some s ≡ Some t → Fits m v.place s.kind s.word → Fits m v.place t.kind t.word
-  told s t e f = let is : s ≡ t = cc in subst (λ y. Fits m v.place y.kind y.word) is f
+  same_step : (s t : OneStep) → Some s ≡ Some t → Fits m v.place s.kind s.word → Fits m v.place t.kind t.word
+  same_step s t e f = let is : s ≡ t = cc in subst (λ y. Fits m v.place y.kind y.word) is f
 
   fits : (next : List ℕ) (w : HandState) (s : OneStep) → Steps m words v next w → w.last ≡ Some s
       → Fits m v.place s.kind s.word
-  fits next w s (finds_ready i e b z) is = told (record { kind = load_counter; word = count_word m i; held = Some 0 })
+  fits next w s (finds_ready i e b z) is = same_step (record { kind = load_counter; word = count_word m i; held = Some 0 })
       s is (e, inr (i, b, refl))
-  fits next w s (finds_waiting i e b z) is = told
+  fits next w s (finds_waiting i e b z) is = same_step
       (record { kind = load_counter; word = count_word m i; held = Some (get_or words (count_word m i) 0) })
       s is (e, inr (i, b, refl))
-  fits next w s (claims i e z) is = told (record { kind = claim; word = state_word m i; held = Some 0 })
+  fits next w s (claims i e z) is = same_step (record { kind = claim; word = state_word m i; held = Some 0 })
       s is (subst CanClaim (sym e) tt)
-  fits next w s (misses i e z) is = told
+  fits next w s (misses i e z) is = same_step
       (record { kind = claim; word = state_word m i; held = Some (get_or words (state_word m i) 0) })
       s is (subst CanClaim (sym e) tt)
-  fits next w s (reads i j r e b c) is = told (record {
+  fits next w s (reads i j r e b c) is = same_step (record {
     kind = load_cell;
     word = cell_word (read_of m i j r);
     held = Some (get_or words (cell_word (read_of m i j r)) 0);
   }) s is (subst (CanRead m) (sym e) (b, c))
-  fits next w s (fills i j r e b c) is = told (record {
+  fits next w s (fills i j r e b c) is = same_step (record {
     kind = store_cell;
     word = cell_word (target_of m i j);
     held = Some (get_or words (cell_word (target_of m i j)) 0);
   }) s is (subst (HasRead m) (sym e) (b, c))
-  fits next w s (marks i j r e b) is = told
+  fits next w s (marks i j r e b) is = same_step
       (record { kind = mark; word = state_word m i; held = Some (get_or words (state_word m i) 0) })
       s is (subst (CanMark m) (sym e) b)
-  fits next w s (sends i k left e b z) is = told
+  fits next w s (sends i k left e b z) is = same_step
       (record { kind = delivery; word = count_word m (next_at m i k); held = Some (suc left) })
       s is (sends_can v.place i k e)
-  fits next w s (finishes i k left e b z) is = told
+  fits next w s (finishes i k left e b z) is = same_step
       (record { kind = delivery; word = end_word; held = Some (suc left) })
       s is (sends_can v.place i k e)
-  fits next w s (ends e z) is = told (record { kind = load_counter; word = end_word; held = Some 0 })
+  fits next w s (ends e z) is = same_step (record { kind = load_counter; word = end_word; held = Some 0 })
       s is (e, inl refl)
-  fits next w s (finds_left e z) is = told
+  fits next w s (finds_left e z) is = same_step
       (record { kind = load_counter; word = end_word; held = Some (get_or words end_word 0) })
       s is (e, inl refl)
 

@@ -4,7 +4,7 @@ use Rattle.std.specs.Prelude.{Some}
 use Rattle.std.proofs.lemmas.Grind.{get_or_default_zero}
 use Rattle.ftl_cells.specs.shared.Work.{Meaning, item_total, next_total, next_at, step_total, target_of, read_total, read_of, solved_word}
 use Rattle.ftl_cells.specs.shared.State.{live, after, after_delivery, load_counter, claim, load_cell, store_cell, mark, delivery, Sends, finds_ready, finds_waiting, claims, misses, reads, fills, marks, sends, finishes, ends, finds_left, end_word, cell_word, state_word, count_word, word_total}
-use Rattle.ftl_cells.specs.shared.Kept.{stage_now, Works, IsInRange}
+use Rattle.ftl_cells.specs.shared.Kept.{stage_now, IsWorkingAt, IsInRange}
 use Rattle.ftl_cells.specs.declared.shared.place.HandPlace.{HandPlace}
 use Rattle.ftl_cells.specs.declared.shared.place.HandPlace.TheVariants.{Idle, Looked, Working, Filled, Sending, Ended}
 use Rattle.ftl_cells.proofs.shared.Deliveries.{next_counter, end_counter}
@@ -255,4 +255,4 @@ module _ (m : Meaning) (words : List ℕ) (p : HandPlace) (s : IsStageWith m wor
 pub reads_hold : (m : Meaning) (words : List ℕ) (i j r : ℕ) → IsStageWith m words (Working i j r) → j < step_total m i
     → (k : ℕ) → k < read_total m i j → get_or words (cell_word (read_of m i j k)) 0 ≡ solved_word m (read_of m i j k)
 reads_hold m words i j r s b k c = read_is m s.lawful (stage_now m words s.hands) s.kept.rule s.hand i j k
-    (subst (λ p. Works p i j) (sym s.at) (refl, refl)) b c
+    (subst (λ p. IsWorkingAt p i j) (sym s.at) (refl, refl)) b c

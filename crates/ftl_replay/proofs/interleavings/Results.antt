@@ -123,48 +123,48 @@ module _ (m : Meaning) (words : List ℕ) (v : HandState) where
   result split word = out words v
   result join word = out words v
 
-  told : (s t : OneStep) (o : Outcome) → Some s ≡ Some t → o ≡ result s.kind s.word → o ≡ result t.kind t.word
-  told s t o e f = let is : s ≡ t = cc in subst (λ y. o ≡ result y.kind y.word) is f
+  same_step : (s t : OneStep) (o : Outcome) → Some s ≡ Some t → o ≡ result s.kind s.word → o ≡ result t.kind t.word
+  same_step s t o e f = let is : s ≡ t = cc in subst (λ y. o ≡ result y.kind y.word) is f
 
   results : (next : List ℕ) (w : HandState) (s : OneStep) → Steps m words v next w → w.last ≡ Some s
       → out next w ≡ result s.kind s.word
-  results next w s (finds_ready i e b z) is = told
+  results next w s (finds_ready i e b z) is = same_step
       (record { kind = load_counter; word = count_word m i; held = Some 0 }) s (looked (count_word m i) i) is
       (ready (count_word m i) i (get_or words (count_word m i) 0) refl z)
-  results next w s (finds_waiting i e b ne) is = told
+  results next w s (finds_waiting i e b ne) is = same_step
       (record { kind = load_counter; word = count_word m i; held = Some (get_or words (count_word m i) 0) }) s
       (waits (count_word m i) (get_or words (count_word m i) 0)) is
       (waiting (count_word m i) (get_or words (count_word m i) 0) ne)
-  results next w s (claims i e z) is = told
+  results next w s (claims i e z) is = same_step
       (record { kind = claim; word = state_word m i; held = Some 0 }) s (claimed i 0) is
       (ap (λ y. claimed i y) (sym z) ∙ ap on_claim (sym e))
-  results next w s (misses i e ne) is = told
+  results next w s (misses i e ne) is = same_step
       (record { kind = claim; word = state_word m i; held = Some (get_or words (state_word m i) 0) }) s
       (missed i (get_or words (state_word m i) 0)) is
       (missing i (get_or words (state_word m i) 0) ne ∙ ap on_claim (sym e))
-  results next w s (reads i j r e b c) is = told (record {
+  results next w s (reads i j r e b c) is = same_step (record {
     kind = load_cell;
     word = cell_word (read_of m i j r);
     held = Some (get_or words (cell_word (read_of m i j r)) 0);
   }) s (on_read (live (Working i j r))) is (ap on_read (sym e))
-  results next w s (fills i j r e b c) is = told (record {
+  results next w s (fills i j r e b c) is = same_step (record {
     kind = store_cell;
     word = cell_word (target_of m i j);
     held = Some (get_or words (cell_word (target_of m i j)) 0);
   }) s (on_fill (live (Working i j r))) is (ap on_fill (sym e))
-  results next w s (marks i j r e b) is = told
+  results next w s (marks i j r e b) is = same_step
       (record { kind = mark; word = state_word m i; held = Some (get_or words (state_word m i) 0) }) s
       (on_mark (live (Working i j r))) is (ap on_mark (sym e))
-  results next w s (sends i k left e b z) is = told
+  results next w s (sends i k left e b z) is = same_step
       (record { kind = delivery; word = count_word m (next_at m i k); held = Some (suc left) }) s (sent i k left) is
       (sending i k (next_total m i - k) left (λ q. omega arith) z ∙ delivers v.place i k e)
-  results next w s (finishes i k left e b z) is = told
+  results next w s (finishes i k left e b z) is = same_step
       (record { kind = delivery; word = end_word; held = Some (suc left) }) s (finished left) is
       (finishing i k (next_total m i - k) left (omega arith) z ∙ delivers v.place i k e)
-  results next w s (ends e z) is = told
+  results next w s (ends e z) is = same_step
       (record { kind = load_counter; word = end_word; held = Some 0 }) s (loaded 0 0) is
       (ap (λ y. loaded 0 y) (sym z))
-  results next w s (finds_left e ne) is = told
+  results next w s (finds_left e ne) is = same_step
       (record { kind = load_counter; word = end_word; held = Some (get_or words end_word 0) }) s
       (waits 0 (get_or words end_word 0)) is (waiting 0 (get_or words end_word 0) ne)
 

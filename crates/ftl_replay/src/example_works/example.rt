@@ -5,7 +5,7 @@ ghost use Rattle.ftl_cells.specs.shared.State.{AreFirst};
 ghost use Rattle.ftl_cells.specs.shared.Diamond.{diamond};
 
 use ftl_base::{Val, word_of};
-use ftl_cells::shared::{Diamond, Work};
+use ftl_cells::{Diamond, Work};
 use std::alloc::{AllocError, Global};
 
 /// A work for tests, which tells the words of its cells before.
@@ -48,8 +48,8 @@ impl Solved for Diamond {
 
 #[tactic(auto, unfolding(ftl_cells::specs::shared::Work::solution_at))]
 fn diamond_value(cell: u32) -> Val
-    requires { cell < 5 }
-    ensures { result ≡ solution_at diamond cell }
+    requires cell { cell < 5 }
+    ensures value { result ≡ solution_at diamond cell }
 {
     match cell {
         0 => Val::num(7),

@@ -4,7 +4,7 @@ ghost use Rattle.ftl_replay.specs.example_works.Ladder.{ladder_read};
 
 use crate::example_works::example::{Example, Solved};
 use ftl_base::{CodeStack, Val, Width, add, word_of};
-use ftl_cells::shared::{CellKind, Meant, Work};
+use ftl_cells::{CellKind, Meant, Work};
 use std::alloc::{AllocError, Global};
 
 /// Each item waits for the one two before it, and fills two cells, each with its own number: the
@@ -90,7 +90,7 @@ impl Work for Ladder {
 
 /// How far the cell that a step fills stands after the one that it reads.
 fn distance(item: u32, step: u32) -> u32
-    requires { step < 2 }
+    requires step { step < 2 }
     ensures far { ladder_read item step + result ≡ 2 * item + 2 + step }
     ensures few { result ≤ 3 }
 {

@@ -6,7 +6,7 @@ ghost use Rattle.ftl_replay.specs.example_works.Lent.{lent};
 
 use crate::example_works::example::Example;
 use ftl_base::{CodeStack, Val};
-use ftl_cells::shared::{CellKind, Filler, Meant, Work};
+use ftl_cells::{CellKind, Filler, Meant, Work};
 use std::alloc::{AllocError, Global};
 
 /// Items that fill a cell each, with the numbers of a borrowed slice.
@@ -102,7 +102,7 @@ impl<'a> Work for Lent<'a> {
 
 #[tactic(auto, using(crate::proofs::example_works::LentLaws::byte_value))]
 fn value_of_byte(byte: u8) -> Val
-    ensures { result ≡ number (pos (min 255 byte)) }
+    ensures value { result ≡ number (pos (min 255 byte)) }
 {
     Val::num(byte as i64)
 }

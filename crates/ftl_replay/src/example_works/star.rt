@@ -4,7 +4,7 @@ ghost use Rattle.ftl_replay.specs.example_works.Star.{star};
 
 use crate::example_works::example::Example;
 use ftl_base::{CodeStack, Val, Width, add, word_of};
-use ftl_cells::shared::{CellKind, Meant, Work};
+use ftl_cells::{CellKind, Meant, Work};
 use std::alloc::{AllocError, Global};
 
 /// The first item fills the cell that the seven others read.

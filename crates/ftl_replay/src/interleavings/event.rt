@@ -21,7 +21,7 @@ pub enum Event {
 impl Event {
     /// The hand that makes the step.
     pub fn hand(self) -> u32
-        ensures { result ≡ hand_of self }
+        ensures hand { result ≡ hand_of self }
     {
         match self {
             Event::Look { hand, .. }

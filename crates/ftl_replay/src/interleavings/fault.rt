@@ -1,5 +1,5 @@
 ghost use Rattle.std.specs.Prelude.{◌≡◌};
-ghost use Rattle.ftl_replay.specs.declared.interleavings.fault.ReplayFault.TheVariants.{OutOfMemory};
+ghost use Rattle.ftl_replay.specs.declared.interleavings.fault.ReplayFault.TheVariants as faults;
 
 use std::alloc::{AllocError, AllocFailed};
 
@@ -12,7 +12,7 @@ pub enum ReplayFault {
 }
 
 impl From<AllocError> for ReplayFault {
-    ghost from_gives = { λ _ e. e ≡ OutOfMemory };
+    ghost from_gives = { λ _ e. e ≡ faults.OutOfMemory };
 
     fn from(_: AllocError) -> Self {
         ReplayFault::OutOfMemory
@@ -20,7 +20,7 @@ impl From<AllocError> for ReplayFault {
 }
 
 impl<T: Drop> From<AllocFailed<T>> for ReplayFault {
-    ghost from_gives = { λ _ e. e ≡ OutOfMemory };
+    ghost from_gives = { λ _ e. e ≡ faults.OutOfMemory };
 
     fn from(_: AllocFailed<T>) -> Self {
         ReplayFault::OutOfMemory

@@ -9,7 +9,7 @@ use crate::interleavings::fault::ReplayFault;
 use crate::interleavings::make::make_step;
 use crate::interleavings::place::ReplayPlace;
 use crate::interleavings::scratch::Scratch;
-use ftl_cells::shared::{HandPlace, Work, open_row};
+use ftl_cells::{HandPlace, Work, open_row};
 use std::alloc::{AllocError, Global};
 
 /// A state of shared cells on plain vectors.
@@ -63,7 +63,7 @@ fn cut<W: Work>(
     mut row: Vec<u64>,
     hands: Vec<ReplayPlace>,
 ) -> Result<Replayed, AllocError>
-    requires { length row.items ≡ word_total (W.meaning work.now) }
+    requires words { length row.items ≡ word_total (W.meaning work.now) }
     ensures row { IfOk result (λ r. row.items
         ≡ row_of r.end r.cells.items r.states.items r.counters.items) }
     ensures parts { IfOk result (λ r. HasParts (W.meaning work.now) r.cells.items r.states.items

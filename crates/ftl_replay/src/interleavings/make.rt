@@ -11,7 +11,7 @@ use crate::interleavings::event::Event;
 use crate::interleavings::place::ReplayPlace;
 use crate::interleavings::scratch::Scratch;
 use crate::interleavings::steps::{claim, deliver, fill, left, look, mark, read};
-use ftl_cells::shared::{HandPlace, Work};
+use ftl_cells::{HandPlace, Work};
 use std::alloc::AllocError;
 
 /// Makes the step, and says whether the event is one.
@@ -51,7 +51,7 @@ fn live_at(hands: &[ReplayPlace], hand: u32) -> Option<HandPlace>
 }
 
 fn is_free_at(hands: &[ReplayPlace], hand: u32) -> bool
-    ensures { IsTrue result ↔ IsFree (place_at hands.now hand) }
+    ensures free { IsTrue result ↔ IsFree (place_at hands.now hand) }
 {
     match live_at(hands, hand) {
         Some(HandPlace::Idle) => true,

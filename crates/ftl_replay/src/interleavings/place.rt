@@ -1,4 +1,4 @@
-use ftl_cells::shared::HandPlace;
+use ftl_cells::HandPlace;
 
 /// Where a hand is, or that it was given up.
 #[derive(Clone, Copy, Debug, PartialEq, Eq)]

@@ -4,7 +4,7 @@ ghost use Rattle.ftl_cells.specs.shared.Work.{solved_word, target_of, solution_a
 ghost use Rattle.ftl_cells.specs.shared.State.{cell_word};
 
 use ftl_base::{CodeStack, Val, val_of};
-use ftl_cells::shared::Work;
+use ftl_cells::Work;
 use std::alloc::{AllocError, Global};
 
 /// What the results of steps are computed with: the values of a step's reads, and a stack. Made

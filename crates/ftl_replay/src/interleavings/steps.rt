@@ -13,18 +13,18 @@ ghost use Rattle.ftl_replay.specs.declared.interleavings.event.Event.TheVariants
 
 use crate::interleavings::scratch::Scratch;
 use ftl_base::word_of;
-use ftl_cells::shared::{HandPlace, Work};
+use ftl_cells::{HandPlace, Work};
 
 /// Where an item's state stands in the row of words.
 fn state_at<W: Work>(work: &W, item: u32) -> usize
-    ensures { result ≡ state_word (W.meaning work.now) item }
+    ensures word { result ≡ state_word (W.meaning work.now) item }
 {
     1 + work.cells() as usize + item as usize
 }
 
 /// Where an item's counter stands.
 fn count_at<W: Work>(work: &W, item: u32) -> usize
-    ensures { result ≡ count_word (W.meaning work.now) item }
+    ensures word { result ≡ count_word (W.meaning work.now) item }
 {
     1 + work.cells() as usize + work.items() as usize + item as usize
 }
@@ -172,7 +172,7 @@ fn sent_from(place: HandPlace) -> Option<(u32, u32)>
 fn take_one(row: &mut Vec<u64>, at: usize)
     requires at { at < vec_len row.old }
     requires some { 0 < slice_index row.old.items at }
-    ensures { row.new.items ≡ slice_set row.old.items at (slice_index row.old.items at - 1) }
+    ensures taken { row.new.items ≡ slice_set row.old.items at (slice_index row.old.items at - 1) }
 {
     row[at] -= 1;
 }

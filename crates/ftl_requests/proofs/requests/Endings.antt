@@ -6,7 +6,7 @@ use Rattle.ftl_requests.specs.sections.Outcomes.{IsOutcome, answer_of}
 use Rattle.ftl_requests.specs.declared.sections.decision.Decided.{Decided}
 use Rattle.ftl_requests.specs.declared.sections.decision.Undecided.{Undecided}
 use Rattle.ftl_requests.specs.declared.sections.decision.Undecided.TheVariants.{OutOfMemory, Refused}
-use Rattle.ftl_requests.specs.requests.Asked.{EndsIn, IsEndOf}
+use Rattle.ftl_requests.specs.requests.RulesAnswers.{EndsIn, IsEndOf}
 
 -- the failure, as a result of this type
 abbrev failed : (X : Type 0) → Undecided → Result X Undecided

@@ -16,7 +16,7 @@ use Rattle.ftl_page.specs.sections.Page.{page_of}
 use Rattle.ftl_answer.specs.refusals.PageLines.{page_line, too_long_line, words_line}
 use Rattle.ftl_answer.specs.answers.Answer.{Answer, refused}
 use Rattle.ftl_answer.specs.answers.Answers.{command_in, obeyed, solved, summary_of}
-use Rattle.ftl_answer.specs.answers.Stages.{Is, Stage, Then, ends, or_told}
+use Rattle.ftl_answer.specs.answers.Stages.{Is, Stage, Then, ends, result_outcome}
 use Rattle.ftl_answer.specs.answers.Texts.{page}
 use Rattle.ftl_edge.specs.Counts.{raised}
 use Rattle.ftl_answer.specs.headline.Headline.{OfTheBytes, bytes_answered, may_read, reads_page}
@@ -44,7 +44,7 @@ too_long_page need bytes long =
     sym
     (ap
     (λ (b : Bool). if b then ends (refused 4 too_long_line)
-    else or_told (λ fault. refused 4 (page_line fault)) (page_of bytes need))
+    else result_outcome (λ fault. refused 4 (page_line fault)) (page_of bytes need))
     long)
 
 too_long_answer : (c : Command) (bytes : List ℕ) → reads_page c ≡ true → nat_lt 67108864 (length bytes) ≡ true
@@ -173,7 +173,7 @@ sample_comes pieces name told how bytes text p is named same shown = λ a answer
     inr (
       text,
       sym
-          (ap (or_told (λ fault. refused 2 words_line))
+          (ap (result_outcome (λ fault. refused 2 words_line))
           (subst (λ (n : List ℕ). sample_page_of n pieces ≡ Ok text) named is)),
       subst (λ (t : List ℕ). solved t (summary_of name) (ends a)) same
           (subst (λ (what : Shown). solved p.bytes.items (text_shown what) (ends a)) shown answers),
@@ -189,7 +189,7 @@ no_sample_comes pieces name told how bytes fault d is named same =
     (inl (
       _,
       sym
-          (ap (or_told (λ fault. refused 2 words_line))
+          (ap (result_outcome (λ fault. refused 2 words_line))
           (subst (λ (n : List ℕ). sample_page_of n pieces ≡ Err fault) named is)),
       refl,
     )))

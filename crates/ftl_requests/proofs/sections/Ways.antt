@@ -5,6 +5,7 @@ use Rattle.ftl_answer.specs.answers.Stages.{Outcome, Stage, Then, ends, hands_on
 use Rattle.ftl_requests.specs.sections.Outcomes.{Ends, IsOutcome, answer_of}
 use Rattle.ftl_requests.specs.declared.sections.decision.Undecided.{Undecided}
 use Rattle.ftl_requests.specs.declared.sections.decision.Undecided.TheVariants.{OutOfMemory, Refused}
+use Rattle.ftl_requests.proofs.sections.FaultEnds.{may_refuse}
 
 -- the end, at an outcome of this type
 abbrev ended : (X : Type 0) → Answer → Outcome X
@@ -32,3 +33,6 @@ pub then_second : {Y Z W : Type 0} (first : Stage Y) (second : Y → Stage W) (s
 then_second first second seen y (Ok z) may then = inr (y, may, then)
 then_second first second seen y (Err (Refused d)) may then = inr (y, may, then)
 then_second first second seen y (Err OutOfMemory) may then = tt
+
+-- the steps of a stage behind one that tells
+pub ruleset second_steps = (may_refuse, then_second)

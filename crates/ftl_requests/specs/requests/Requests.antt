@@ -49,7 +49,7 @@ pub record IsAsked (stage : Stage ⊥) (bytes : List ℕ) (reads : Bool) (old ne
 abbrev pub IsAnsweredBy : Result Request Undone → Result Decided Undone → Type 0
 IsAnsweredBy (Ok q) (Ok d) = IsAnswerTo q (answer_of d)
 IsAnsweredBy (Ok q) (Err undone) = undone ≡ OutOfMemory
-IsAnsweredBy (Err undone) told = told ≡ Err undone
+IsAnsweredBy (Err undone) found = found ≡ Err undone
 
 -- ---- what is written
 

@@ -1,15 +1,15 @@
 //! The end of the stages of a page.
 
-ghost use Rattle.ftl_requests.specs.requests.Asked.{IsEndOf};
+ghost use Rattle.ftl_requests.specs.requests.RulesAnswers.{IsEndOf};
 
 use crate::sections::{Decided, Undecided};
 use std::alloc::AllocError;
 
 /// The answer that the stages of a page ended with, a refusal or another.
-pub fn ended(told: Result<Decided, Undecided>) -> Result<Decided, AllocError>
-    ensures end { IsEndOf told result }
+pub fn ended(found: Result<Decided, Undecided>) -> Result<Decided, AllocError>
+    ensures end { IsEndOf found result }
 {
-    match told {
+    match found {
         Ok(decided) | Err(Undecided::Refused(decided)) => Ok(decided),
         Err(Undecided::OutOfMemory) => Err(AllocError),
     }

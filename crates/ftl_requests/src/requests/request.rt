@@ -5,7 +5,7 @@ ghost use Rattle.ftl_requests.specs.declared.requests.request.Undone.TheVariants
 
 use crate::requests::shown::Shown;
 use crate::sections::Decided;
-use ftl_page::commands::Solving;
+use ftl_page::Solving;
 use std::alloc::AllocError;
 
 /// A page that is to be solved, and what is to be shown of its table.

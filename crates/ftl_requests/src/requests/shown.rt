@@ -1,6 +1,6 @@
 //! What may be shown of a table.
 
-use ftl_tokens::scanner::Name;
+use ftl_tokens::Name;
 
 /// What is shown of a table.
 #[derive(Drop)]

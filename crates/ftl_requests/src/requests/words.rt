@@ -12,13 +12,13 @@ ghost use Rattle.ftl_requests.specs.requests.Requests.{MayEndAs, IsAsked, IsTooL
 ghost use Rattle.ftl_requests.specs.sections.Outcomes.{answer_of};
 
 use crate::requests::request::{Problem, Request, Undone};
-use crate::requests::rules::{Asked, rules_told};
+use crate::requests::rules::{RulesOutput, rules_answered};
 use crate::requests::shown::Shown;
 use crate::sections::{Decided, Status};
 use ftl_boxes::{SampleFault, sample_page};
 use ftl_edge::{ReadAllFault, Source, read_all};
-use ftl_page::commands::{Command, CommandFault, Solving, read_command};
-use ftl_tokens::scanner::Name;
+use ftl_page::{Command, CommandFault, Solving, read_command};
+use ftl_tokens::Name;
 use std::alloc::{AllocError, Global};
 
 /// The most bytes of a page.
@@ -138,14 +138,14 @@ fn obeyed(alloc: Global, command: Command, bytes: Vec<u8>) -> Result<Request, Al
 fn verdict(alloc: Global, bytes: &[u8]) -> Result<Request, AllocError>
     ensures comes { IfOk result (MayEndAs (obeyed command.Check bytes.now)) }
 {
-    Ok(Request::Answered(rules_told(alloc, Asked::Verdict, bytes)?))
+    Ok(Request::Answered(rules_answered(alloc, RulesOutput::Verdict, bytes)?))
 }
 
 /// The schedule of a page, as a text.
 fn schedule(alloc: Global, bytes: &[u8]) -> Result<Request, AllocError>
     ensures comes { IfOk result (MayEndAs (obeyed command.Schedule bytes.now)) }
 {
-    Ok(Request::Answered(rules_told(alloc, Asked::Text, bytes)?))
+    Ok(Request::Answered(rules_answered(alloc, RulesOutput::Text, bytes)?))
 }
 
 /// The page of so many pieces in the shipped grammar of this name, whose summary is to be shown.

@@ -8,11 +8,11 @@ use crate::sections::{Decided, Status};
 use ftl_edge::{Sink, write_whole};
 
 /// Writes what was decided to the sink, and answers the status to end with.
-pub fn written<K: Sink>(sink: &mut K, told: Result<Decided, Undone>) -> Status
-    ensures written { IsWritten told result.0 (K.written sink.old) (K.written sink.new)
+pub fn written<K: Sink>(sink: &mut K, found: Result<Decided, Undone>) -> Status
+    ensures written { IsWritten found result.0 (K.written sink.old) (K.written sink.new)
         (Rose (K.fault_count sink.old) (K.fault_count sink.new)) }
 {
-    match told {
+    match found {
         Ok(decided) => match write_whole(sink, &decided.text) {
             Ok(()) => decided.status,
             Err(_) => Status::WRITE_FAULT,

@@ -14,12 +14,12 @@ ghost use Rattle.ftl_schedule.specs.stages.Stages.{stages_of};
 
 use crate::sections::decision::{Undecided, refused};
 use crate::sections::status::Status;
-use ftl_answer::refusals::write_stuck;
-use ftl_checked::grammars::Checked;
-use ftl_deps::reads::dep_table;
-use ftl_meaning::lawful::faultless_grammars_are_small;
-use ftl_schedule::computed::Accepted;
-use ftl_scheduler::finding::{FindFault, find_schedule};
+use ftl_answer::write_stuck;
+use ftl_checked::Checked;
+use ftl_deps::dep_table;
+use ftl_meaning::faultless_grammars_are_small;
+use ftl_schedule::Accepted;
+use ftl_scheduler::{FindFault, find_schedule};
 use std::alloc::Global;
 
 /// The automatic schedule, or the attributes that it leaves.

@@ -11,21 +11,19 @@ ghost use Rattle.ftl_visit.specs.compiled.Compilable.{HasCode};
 ghost use Rattle.ftl_answer.specs.refusals.GrammarLines.{grammar_line};
 ghost use Rattle.ftl_answer.specs.refusals.TextLines.{syntax_line};
 ghost use Rattle.ftl_requests.specs.sections.Outcomes.{Ends, IsOutcome};
-ghost use Rattle.ftl_requests.specs.sections.Telling.{Tells};
+ghost use Rattle.ftl_requests.specs.sections.RefusalOf.{IsRefusalOf};
 
 use crate::sections::decision::{Undecided, refused};
 use crate::sections::read::section_tokens;
 use crate::sections::status::Status;
-use ftl_answer::refusals::{write_grammar_fault, write_syntax_fault};
+use ftl_answer::{write_grammar_fault, write_syntax_fault};
 use ftl_base::Width;
-use ftl_checked::grammars::{Checked, check_grammar};
-use ftl_grammar::reading::{SyntaxFault, read_grammar};
-use ftl_grammar::syntax::Grammar;
-use ftl_meaning::counts::small_counts;
-use ftl_meaning::faults::GrammarFault;
-use ftl_page::sections::{Section, Text};
-use ftl_tokens::scanner::Scanned;
-use ftl_visit::compiled::has_code;
+use ftl_checked::{Checked, check_grammar};
+use ftl_grammar::{Grammar, SyntaxFault, read_grammar};
+use ftl_meaning::{GrammarFault, small_counts};
+use ftl_page::{Section, Text};
+use ftl_tokens::Scanned;
+use ftl_visit::has_code;
 use std::alloc::Global;
 
 /// The lawful grammar that the text spells, in this width.
@@ -69,7 +67,7 @@ fn grammar_of_tokens(alloc: Global, width: Width, scanned: &Scanned) -> Result<C
 }
 
 /// The grammar, checked.
-#[tactic(auto, using(crate::proofs::sections::Told::may_tell, crate::proofs::sections::Told::code_kept, crate::proofs::sections::Told::grammar_handed, crate::proofs::sections::Told::grammar_told))]
+#[tactic(auto, using(crate::proofs::sections::FaultEnds::grammar_steps))]
 fn without_fault(alloc: Global, width: Width, grammar: Grammar) -> Result<Checked, Undecided>
     requires small { HasSmallCounts grammar }
     requires kinds { HasKinds grammar }
@@ -94,7 +92,7 @@ fn syntax_refused(alloc: Global, fault: SyntaxFault) -> Undecided
 }
 
 fn grammar_refused(alloc: Global, fault: &GrammarFault) -> Undecided
-    ensures ends { Tells faults.OutOfMemory (λ f. answer.refused 5 (grammar_line f))
+    ensures ends { IsRefusalOf faults.OutOfMemory (λ f. answer.refused 5 (grammar_line f))
         fault.now result }
 {
     if let GrammarFault::OutOfMemory = fault {

@@ -6,7 +6,7 @@ ghost use Rattle.ftl_answer.specs.answers.Stages.{Then};
 ghost use Rattle.ftl_answer.specs.answers.Texts.{planned_tree, spelled_tree, tokens, tree};
 ghost use Rattle.ftl_base.specs.Widths.{greatest_of_width};
 ghost use Rattle.ftl_requests.specs.sections.Outcomes.{IsOutcome};
-ghost use Rattle.ftl_requests.specs.sections.Telling.{Tells};
+ghost use Rattle.ftl_requests.specs.sections.RefusalOf.{IsRefusalOf};
 ghost use Rattle.ftl_deps.specs.reads.Meant.{meant};
 ghost use Rattle.ftl_document.specs.declared.faults.fault.DocFault.TheVariants as faults;
 ghost use Rattle.ftl_page.specs.declared.sections.fault.Section.TheVariants as section;
@@ -18,15 +18,14 @@ use crate::sections::decision::{Undecided, refused};
 use crate::sections::limits::within_limits;
 use crate::sections::read::tokens_refused;
 use crate::sections::status::Status;
-use ftl_answer::refusals::write_document_fault;
+use ftl_answer::write_document_fault;
 use ftl_base::Width;
-use ftl_checked::grammars::Checked;
-use ftl_document::faults::DocFault;
-use ftl_document::reading::read_document;
-use ftl_page::sections::Section;
-use ftl_schedule::check::Accepted;
-use ftl_tokens::scanner::{TokenFault, WideScanned, document_tokens};
-use ftl_tree::trees::Tree;
+use ftl_checked::Checked;
+use ftl_document::{DocFault, read_document};
+use ftl_page::Section;
+use ftl_schedule::Accepted;
+use ftl_tokens::{TokenFault, WideScanned, document_tokens};
+use ftl_tree::Tree;
 use std::alloc::Global;
 
 /// The tree that the text spells, where no stage reads too much.
@@ -99,7 +98,7 @@ fn tree_of_tokens<'a>(
 }
 
 fn document_refused(alloc: Global, checked: &Checked, fault: &DocFault) -> Undecided
-    ensures ends { Tells faults.OutOfMemory
+    ensures ends { IsRefusalOf faults.OutOfMemory
         (λ f. answer.refused 7 (document_line checked.now.grammar f)) fault.now result }
 {
     if let DocFault::OutOfMemory = fault {

@@ -12,12 +12,12 @@ ghost use Rattle.ftl_schedule.specs.stages.Stages.{stages_of};
 
 use crate::sections::decision::{Undecided, refused};
 use crate::sections::status::Status;
-use ftl_answer::refusals::write_plan_fault;
-use ftl_checked::grammars::Checked;
-use ftl_limits::faults::{PlanFault, ReadTables, first_fault};
-use ftl_meaning::lawful::{faultless_grammars_are_lawful, faultless_grammars_are_small};
-use ftl_schedule::check::Accepted;
-use ftl_tree::trees::Tree;
+use ftl_answer::write_plan_fault;
+use ftl_checked::Checked;
+use ftl_limits::{PlanFault, ReadTables, first_fault};
+use ftl_meaning::{faultless_grammars_are_lawful, faultless_grammars_are_small};
+use ftl_schedule::Accepted;
+use ftl_tree::Tree;
 use std::alloc::{AllocError, Global};
 
 /// The tree, where no stage reads too much.

@@ -10,9 +10,9 @@ ghost use Rattle.ftl_requests.specs.sections.Outcomes.{Ends, IsOutcome};
 
 use crate::sections::decision::{Undecided, refused};
 use crate::sections::status::Status;
-use ftl_answer::refusals::{write_page_fault, write_token_fault};
-use ftl_page::sections::{Need, Page, PageFault, Section, split_page};
-use ftl_tokens::scanner::{Scanned, TokenFault, tokens};
+use ftl_answer::{write_page_fault, write_token_fault};
+use ftl_page::{Need, Page, PageFault, Section, split_page};
+use ftl_tokens::{Scanned, TokenFault, tokens};
 use std::alloc::Global;
 
 /// The most bytes of a page.

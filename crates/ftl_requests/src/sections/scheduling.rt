@@ -12,9 +12,9 @@ ghost use Rattle.ftl_schedule.specs.stages.Stages.{stages_of};
 use crate::sections::automatic::automatic_schedule;
 use crate::sections::decision::Undecided;
 use crate::sections::written::written_schedule;
-use ftl_checked::grammars::Checked;
-use ftl_page::sections::Text;
-use ftl_schedule::computed::Accepted;
+use ftl_checked::Checked;
+use ftl_page::Text;
+use ftl_schedule::Accepted;
 use std::alloc::Global;
 
 /// The schedule that the text spells, or the automatic one where there is none.

@@ -8,7 +8,7 @@ ghost use Rattle.ftl_answer.specs.answers.Texts.{ordered_schedule, spelled_sched
 ghost use Rattle.ftl_answer.specs.answers.Texts as texts;
 ghost use Rattle.ftl_requests.specs.sections.Outcomes.{Ends, IsOutcome};
 ghost use Rattle.ftl_requests.specs.sections.Small.{IsSmall};
-ghost use Rattle.ftl_requests.specs.sections.Telling.{Tells};
+ghost use Rattle.ftl_requests.specs.sections.RefusalOf.{IsRefusalOf};
 ghost use Rattle.ftl_deps.specs.reads.Meant.{meant};
 ghost use Rattle.ftl_order.specs.orders.Ordered.{IsOrdered};
 ghost use Rattle.ftl_answer.specs.refusals.ScheduleLines.{schedule_line, verify_line};
@@ -21,16 +21,16 @@ ghost use Rattle.ftl_schedule.specs.stages.Stages.{stages_of};
 use crate::sections::decision::{Undecided, refused};
 use crate::sections::read::section_tokens;
 use crate::sections::status::Status;
-use ftl_answer::refusals::{write_schedule_fault, write_verify_fault};
-use ftl_checked::grammars::Checked;
-use ftl_deps::reads::dep_table;
-use ftl_meaning::lawful::faultless_grammars_are_lawful;
-use ftl_order::faults::faultless_is_ordered;
-use ftl_page::sections::Section;
-use ftl_schedule::computed::{
+use ftl_answer::{write_schedule_fault, write_verify_fault};
+use ftl_checked::Checked;
+use ftl_deps::dep_table;
+use ftl_meaning::faultless_grammars_are_lawful;
+use ftl_order::faultless_is_ordered;
+use ftl_page::Section;
+use ftl_schedule::{
     Accepted, Schedule, ScheduleFault, VerifyFault, computed_entries, read_schedule, verify,
 };
-use ftl_tokens::scanner::Scanned;
+use ftl_tokens::Scanned;
 use std::alloc::Global;
 
 /// The schedule that the text spells, verified.
@@ -53,7 +53,7 @@ pub(crate) fn written_schedule(
 }
 
 /// The schedule that the tokens spell, verified.
-#[tactic(auto, using(crate::proofs::sections::Told::may_tell, crate::proofs::sections::Ways::then_second))]
+#[tactic(auto, using(crate::proofs::sections::Ways::second_steps))]
 fn schedule_of_tokens(
     alloc: Global,
     checked: &Checked,
@@ -83,7 +83,7 @@ fn few_passes(checked: &Checked, scanned: &Scanned, schedule: &Schedule)
 {}
 
 /// The schedule, where it is ordered.
-#[tactic(auto, using(crate::proofs::sections::ToldSchedules::schedule_handed, crate::proofs::sections::ToldSchedules::same_schedule, crate::proofs::sections::ToldSchedules::schedule_told, crate::proofs::sections::ToldSchedules::no_fault, crate::proofs::sections::Ways::may_end))]
+#[tactic(auto, using(crate::proofs::sections::ScheduleEnds::schedule_steps))]
 fn verified(alloc: Global, checked: &Checked, schedule: Schedule) -> Result<Accepted, Undecided>
     requires computed { AreComputed (meant checked.now) (stages_of schedule) }
     requires small { IsSmall (stages_of schedule) }
@@ -115,7 +115,7 @@ fn is_ordered(checked: &Checked, accepted: &Accepted)
 }
 
 fn schedule_refused(alloc: Global, fault: &ScheduleFault) -> Undecided
-    ensures ends { Tells faults.OutOfMemory (λ f. answer.refused 6 (schedule_line f))
+    ensures ends { IsRefusalOf faults.OutOfMemory (λ f. answer.refused 6 (schedule_line f))
         fault.now result }
 {
     if let ScheduleFault::OutOfMemory = fault {

@@ -12,7 +12,7 @@ use Rattle.ftl_requests.specs.sections.Outcomes.{IsOutcome, answer_of}
 use Rattle.ftl_requests.specs.declared.sections.decision.Decided.{Decided}
 use Rattle.ftl_requests.specs.declared.sections.decision.Undecided.{Undecided}
 use Rattle.ftl_requests.specs.declared.sections.decision.Undecided.TheVariants.{OutOfMemory, Refused}
-use Rattle.ftl_requests.specs.requests.Asked.{EndsIn}
+use Rattle.ftl_requests.specs.requests.RulesAnswers.{EndsIn}
 use Rattle.ftl_requests.specs.requests.Requests.{IsAnsweredBy, problem_stage}
 use Rattle.ftl_requests.specs.requests.ShownTexts.{text_shown}
 use Rattle.ftl_run.specs.calls.SolvedPages.{LeadsTo, rules_stage}
@@ -79,11 +79,11 @@ pub rules_end : (p : Problem) (u : Undecided) → LeadsTo p.bytes.items (Err u) 
 rules_end p (Refused d) leads = leads (text_shown p.shown)
 rules_end p OutOfMemory leads = tt
 
-pub rules_told : (p : Problem) (r : Rules) (result : Result Decided Undecided) → LeadsTo p.bytes.items (Ok r)
+pub solved_rules : (p : Problem) (r : Rules) (result : Result Decided Undecided) → LeadsTo p.bytes.items (Ok r)
     → EndsIn (rules_stage r (text_shown p.shown)) result → EndsIn (problem_stage p) result
-rules_told p r (Ok d) leads may = leads (text_shown p.shown) (ends (answer_of d)) may
-rules_told p r (Err (Refused d)) leads may = leads (text_shown p.shown) (ends (answer_of d)) may
-rules_told p r (Err OutOfMemory) leads may = tt
+solved_rules p r (Ok d) leads may = leads (text_shown p.shown) (ends (answer_of d)) may
+solved_rules p r (Err (Refused d)) leads may = leads (text_shown p.shown) (ends (answer_of d)) may
+solved_rules p r (Err OutOfMemory) leads may = tt
 
 -- ---- the end
 

@@ -4,7 +4,7 @@ ghost use Rattle.std.specs.Prelude.{◌≡◌, ◌≤◌, None, string_bytes, st
 ghost use Rattle.ftl_answer.specs.answers.Answers.{shown_by};
 ghost use Rattle.ftl_deps.specs.reads.Meant.{meant};
 ghost use Rattle.ftl_limits.specs.faults.PlanFaults.{first_fault};
-ghost use Rattle.ftl_requests.specs.requests.Asked.{EndsIn};
+ghost use Rattle.ftl_requests.specs.requests.RulesAnswers.{EndsIn};
 ghost use Rattle.ftl_requests.specs.requests.Requests.{IsAnsweredBy, problem_stage};
 ghost use Rattle.ftl_requests.specs.requests.ShownTexts.{text_shown};
 ghost use Rattle.ftl_run.specs.calls.ShownTables.{IsSolvedBy};
@@ -14,13 +14,12 @@ ghost use Rattle.ftl_schedule.specs.stages.Stages.{stages_of};
 
 use crate::calls::shown::table_shown;
 use crate::calls::solving::{Rules, is_solved, plan_of, rules_of, text_of};
-use ftl_checked::grammars::Checked;
-use ftl_plan::plans::solve_alone;
-use ftl_requests::requests::{Problem, Request, Shown, Undone, ended};
-use ftl_requests::sections::{Decided, Undecided, tree_of};
-use ftl_schedule::check::Accepted;
-use ftl_tree::trees::Tree;
-use ftl_visit::compiled::compile;
+use ftl_checked::Checked;
+use ftl_plan::solve_alone;
+use ftl_requests::{Decided, Problem, Request, Shown, Undecided, Undone, ended, tree_of};
+use ftl_schedule::Accepted;
+use ftl_tree::Tree;
+use ftl_visit::compile;
 use std::alloc::{AllocError, Global};
 
 /// The answer to what is asked for, found on the calling thread.
@@ -32,22 +31,27 @@ pub(crate) fn answered_alone(
 {
     match requested? {
         Request::Answered(decided) => Ok(decided),
-        Request::Solve(problem) => Ok(ended(told_alone(alloc, problem))?),
+        Request::Solve(problem) => Ok(ended(solved_alone(alloc, problem))?),
     }
 }
 
 /// The table of a page, shown, or the page's refusal.
-fn told_alone(alloc: Global, problem: Problem) -> Result<Decided, Undecided>
+fn solved_alone(alloc: Global, problem: Problem) -> Result<Decided, Undecided>
     ensures outcome { EndsIn (problem_stage problem) result }
 {
     let Problem { shown, how, bytes } = problem;
     match rules_of(alloc, bytes) {
-        Ok(rules) => rules_told(alloc, &shown, how.grain, rules),
+        Ok(rules) => solved_rules(alloc, &shown, how.grain, rules),
         Err(end) => Err(end),
     }
 }
 
-fn rules_told(alloc: Global, shown: &Shown, grain: u32, rules: Rules) -> Result<Decided, Undecided>
+fn solved_rules(
+    alloc: Global,
+    shown: &Shown,
+    grain: u32,
+    rules: Rules,
+) -> Result<Decided, Undecided>
     requires ready { AreReady rules }
     ensures outcome { EndsIn (rules_stage rules (text_shown shown.now)) result }
 {
@@ -57,10 +61,10 @@ fn rules_told(alloc: Global, shown: &Shown, grain: u32, rules: Rules) -> Result<
         document,
     } = rules;
     let document = text_of(alloc, document);
-    document_told(alloc, shown, grain, &checked, &accepted, document)
+    solved_document(alloc, shown, grain, &checked, &accepted, document)
 }
 
-fn document_told(
+fn solved_document(
     alloc: Global,
     shown: &Shown,
     grain: u32,
@@ -74,12 +78,12 @@ fn document_told(
         (text_shown shown.now)) result }
 {
     match tree_of(alloc, checked, accepted, document) {
-        Ok(tree) => tree_told(alloc, shown, grain, checked, accepted, &tree),
+        Ok(tree) => solved_tree(alloc, shown, grain, checked, accepted, &tree),
         Err(end) => Err(end),
     }
 }
 
-fn tree_told(
+fn solved_tree(
     alloc: Global,
     shown: &Shown,
     grain: u32,

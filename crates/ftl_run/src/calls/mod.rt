@@ -10,5 +10,5 @@ mod shown;
 mod solving;
 mod workers;
 
-pub use ftl_requests::sections::Status;
+pub use ftl_requests::Status;
 pub use layout::{layout_alone, layout_top};

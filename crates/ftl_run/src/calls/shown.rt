@@ -10,11 +10,9 @@ ghost use Rattle.ftl_requests.specs.sections.Outcomes.{answer_of};
 ghost use Rattle.ftl_requests.specs.requests.ShownTexts.{text_shown};
 ghost use Rattle.ftl_run.specs.calls.ShownTables.{IsSolvedBy, text_by};
 
-use ftl_answer::summary::print_summary;
-use ftl_requests::requests::Shown;
-use ftl_requests::sections::{Decided, Status};
-use ftl_tree::boxes::{print_boxes, shows_overflow, words_are_undone};
-use ftl_tree::trees::Tree;
+use ftl_answer::print_summary;
+use ftl_requests::{Decided, Shown, Status};
+use ftl_tree::{Tree, print_boxes, shows_overflow, words_are_undone};
 use std::alloc::{AllocError, Global};
 
 /// The table of these words, shown.

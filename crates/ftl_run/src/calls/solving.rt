@@ -14,15 +14,15 @@ ghost use Rattle.ftl_requests.specs.sections.Outcomes.{IsOutcome};
 ghost use Rattle.ftl_items.specs.solution.Solution.{solution};
 ghost use Rattle.ftl_schedule.specs.stages.Stages.{stages_of};
 
-use ftl_checked::grammars::Checked;
-use ftl_items::solution::solution_solves;
-use ftl_order::orders::{reads_end_by_rank, values_are_in_range};
-use ftl_page::sections::{Need, Page, Text};
-use ftl_plan::plans::{Plan, PlanFault};
-use ftl_requests::sections::{Undecided, grammar_of, read_page, schedule_of};
-use ftl_schedule::check::Accepted;
-use ftl_tree::trees::Tree;
-use ftl_visit::compiled::Programs;
+use ftl_checked::Checked;
+use ftl_items::solution_solves;
+use ftl_order::{reads_end_by_rank, values_are_in_range};
+use ftl_page::{Need, Page, Text};
+use ftl_plan::{Plan, PlanFault};
+use ftl_requests::{Undecided, grammar_of, read_page, schedule_of};
+use ftl_schedule::Accepted;
+use ftl_tree::Tree;
+use ftl_visit::Programs;
 use std::alloc::{AllocError, Global};
 
 /// The sections that are needed.

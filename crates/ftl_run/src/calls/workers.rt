@@ -4,7 +4,7 @@ ghost use Rattle.std.specs.Prelude.{◌≡◌, ◌≤◌, None, string_bytes, st
 ghost use Rattle.ftl_answer.specs.answers.Answers.{shown_by};
 ghost use Rattle.ftl_deps.specs.reads.Meant.{meant};
 ghost use Rattle.ftl_limits.specs.faults.PlanFaults.{first_fault};
-ghost use Rattle.ftl_requests.specs.requests.Asked.{EndsIn};
+ghost use Rattle.ftl_requests.specs.requests.RulesAnswers.{EndsIn};
 ghost use Rattle.ftl_requests.specs.requests.Requests.{IsAnsweredBy, problem_stage};
 ghost use Rattle.ftl_requests.specs.requests.ShownTexts.{text_shown};
 ghost use Rattle.ftl_run.specs.calls.ShownTables.{IsSolvedBy};
@@ -15,14 +15,13 @@ ghost use Rattle.ftl_schedule.specs.stages.Stages.{stages_of};
 use crate::calls::shown::table_shown;
 use crate::calls::solving::{Rules, in_range, is_solved, plan_of, rules_of, text_of};
 use crate::solve::solve;
-use ftl_checked::grammars::Checked;
+use ftl_checked::Checked;
 use ftl_edge::Gate;
-use ftl_page::commands::Solving;
-use ftl_requests::requests::{Problem, Request, Shown, Undone, ended};
-use ftl_requests::sections::{Decided, Undecided, tree_of};
-use ftl_schedule::check::Accepted;
-use ftl_tree::trees::Tree;
-use ftl_visit::compiled::compile;
+use ftl_page::Solving;
+use ftl_requests::{Decided, Problem, Request, Shown, Undecided, Undone, ended, tree_of};
+use ftl_schedule::Accepted;
+use ftl_tree::Tree;
+use ftl_visit::compile;
 use std::alloc::{AllocError, Global};
 use std::sync::Wait;
 use std::thread::Threads;
@@ -40,12 +39,12 @@ pub(crate) fn answered_by_workers<R: Threads + Wait + Sync, G: Gate>(
 {
     match requested? {
         Request::Answered(decided) => Ok(decided),
-        Request::Solve(problem) => Ok(ended(told_by_workers(rt, alloc, problem, gate))?),
+        Request::Solve(problem) => Ok(ended(solved_by_workers(rt, alloc, problem, gate))?),
     }
 }
 
 /// The table of a page, shown, or the page's refusal.
-fn told_by_workers<R: Threads + Wait + Sync, G: Gate>(
+fn solved_by_workers<R: Threads + Wait + Sync, G: Gate>(
     rt: &R,
     alloc: Global,
     problem: Problem,
@@ -55,12 +54,12 @@ fn told_by_workers<R: Threads + Wait + Sync, G: Gate>(
 {
     let Problem { shown, how, bytes } = problem;
     match rules_of(alloc, bytes) {
-        Ok(rules) => rules_told(rt, alloc, &shown, how, rules, gate),
+        Ok(rules) => solved_rules(rt, alloc, &shown, how, rules, gate),
         Err(end) => Err(end),
     }
 }
 
-fn rules_told<R: Threads + Wait + Sync, G: Gate>(
+fn solved_rules<R: Threads + Wait + Sync, G: Gate>(
     rt: &R,
     alloc: Global,
     shown: &Shown,
@@ -77,10 +76,10 @@ fn rules_told<R: Threads + Wait + Sync, G: Gate>(
         document,
     } = rules;
     let document = text_of(alloc, document);
-    document_told(rt, alloc, shown, how, &checked, &accepted, document, gate)
+    solved_document(rt, alloc, shown, how, &checked, &accepted, document, gate)
 }
 
-fn document_told<R: Threads + Wait + Sync, G: Gate>(
+fn solved_document<R: Threads + Wait + Sync, G: Gate>(
     rt: &R,
     alloc: Global,
     shown: &Shown,
@@ -96,12 +95,12 @@ fn document_told<R: Threads + Wait + Sync, G: Gate>(
         (text_shown shown.now)) result }
 {
     match tree_of(alloc, checked, accepted, document) {
-        Ok(tree) => tree_told(rt, alloc, shown, how, checked, accepted, &tree, gate),
+        Ok(tree) => solved_tree(rt, alloc, shown, how, checked, accepted, &tree, gate),
         Err(end) => Err(end),
     }
 }
 
-fn tree_told<R: Threads + Wait + Sync, G: Gate>(
+fn solved_tree<R: Threads + Wait + Sync, G: Gate>(
     rt: &R,
     alloc: Global,
     shown: &Shown,

@@ -7,10 +7,9 @@ ghost use Rattle.ftl_items.specs.solution.Solution.{solution};
 ghost use Rattle.ftl_cells.specs.work_phases.Phases.{CanTake};
 ghost use Rattle.ftl_cells.specs.declared.work_phases.phase.Phases.{Phases};
 
-use ftl_cells::shared::{Cells, Work};
-use ftl_cells::work_phases::Phases;
+use ftl_cells::{Cells, Phases, Work};
 use ftl_edge::Gate;
-use ftl_plan::plans::{Plan, solve_alone};
+use ftl_plan::{Plan, solve_alone};
 use ftl_ranges::run_ranges;
 use ftl_steal::{run_alone, run_stage};
 use std::alloc::{AllocError, Global};

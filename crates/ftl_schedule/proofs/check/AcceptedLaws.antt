@@ -1,5 +1,7 @@
 -- What follows of a schedule without a fault.
-use Rattle.std.proofs.Common.{◌≡◌, ◌≢◌, [], None, Some, Option, Result, Ok, Err, refl, sym, ap, subst, ◌∙◌}
+use Rattle.std.proofs.Common.{◌≡◌, [], None, Some, Option, Result, Ok, Err, refl, ap, subst, ◌∙◌}
+use Rattle.std.specs.Option.{option_or}
+use Rattle.ftl_model.proofs.lists.FirstAlong.{neither}
 use Rattle.ftl_order.specs.orders.Lawful.{IsLawful}
 use Rattle.ftl_order.specs.orders.OrderLaws.{LegalOrderExists, OneListSolves, OneTableSolves, WritersStandBefore}
 use Rattle.ftl_order.specs.orders.Ordered.{IsOrdered}
@@ -10,14 +12,13 @@ use Rattle.ftl_meaning.specs.faults.Kinds.{HasKinds}
 use Rattle.ftl_meaning.proofs.lawful.Lawfulness.{faultless_lawful}
 use Rattle.ftl_deps.specs.reads.Meant.{meant}
 use Rattle.ftl_order.specs.orders.Schedule as order
-use Rattle.ftl_order.specs.orders.Schedule.{entries, spot_of}
+use Rattle.ftl_order.specs.orders.Schedule.{entries, placing_of}
 use Rattle.ftl_model.specs.layout.AttributeGrammar.{AttributeGrammar}
 use Rattle.ftl_schedule.specs.stages.Stages.{stages_of}
 use Rattle.ftl_schedule.specs.declared.stages.types.Schedule.{Schedule}
 use Rattle.ftl_schedule.specs.places.Placed.{verdict, without_twice}
-use Rattle.ftl_order.specs.faults.FirstFault.{first_fault, first_missing, first_twice, first_unordered, or_else}
+use Rattle.ftl_order.specs.faults.FirstFault.{first_fault, first_missing, first_twice, first_unordered}
 use Rattle.ftl_order.specs.declared.faults.fault.VerifyFault.{VerifyFault}
-use Rattle.ftl_order.proofs.faults.Along.{neither}
 use Rattle.ftl_order.proofs.faults.Entries.{stands_once}
 use Rattle.ftl_order.proofs.faults.Pairs.{pairs_ordered}
 use Rattle.ftl_schedule.specs.check.Accepted.{OnEachTree, later_fault, verified_as}
@@ -44,7 +45,7 @@ module _ (g : AttributeGrammar) (s p : Schedule) (placed : without_twice s ≡ O
   same_schedule = (from_ok (first_twice [] (entries (stages_of s))) s p placed).same
 
   first_fault_is : first_fault g (stages_of s) ≡ later_fault g (stages_of s)
-  first_fault_is = ap (λ o. or_else o (later_fault g (stages_of s))) first_twice_none
+  first_fault_is = ap (λ o. option_or o (later_fault g (stages_of s))) first_twice_none
 
   later_is : later_fault g (stages_of s) ≡ later_fault g (stages_of p)
   later_is = ap (λ (x : Schedule). later_fault g (stages_of x)) same_schedule
@@ -57,12 +58,12 @@ module _ (g : AttributeGrammar) (s p : Schedule) (placed : without_twice s ≡ O
 
   pub is_ordered : IsLawful g → later_fault g (stages_of p) ≡ None → IsOrdered g (stages_of p)
   is_ordered lawful e =
-      let both = neither (first_missing g (entries (stages_of p))) (first_unordered g (spot_of (stages_of p))) e in
+      let both = neither (first_missing g (entries (stages_of p))) (first_unordered g (placing_of (stages_of p))) e in
       record {
         once =
             stands_once g (stages_of p)
             (subst (λ (x : Schedule). first_twice [] (entries (stages_of x)) ≡ None) same_schedule first_twice_none) both.first;
-        pairs = pairs_ordered g (spot_of (stages_of p)) lawful both.later;
+        pairs = pairs_ordered g (placing_of (stages_of p)) lawful both.later;
       }
 
 pub lawful_of : (c : CheckedGrammar) → grammar.first_fault c.grammar ≡ None → HasKinds c.grammar → IsLawful (meant c)

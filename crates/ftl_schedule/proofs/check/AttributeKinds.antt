@@ -7,7 +7,6 @@ use Rattle.ftl_grammar.specs.declared.syntax.rules.Grammar.{Grammar}
 use Rattle.ftl_grammar.specs.declared.syntax.rules.Interface.{Interface}
 use Rattle.ftl_meaning.specs.faults.Checked.{all_attributes, declared}
 use Rattle.ftl_meaning.specs.faults.Numbering.{numbered, own_count, shared_count}
-pub use Rattle.ftl_deps.proofs.reads.AttrKinds.{kind_within, kind_past}
 
 module _ {X : Type 0} (attrs : X → List AttrDecl) (b : Bool) where
   declared_count : (n : ℕ) (xs : List X)

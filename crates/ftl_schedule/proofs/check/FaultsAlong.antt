@@ -1,23 +1,24 @@
 -- The first fault along a list, place by place.
-use Rattle.std.proofs.Common.{◌≡◌, ℕ, ◌+◌, ◌<◌, ◌≤◌, List, [], ◌∷◌, length, drop, get_or, arith, subst, Option, Some, None, add-one, sym, ◌∙◌, ap}
+use Rattle.std.proofs.Common.{◌≡◌, ℕ, ◌+◌, ◌<◌, ◌≤◌, List, ◌∷◌, length, drop, get_or, arith, subst, Option, Some, None, add-one, sym, ◌∙◌, ap}
 use Rattle.std.proofs.Math.Seq.{drop-cons}
 use Rattle.std.proofs.lemmas.List.{drop_all}
 use Rattle.std.specs.List.{enumerate_from, range_with_len}
 use Rattle.std.proofs.lemmas.List.FromFn.{get_or-enumerate_from, get_or-range_with_len, length-enumerate_from, length-range_with_len}
-use Rattle.ftl_order.specs.faults.FirstFault.{first_along, or_else}
+use Rattle.std.specs.Option.{option_or}
+use Rattle.ftl_model.specs.lists.FirstAlong.{first_along}
 use Rattle.ftl_order.specs.declared.faults.fault.VerifyFault.{VerifyFault}
 
 module _ {X : Type 0} (f : X → Option VerifyFault) (xs : List X) (i : ℕ) (d : X) (within : i < length xs) where
-  left_at : first_along f (drop i xs) ≡ or_else (f (get_or xs i d)) (first_along f (drop (i + 1) xs))
+  left_at : first_along f (drop i xs) ≡ option_or (f (get_or xs i d)) (first_along f (drop (i + 1) xs))
   left_at = ap (first_along f) (drop-cons xs i d within ∙ ap (λ n. get_or xs i d ∷ drop n xs) (sym (add-one i)))
 
   -- there is a fault at this place
   pub along_here : (x : VerifyFault) → f (get_or xs i d) ≡ Some x → first_along f (drop i xs) ≡ Some x
-  along_here x is = left_at ∙ ap (λ o. or_else o (first_along f (drop (i + 1) xs))) is
+  along_here x is = left_at ∙ ap (λ o. option_or o (first_along f (drop (i + 1) xs))) is
 
   -- there is none
   pub along_later : f (get_or xs i d) ≡ None → first_along f (drop i xs) ≡ first_along f (drop (i + 1) xs)
-  along_later is = left_at ∙ ap (λ o. or_else o (first_along f (drop (i + 1) xs))) is
+  along_later is = left_at ∙ ap (λ o. option_or o (first_along f (drop (i + 1) xs))) is
 
 -- none is left
 pub along_end : {X : Type 0} (f : X → Option VerifyFault) (xs : List X) (n : ℕ) → length xs ≤ n → first_along f (drop n xs) ≡ None
@@ -63,3 +64,6 @@ module _ {X : Type 0} (f : ℕ × X → Option VerifyFault) (xs : List X) (i : �
 
   pub numbered_end : length xs ≤ i → first_along f (drop i (enumerate_from 0 xs)) ≡ None
   numbered_end past = along_end f (enumerate_from 0 xs) i (subst (λ m. m ≤ i) (sym (length-enumerate_from 0 xs)) past)
+
+-- the steps of a loop over numbers
+pub ruleset number_steps = (number_here, number_later, numbers_end)

@@ -7,7 +7,7 @@ use Rattle.ftl_model.specs.layout.AttributeGrammar.{for_self, from_part, plain, 
 use Rattle.ftl_model.specs.layout.Solves.{rule_named}
 use Rattle.ftl_order.specs.orders.Lawful.{IsRule, class_of_rule}
 use Rattle.ftl_order.specs.orders.Ordered.{VisitPlace, visit_place}
-use Rattle.ftl_meaning.specs.faults.Checked.{CheckedGrammar, all_rules, rule_told}
+use Rattle.ftl_meaning.specs.faults.Checked.{CheckedGrammar, all_rules, rule_info_at}
 use Rattle.ftl_meaning.specs.declared.faults.info.RuleInfo.{RuleInfo}
 use Rattle.ftl_meaning.specs.faults.FirstFault.{first_fault}
 use Rattle.ftl_order.specs.dependencies.DepReads.{dep_read, dep_table, reads_of_parts, rule_reads}
@@ -16,8 +16,8 @@ use Rattle.ftl_order.specs.declared.dependencies.dep_read.DepRead.{DepRead}
 use Rattle.ftl_meaning.proofs.lawful.WithinLimits.{within_limits}
 use Rattle.ftl_deps.specs.reads.DepRows.{DepRows, dep_rows, reads_at, rule_writers, writer_at}
 use Rattle.ftl_deps.specs.reads.Meant.{meant}
-use Rattle.ftl_deps.specs.reads.Products.{told_child, told_name}
-use Rattle.ftl_deps.proofs.reads.RuleNumbers.{rules_long, told_at, told_rule}
+use Rattle.ftl_deps.specs.reads.Products.{name_of_child, name_of_info}
+use Rattle.ftl_deps.proofs.reads.RuleNumbers.{rules_long, info_is, info_rule}
 use Rattle.std.proofs.lemmas.List.Quantifiers.{position-Some}
 use Rattle.ftl_order.specs.dependencies.Writers.{is_writer}
 use Rattle.ftl_order.specs.orders.Schedule.{Placing}
@@ -27,6 +27,7 @@ use Rattle.ftl_order.specs.declared.faults.fault.VerifyFault.{VerifyFault}
 use Rattle.ftl_order.specs.declared.faults.fault.VerifyFault.TheVariants.{Unordered}
 use Rattle.ftl_schedule.specs.check.RuleAt.{read_at, rule_at}
 use Rattle.ftl_schedule.proofs.check.FirstWriters.{first_tells, late_writer}
+use Rattle.ftl_schedule.proofs.check.FaultsAlong.{numbered_here, numbered_later, numbered_end}
 
 -- how many rules there are
 pub rules_counted : (c : CheckedGrammar) → first_fault c.grammar ≡ None
@@ -49,7 +50,7 @@ module _ (c : CheckedGrammar) (none : first_fault c.grammar ≡ None) (n : ℕ) 
   known = subst (λ m. n < m) (rules_counted c none) within
 
   is_rule : IsRule (meant c) (rule_at (meant c) n)
-  is_rule = subst (IsRule (meant c)) (sym (told_at c none n within)) (told_rule c none n within)
+  is_rule = subst (IsRule (meant c)) (sym (info_is c none n within)) (info_rule c none n within)
 
   -- its reads are few
   pub few_reads : length (rule_reads (meant c) (rule_at (meant c) n)) ≤ 512
@@ -126,11 +127,14 @@ module _ (c : CheckedGrammar) (none : first_fault c.grammar ≡ None) (n : ℕ) 
             by true = refl
             by false = refl
 
-  -- what is told of it, and where it stands
-  module _ (i : RuleInfo) (told : i ≡ rule_told c.grammar n) where
-    named : visit_place (meant c) (told_child i.class i.attr i.child) ≡ visit_place (meant c) (rule_at (meant c) n)
-    named = ap (visit_place (meant c)) (ap told_name told ∙ sym (told_at c none n within))
+  -- what is known of it, and where it stands
+  module _ (i : RuleInfo) (told : i ≡ rule_info_at c.grammar n) where
+    named : visit_place (meant c) (name_of_child i.class i.attr i.child) ≡ visit_place (meant c) (rule_at (meant c) n)
+    named = ap (visit_place (meant c)) (ap name_of_info told ∙ sym (info_is c none n within))
 
     pub stands : (o : Option ℕ) → i.child ≡ o
-        → visit_place (meant c) (told_child i.class i.attr o) ≡ visit_place (meant c) (rule_at (meant c) n)
-    stands o is = ap (λ x. visit_place (meant c) (told_child i.class i.attr x)) (sym is) ∙ named
+        → visit_place (meant c) (name_of_child i.class i.attr o) ≡ visit_place (meant c) (rule_at (meant c) n)
+    stands o is = ap (λ x. visit_place (meant c) (name_of_child i.class i.attr x)) (sym is) ∙ named
+
+-- the steps of a loop over all rules
+pub ruleset rule_steps = (numbered_here, numbered_later, numbered_end, rules_counted)

@@ -52,3 +52,6 @@ are_below n (x ∷ xs) each = (each x (here_in x xs), are_below n xs (λ a there
 pub entries_below : (s : Schedule) (n : ℕ) → ((a : ℕ) → Contains (entries (stages_of s)) a → a < n)
     → AreBelow n (attributes_of (all_entries s))
 entries_below s n each = subst (AreBelow n) (sym (attributes_of_entries s)) (are_below n (entries (stages_of s)) each)
+
+-- the attributes of the entries
+pub ruleset entry_steps = (attributes_of_entries, entries_below)

@@ -1,12 +1,11 @@
 -- The names of an attribute stand for it again, in a grammar without a fault.
 use Rattle.std.proofs.Common.{◌≡◌, ◌≢◌, ℕ, zero, suc, ◌+◌, ◌-◌, ◌<◌, ◌≤◌, Bool, true, false, not, cond, nat_lt, refl, sym, ◌∙◌, ap, ap₂, subst, arith, List, [], ◌∷◌, ◌++◌, length, get_or, map, take, Contains, Option, Some, None, Result, Ok}
-use Rattle.std.specs.List.{All, AllByRecursion, position_or_len}
-use Rattle.std.specs.Option.{option_and_then, option_map, option_or}
+use Rattle.std.specs.List.{All, position_or_len}
+use Rattle.std.specs.Option.{option_and_then, option_or}
 use Rattle.std.specs.Str.{bytes_eq}
 use Rattle.std.proofs.lemmas.Bool.{lt-ltb}
 use Rattle.std.proofs.lemmas.List.{get_or-map, get_or_past, length-map, map-append}
 use Rattle.std.proofs.lemmas.List.Elements.{All-contains, Contains-get_or}
-use Rattle.std.proofs.lemmas.Option.{none-some}
 use Rattle.ftl_model.specs.lists.Lists.{AreDistinct}
 use Rattle.ftl_model.proofs.lists.Elements.{distinct_apart, distinct_left, distinct_right, here_in, later_in}
 use Rattle.ftl_model.proofs.lists.Rising.{map_has}
@@ -20,19 +19,16 @@ use Rattle.ftl_grammar.specs.declared.syntax.rules.Class.{Class}
 use Rattle.ftl_grammar.specs.declared.syntax.rules.Grammar.{Grammar}
 use Rattle.ftl_grammar.specs.declared.syntax.rules.Interface.{Interface}
 use Rattle.ftl_meaning.specs.faults.Checked.{Declared, all_attributes, attribute_at, attribute_named, class_named, is_own_computed, is_shared_computed, local_named, number_if, owner_name_of, shared_named}
-use Rattle.ftl_meaning.specs.faults.FirstFault.{attribute_names, class_fault, fault_if, first_fault, first_of, interfaces_named, name_fault, root_inherits, second_name, twice_among, twice_in_class, twice_in_interface, unknown_among}
-use Rattle.ftl_meaning.specs.faults.FirstFault as grammars
-use Rattle.ftl_meaning.specs.faults.Numbering.{children_of, class_at, class_attributes, class_names, find_attribute, interface_at, interface_names, interface_number, interface_of, is_among, numbered, own_attributes, own_count, shared_attributes, shared_count}
-use Rattle.ftl_meaning.specs.declared.faults.fault.GrammarFault.{GrammarFault}
-use Rattle.ftl_meaning.specs.declared.faults.fault.GrammarFault.TheVariants as fault
+use Rattle.ftl_meaning.specs.faults.FirstFault.{attribute_names, first_fault, twice_among, twice_in_interface}
+use Rattle.ftl_meaning.specs.faults.Numbering.{children_of, class_at, class_attributes, class_names, find_attribute, interface_at, interface_names, interface_number, interface_of, numbered, own_attributes, own_count, shared_attributes, shared_count}
 use Rattle.ftl_checked.proofs.lookup.AttrInfos.{attribute_count_is}
 use Rattle.ftl_meaning.specs.grammars.GrammarOf.{grammar_of, sort_of}
 use Rattle.ftl_meaning.specs.faults.Kinds.{HasKinds, IsOwnKind, IsSharedKind}
 use Rattle.ftl_meaning.proofs.lawful.NoFault.{none_in, none_of}
-use Rattle.ftl_meaning.proofs.lawful.Numbers.{numbered_has}
 use Rattle.ftl_deps.proofs.reads.AttrKinds.{kind_within}
 use Rattle.ftl_schedule.proofs.printing.Known.{entry_of_pass}
-use Rattle.ftl_schedule.proofs.printing.DistinctNames.{distinct_names, name_itself, names_differ}
+use Rattle.ftl_meaning.proofs.names.NameFaults.{HasNoNameFault, no_name_fault, once, once_in_class}
+use Rattle.ftl_meaning.proofs.names.Names.{name_itself, names_differ}
 use Rattle.ftl_order.specs.orders.Schedule.{entries}
 use Rattle.ftl_schedule.specs.stages.Stages.{stages_of}
 use Rattle.ftl_schedule.specs.declared.stages.types.Pass.{Pass}
@@ -91,13 +87,6 @@ names_of_numbered : (n : ℕ) (xs : List AttrDecl) → map (λ a. a.1.name) (num
 names_of_numbered n [] = refl
 names_of_numbered n (x ∷ xs) = ap (λ ns. x.name ∷ ns) (names_of_numbered (suc n) xs)
 
-none_told : (o : Option NameText) → option_map fault.TwiceNamed o ≡ None → o ≡ None
-none_told None h = refl
-none_told (Some x) h = absurd (none-some (fault.TwiceNamed x) (sym h))
-
-once : (ns : List NameText) → twice_among ns ≡ None → AreDistinct ns
-once ns h = (distinct_names [] ns (none_told (second_name [] ns) h)).0
-
 -- ---- kinds
 
 shared_kind : (k : AttrKind) → IsSharedKind k → sort_of k ≢ model.input → is_shared_computed k ≡ true
@@ -124,36 +113,17 @@ abbrev no_attribute : AttrDecl
 no_attribute = trees.attr_decl kinds.Inh []
 
 module _ (g : Grammar) (none : first_fault g ≡ None) (has_kinds : HasKinds g) where
-  abbrev name_faults : List (Option GrammarFault)
-  name_faults =
-      twice_among (interface_names g ++ class_names g)
-      ∷ fault_if (not (is_among (interface_names g) g.root)) (fault.RootMissing g.root)
-      ∷ first_of (λ x. unknown_among (attribute_names x.attrs) x.shown) g.interfaces
-      ∷ first_of (λ x. unknown_among (interface_names g) (interfaces_named x)) g.classes
-      ∷ first_of twice_in_interface g.interfaces
-      ∷ first_of (λ k. twice_in_class g k.0) (numbered 0 g.classes)
-      ∷ fault_if (root_inherits g) (fault.RootInherits g.root)
-      ∷ []
-
-  each_name : AllByRecursion (λ x. x ≡ None) name_faults
-  each_name =
-      none_in name_faults
-      (none_in (grammars.limit_fault g ∷ name_fault g ∷ first_of (λ k. class_fault g k.0) (numbered 0 g.classes) ∷ []) none).1.0
+  names : HasNoNameFault g
+  names = no_name_fault g none
 
   all_differ : AreDistinct (interface_names g ++ class_names g)
-  all_differ = once (interface_names g ++ class_names g) each_name.0
+  all_differ = once (interface_names g ++ class_names g) names.declared_once
 
   shared_differ : (i : ℕ) → i < length g.interfaces → AreDistinct (attribute_names (interface_at g i).attrs)
   shared_differ i below =
       let x = interface_at g i in
-      let h = none_of twice_in_interface g.interfaces each_name.1.1.1.1.0 x (Contains-get_or g.interfaces i (trees.interface [] [] []) below) in
+      let h = none_of twice_in_interface g.interfaces names.interface_once x (Contains-get_or g.interfaces i (trees.interface [] [] []) below) in
       once (attribute_names x.attrs) (none_in (twice_among (attribute_names x.attrs) ∷ twice_among x.shown ∷ []) h).0
-
-  once_in_class : (k : ℕ) → k < length g.classes → twice_in_class g k ≡ None
-  once_in_class k known =
-      subst (λ m. twice_in_class g m ≡ None) (let z : 0 + k ≡ k = omega arith in z)
-      (none_of (λ p. twice_in_class g p.0) (numbered 0 g.classes) each_name.1.1.1.1.1.0
-      (0 + k, class_at g k) (numbered_has 0 g.classes k (trees.class [] [] [] [] []) known))
 
   own_differ : (k : ℕ) → k < length g.classes → AreDistinct (attribute_names (class_at g k).attrs)
   own_differ k below =
@@ -161,7 +131,7 @@ module _ (g : Grammar) (none : first_fault g ≡ None) (has_kinds : HasKinds g) 
       let own = map (λ a. a.1.name) (own_attributes g k) in
       let attributes = map (λ a. a.1.name) (class_attributes g k) in
       let children = map (λ c. c.1.name) (children_of g k) in
-      let all = distinct_left attributes children (once (attributes ++ children) (once_in_class k below)) in
+      let all = distinct_left attributes children (once (attributes ++ children) (once_in_class g none k below)) in
       subst AreDistinct (names_of_numbered (shared_count g.interfaces + own_count (take k g.classes)) (class_at g k).attrs)
       (distinct_right shared own
       (subst AreDistinct (map-append (λ a. a.1.name) (shared_attributes g (interface_of g k)) (own_attributes g k)) all))

@@ -11,7 +11,7 @@ use Rattle.ftl_schedule.specs.syntax.Reading.{attribute, more_attribute_by, more
 use Rattle.ftl_schedule.specs.syntax.Reading.{more_pass_by, more_pass, stage, more_stage_by, more_stage, stages}
 use Rattle.ftl_schedule.specs.syntax.Reading.{schedule_by, schedule}
 use Rattle.ftl_schedule.proofs.syntax.KindWords.{kind_is_token}
-use Rattle.ftl_schedule.proofs.syntax.Told.{more_attribute_told, more_pass_told, more_stage_told}
+use Rattle.ftl_schedule.proofs.syntax.SchedulePrefix.{more_attribute_prefix, more_pass_prefix, more_stage_prefix}
 use Rattle.ftl_schedule.proofs.syntax.Went.{no_peak, some_attribute, some_pass, some_stage}
 
 attribute_alike : Alike no_peak 1 1 attribute attribute
@@ -30,7 +30,7 @@ more_attribute_alike = look_alike more_attribute_by more_attribute_by each
 
 some_attributes : TakesSome more_attribute
 unfolding more_attribute next_kind
-some_attributes = takes_some more_attribute_told (λ a x s. some_attribute s) refl
+some_attributes = takes_some more_attribute_prefix (λ a x s. some_attribute s) refl
 
 pass_alike : Alike no_peak 1 1 pass pass
 unfolding pass
@@ -50,7 +50,7 @@ more_pass_alike = look_alike more_pass_by more_pass_by each
 
 some_passes : TakesSome more_pass
 unfolding more_pass next_kind
-some_passes = takes_some more_pass_told (λ a x s. some_pass s) refl
+some_passes = takes_some more_pass_prefix (λ a x s. some_pass s) refl
 
 stage_alike : Alike no_peak 1 1 stage stage
 unfolding stage
@@ -68,7 +68,7 @@ more_stage_alike = look_alike more_stage_by more_stage_by each
 
 some_stages : TakesSome more_stage
 unfolding more_stage next_kind
-some_stages = takes_some more_stage_told (λ a x s. some_stage s) refl
+some_stages = takes_some more_stage_prefix (λ a x s. some_stage s) refl
 
 stages_alike : Alike no_peak 1 1 stages stages
 unfolding stages

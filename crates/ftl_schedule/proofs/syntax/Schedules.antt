@@ -5,7 +5,7 @@ use Rattle.ftl_tokens.specs.declared.scanner.kind.Kind.{Kind}
 use Rattle.ftl_tokens.specs.scanner.Tokenized.{Tokenized, symbols_of}
 use Rattle.ftl_tokens.specs.reading.Reader.{Tokens, ReadResult, next_kind, chain_of, push}
 use Rattle.ftl_tokens.specs.reading.Place.{place_of}
-use Rattle.ftl_tokens.proofs.reading.Told.{Taken, Tells, Grown}
+use Rattle.ftl_tokens.proofs.reading.KeptPrefix.{Taken, HasPrefix, Grown}
 use Rattle.ftl_tokens.proofs.reading.Went.{got}
 use Rattle.ftl_tokens.proofs.reading.Places.{Placed, none_spelled, longest_front, is_place}
 use Rattle.ftl_tokens.proofs.reading.WholeLists.{ReadsAll, bind_reads_all, end_reads_all, same_value}
@@ -15,7 +15,7 @@ use Rattle.ftl_schedule.specs.syntax.Trees.{written_schedule}
 use Rattle.ftl_schedule.specs.syntax.Spelling.{SpellsSchedule}
 use Rattle.ftl_schedule.specs.syntax.Reading.{stage, more_stage, stages, schedule_by, schedule}
 use Rattle.ftl_schedule.specs.syntax.Read.{IsNoSchedule}
-use Rattle.ftl_schedule.proofs.syntax.Told.{schedule_told}
+use Rattle.ftl_schedule.proofs.syntax.SchedulePrefix.{schedule_prefix}
 use Rattle.ftl_schedule.proofs.syntax.Went.{no_peak, schedule_went}
 use Rattle.ftl_schedule.proofs.syntax.OneAhead.{schedule_alike}
 
@@ -56,7 +56,7 @@ unfolding schedule
 is_spelled tokens left s e =
     let none_left = read_by (next_kind tokens) tokens left s refl e in
     let taken : Taken SpellsSchedule tokens s left =
-    subst (λ o. Tells SpellsSchedule o tokens) e (schedule_told.tells tokens) in
+    subst (λ o. HasPrefix SpellsSchedule o tokens) e (schedule_prefix.keeps tokens) in
     let whole : tokens ≡ taken.front = taken.split ∙ ap (λ l. taken.front ++ l) none_left ∙ append-nil taken.front in
     subst (λ l. SpellsSchedule l s) (sym whole) taken.spells
 
@@ -73,7 +73,7 @@ pub is_no_schedule : (scanned : Tokenized) (rest : Tokens) (left at : ℕ) → s
 is_no_schedule scanned rest left at e count place =
     let tokens = symbols_of scanned in
     let grown : Grown SpellsSchedule tokens rest =
-    subst (λ o. Tells SpellsSchedule o tokens) e (schedule_told.tells tokens) in
+    subst (λ o. HasPrefix SpellsSchedule o tokens) e (schedule_prefix.keeps tokens) in
     record {
       none = λ s spells. none_spelled placed tokens rest s (few tokens) e grown spells;
       place = is_place rest (longest_front placed tokens rest (few tokens) e grown) left count place;

@@ -7,7 +7,7 @@ use Rattle.ftl_tokens.specs.scanner.Tokenized.{name, fixed}
 use Rattle.ftl_tokens.specs.reading.Reader.{Tokens, Reader, ◌>>=◌, ◌>>◌, pure, next_kind, expect, take_name, at_end, push}
 use Rattle.ftl_tokens.specs.reading.Reader.{chain_of}
 use Rattle.ftl_tokens.proofs.reading.TokenLemmas.{token_by}
-use Rattle.ftl_tokens.proofs.reading.ChainTold.{Chain, chain_none, chain_more}
+use Rattle.ftl_tokens.proofs.reading.ChainPrefix.{Chain, chain_none, chain_more}
 use Rattle.ftl_tokens.proofs.reading.Went.{got, Went, went_bind, went_map, went_pure, went_past, went_skip, went_name, went_by}
 use Rattle.ftl_tokens.proofs.reading.Went.{went_at}
 use Rattle.ftl_tokens.proofs.reading.ChainWent.{CompleteItem, chain_went}
@@ -25,7 +25,7 @@ use Rattle.ftl_schedule.specs.syntax.Reading.{take_kind, attribute, more_attribu
 use Rattle.ftl_schedule.specs.syntax.Reading.{more_pass_by, more_pass, stage, more_stage_by, more_stage, stages}
 use Rattle.ftl_schedule.specs.syntax.Reading.{schedule_by, schedule}
 use Rattle.ftl_schedule.proofs.syntax.KindWords.{takes_kind-same, kind_is_token}
-use Rattle.ftl_schedule.proofs.syntax.Told.{MorePass, more_pass_of, MoreStage, more_stage_of}
+use Rattle.ftl_schedule.proofs.syntax.SchedulePrefix.{MorePass, more_pass_of, MoreStage, more_stage_of}
 
 -- no bracket is counted
 abbrev pub no_peak : Tokens → ℕ

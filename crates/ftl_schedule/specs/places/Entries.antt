@@ -1,4 +1,4 @@
--- The entries of a schedule in the order of the text, each with its spot.
+-- The entries of a schedule in the order of the text, each with its place.
 use Rattle.std.specs.Prelude.{◌==◌, ℕ, ◌+◌, List, [], ◌∷◌, ◌++◌, map, if◌then◌else◌, Option, Some, None}
 use Rattle.ftl_order.specs.orders.Schedule as order
 use Rattle.ftl_schedule.specs.declared.syntax.kind.PassKind.{PassKind}
@@ -7,16 +7,16 @@ use Rattle.ftl_schedule.specs.declared.stages.types.Pass.{Pass}
 use Rattle.ftl_schedule.specs.declared.stages.types.Stage.{Stage}
 use Rattle.ftl_schedule.specs.declared.stages.types.Schedule.{Schedule}
 use Rattle.ftl_schedule.specs.declared.places.entries.Entry.{Entry}
-use Rattle.ftl_schedule.specs.declared.places.spot.Spot.{Spot}
+use Rattle.ftl_schedule.specs.declared.places.schedule_place.SchedulePlace.{SchedulePlace}
 
--- the spot of `ftl_order::orders` that a spot stands for
-abbrev pub spot_told : Spot → order.Spot
-spot_told x = record { stage = x.stage; pass = x.pass; kind = kind_of x.kind; index = x.index }
+-- the place of `ftl_order::orders` that a place stands for
+abbrev pub schedule_place_meant : SchedulePlace → order.SchedulePlace
+schedule_place_meant x = record { stage = x.stage; pass = x.pass; kind = kind_of x.kind; index = x.index }
 
--- an attribute at a spot
+-- an attribute at a place
 abbrev pub entry : (stage pass : ℕ) → PassKind → (index attribute : ℕ) → Entry
 entry stage pass kind index a =
-    record { attr = a; spot = record { stage = stage; pass = pass; kind = kind; index = index } }
+    record { attr = a; schedule_place = record { stage = stage; pass = pass; kind = kind; index = index } }
 
 -- the entries of a pass, from this place on
 abbrev pub entries_from : (stage pass : ℕ) → PassKind → (index : ℕ) → List ℕ → List Entry
@@ -46,10 +46,10 @@ stages_from n (stage ∷ stages) = entries_of_stage n stage.passes ++ stages_fro
 abbrev pub all_entries : Schedule → List Entry
 all_entries s = stages_from 0 s.stages
 
--- the spot of the first entry of an attribute; none where it has none
-abbrev pub entry_of : List Entry → (attribute : ℕ) → Option Spot
+-- the place of the first entry of an attribute; none where it has none
+abbrev pub entry_of : List Entry → (attribute : ℕ) → Option SchedulePlace
 entry_of [] a = None
-entry_of (e ∷ more) a = if a == e.attr then Some e.spot else entry_of more a
+entry_of (e ∷ more) a = if a == e.attr then Some e.schedule_place else entry_of more a
 
 -- the attributes of entries
 abbrev pub attributes_of : List Entry → List ℕ

@@ -7,7 +7,7 @@ use Rattle.ftl_schedule.specs.stages.Stages.{stages_of}
 use Rattle.ftl_schedule.specs.declared.stages.types.Schedule.{Schedule}
 use Rattle.ftl_schedule.specs.places.Entries.{all_entries, entry_of}
 use Rattle.ftl_schedule.specs.declared.places.entries.Entry.{Entry}
-use Rattle.ftl_schedule.specs.declared.places.spot.Spot.{Spot}
+use Rattle.ftl_schedule.specs.declared.places.schedule_place.SchedulePlace.{SchedulePlace}
 
 -- the schedule, or its fault where it has one
 abbrev pub verdict : Option VerifyFault → Schedule → Result Schedule VerifyFault
@@ -23,11 +23,11 @@ abbrev pub AreBelow : ℕ → List ℕ → Type 0
 AreBelow n [] = Unit {0}
 AreBelow n (a ∷ more) = (a < n) × AreBelow n more
 
--- each attribute has the spot of its first entry among these
-abbrev pub HasSpots : List Entry → List (Option Spot) → Type 0
-HasSpots these spots = (a : ℕ) → slice_index_or spots a None ≡ entry_of these a
+-- each attribute has the place of its first entry among these
+abbrev pub HasPlaces : List Entry → List (Option SchedulePlace) → Type 0
+HasPlaces these places = (a : ℕ) → slice_index_or places a None ≡ entry_of these a
 
--- no attribute has two entries, and each has the spot of its entry
-pub record IsPlaced (s : Schedule) (spots : List (Option Spot)) : Type 0 where
+-- no attribute has two entries, and each has the place of its entry
+pub record IsPlaced (s : Schedule) (places : List (Option SchedulePlace)) : Type 0 where
   pub once : first_twice [] (entries (stages_of s)) ≡ None
-  pub found : HasSpots (all_entries s) spots
+  pub found : HasPlaces (all_entries s) places

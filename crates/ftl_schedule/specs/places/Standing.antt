@@ -7,8 +7,8 @@ use Rattle.ftl_order.specs.faults.OrderedReads.{in_pass_by, is_one_pass}
 use Rattle.ftl_schedule.specs.declared.places.standing.Standing.{Standing}
 
 -- the place that a rule has in the visit of a node
-abbrev pub place_told : Standing → VisitPlace
-place_told x = record { attribute = x.attr; block = x.block; child = x.child }
+abbrev pub visit_place_meant : Standing → VisitPlace
+visit_place_meant x = record { attribute = x.attr; block = x.block; child = x.child }
 
 -- whether the writer x of what is read stands in an earlier stage than the reader y, or earlier in the same pass
 abbrev pub is_ordered_at : Placing → DepRead → (x y : VisitPlace) → Bool

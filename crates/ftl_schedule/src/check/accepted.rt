@@ -1,15 +1,15 @@
 //! Schedules that were accepted.
 
 ghost use Rattle.std.specs.Prelude.{◌≡◌};
-ghost use Rattle.ftl_order.specs.orders.Schedule.{spot_of};
+ghost use Rattle.ftl_order.specs.orders.Schedule.{placing_of};
 ghost use Rattle.ftl_schedule.specs.stages.Stages.{stages_of};
-ghost use Rattle.ftl_schedule.specs.places.Entries.{spot_told};
+ghost use Rattle.ftl_schedule.specs.places.Entries.{schedule_place_meant};
 
-use crate::places::{Placed, Spot};
+use crate::places::{Placed, SchedulePlace};
 use crate::stages::Schedule;
 use std::marker::Model;
 
-/// A schedule that was accepted, with the spot of each attribute. Contracts see the schedule.
+/// A schedule that was accepted, with the place of each attribute. Contracts see the schedule.
 #[derive(Drop)]
 pub struct Accepted {
     placed: Placed,
@@ -37,9 +37,10 @@ impl Accepted {
     }
 
     /// Where the attribute stands. An input stands in a stage past the last.
-    pub fn spot(&self, attr: u32) -> Spot
-        ensures spot { spot_told result ≡ spot_of (stages_of self.now) attr }
+    pub fn schedule_place(&self, attr: u32) -> SchedulePlace
+        ensures schedule_place { schedule_place_meant result
+            ≡ placing_of (stages_of self.now) attr }
     {
-        self.placed.spot(attr)
+        self.placed.schedule_place(attr)
     }
 }

@@ -17,9 +17,9 @@ use crate::check::missing::first_missing;
 use crate::check::unordered::first_unordered;
 use crate::places::Placed;
 use crate::stages::Schedule;
-use ftl_checked::grammars::Checked;
-use ftl_deps::reads::DepTable;
-use ftl_order::faults::VerifyFault;
+use ftl_checked::Checked;
+use ftl_deps::DepTable;
+use ftl_order::VerifyFault;
 use std::alloc::Global;
 
 /// The schedule as one that is accepted, or its first fault.
@@ -33,10 +33,14 @@ pub fn verify(
     requires computed { AreComputed (meant checked.now) (stages_of schedule) }
     ensures exact { Gives OutOfMemory (λ a. a) result (verified_as (meant checked.now) schedule) }
     // what an accepted schedule gives
-    ensures one_table { IfOk result (λ a. OnEachTree (meant checked.now) (stages_of a) OneTableSolves) }
-    ensures one_list { IfOk result (λ a. OnEachTree (meant checked.now) (stages_of a) OneListSolves) }
-    ensures legal_order { IfOk result (λ a. OnEachTree (meant checked.now) (stages_of a) LegalOrderExists) }
-    ensures writers_before { IfOk result (λ a. OnEachTree (meant checked.now) (stages_of a) WritersStandBefore) }
+    ensures one_table { IfOk result
+        (λ a. OnEachTree (meant checked.now) (stages_of a) OneTableSolves) }
+    ensures one_list { IfOk result
+        (λ a. OnEachTree (meant checked.now) (stages_of a) OneListSolves) }
+    ensures legal_order { IfOk result
+        (λ a. OnEachTree (meant checked.now) (stages_of a) LegalOrderExists) }
+    ensures writers_before { IfOk result
+        (λ a. OnEachTree (meant checked.now) (stages_of a) WritersStandBefore) }
 {
     let _ = checked.grammar();
     let placed = Placed::new(alloc, attribute_count(checked), schedule)?;

@@ -6,8 +6,8 @@ ghost use Rattle.ftl_order.specs.orders.Ordered.{block_of};
 ghost use Rattle.ftl_deps.specs.reads.Meant.{meant};
 ghost use Rattle.ftl_meaning.specs.grammars.GrammarOf.{declaration_at};
 
-use ftl_checked::grammars::Checked;
-use ftl_grammar::syntax::AttrKind;
+use ftl_checked::Checked;
+use ftl_grammar::AttrKind;
 
 /// How many attributes the grammar has.
 #[tactic(auto, using(crate::proofs::check::AttributeKinds::attribute_count_is))]
@@ -39,7 +39,7 @@ pub(crate) fn block_of(checked: &Checked, attr: u32) -> u32
 }
 
 /// The kind of an attribute; past the end that of an input.
-#[tactic(auto, using(crate::proofs::check::AttributeKinds::kind_within, crate::proofs::check::AttributeKinds::kind_past))]
+#[tactic(auto, using(ftl_deps::proofs::reads::AttrKinds::kind_steps))]
 fn kind_of(checked: &Checked, attr: u32) -> AttrKind
     ensures kind { result ≡ (declaration_at checked.now.grammar attr).kind }
 {

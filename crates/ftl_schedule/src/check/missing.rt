@@ -8,11 +8,11 @@ ghost use Rattle.ftl_deps.specs.reads.Meant.{meant};
 
 use crate::check::kinds::{attribute_count, is_input};
 use crate::places::Placed;
-use ftl_checked::grammars::Checked;
-use ftl_order::faults::VerifyFault;
+use ftl_checked::Checked;
+use ftl_order::VerifyFault;
 
 /// The first computed attribute by number that has no entry.
-#[tactic(auto, using(crate::proofs::check::FaultsAlong::number_here, crate::proofs::check::FaultsAlong::number_later, crate::proofs::check::FaultsAlong::numbers_end))]
+#[tactic(auto, using(crate::proofs::check::FaultsAlong::number_steps))]
 pub(crate) fn first_missing(checked: &Checked, placed: &Placed) -> Option<VerifyFault>
     ensures fault { result ≡ first_missing (meant checked.now) (entries (stages_of placed.now)) }
 {

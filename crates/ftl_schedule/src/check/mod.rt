@@ -1,6 +1,6 @@
 //! Schedules that are accepted. Goes in: a grammar that `ftl_checked::grammars` accepted, what its
 //! rules read, and a schedule of its computed attributes. Comes out: `Accepted`, the schedule with
-//! the spot of each attribute, or its first fault, which `specs/FirstFault.antt` of
+//! the place of each attribute, or its first fault, which `specs/FirstFault.antt` of
 //! `ftl_order::faults` defines. `specs/check/Accepted.antt` says what follows for the trees of the
 //! grammar.
 
@@ -10,9 +10,9 @@ mod kinds;
 mod missing;
 mod unordered;
 
-pub use crate::places::Spot;
+pub use crate::places::SchedulePlace;
 pub use accepted::Accepted;
 pub use check::verify;
-pub use ftl_order::faults::VerifyFault;
+pub use ftl_order::VerifyFault;
 pub use kinds::{attribute_count, is_input};
 pub use unordered::{read_count, read_of, standing};

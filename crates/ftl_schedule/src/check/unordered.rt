@@ -2,7 +2,7 @@
 
 ghost use Rattle.std.specs.Prelude.{◌≡◌, ◌<◌, length, if◌then◌else◌, None, Some};
 ghost use Rattle.ftl_order.specs.orders.Ordered.{visit_place};
-ghost use Rattle.ftl_order.specs.orders.Schedule.{spot_of};
+ghost use Rattle.ftl_order.specs.orders.Schedule.{placing_of};
 ghost use Rattle.ftl_schedule.specs.stages.Stages.{stages_of};
 ghost use Rattle.ftl_meaning.specs.faults.Checked.{all_rules};
 ghost use Rattle.ftl_order.specs.dependencies.DepReads.{rule_reads};
@@ -12,19 +12,18 @@ ghost use Rattle.ftl_order.specs.faults.FirstFault.{fault_by, first_unordered, r
 ghost use Rattle.ftl_order.specs.faults.FirstFault.{unordered_writer};
 ghost use Rattle.ftl_order.specs.faults.OrderedReads.{is_ordered_read};
 ghost use Rattle.ftl_order.specs.declared.faults.fault.VerifyFault.TheVariants as fault;
-ghost use Rattle.ftl_schedule.specs.places.Standing.{place_told};
+ghost use Rattle.ftl_schedule.specs.places.Standing.{visit_place_meant};
 ghost use Rattle.ftl_schedule.specs.check.RuleAt.{read_at, rule_at};
 
 use crate::check::kinds::block_of;
 use crate::places::{Placed, Standing};
-use ftl_checked::grammars::Checked;
-use ftl_deps::reads::DepTable;
-use ftl_order::dependencies::DepRead;
-use ftl_order::faults::VerifyFault;
+use ftl_checked::Checked;
+use ftl_deps::DepTable;
+use ftl_order::{DepRead, VerifyFault};
 
 /// The first read by number of the rule and in the order of its text whose writer the schedule
 /// doesn't have earlier.
-#[tactic(auto, using(crate::proofs::check::FaultsAlong::numbered_here, crate::proofs::check::FaultsAlong::numbered_later, crate::proofs::check::FaultsAlong::numbered_end, crate::proofs::check::RuleCount::rules_counted))]
+#[tactic(auto, using(crate::proofs::check::RuleCount::rule_steps))]
 pub(crate) fn first_unordered(
     checked: &Checked,
     deps: &DepTable,
@@ -32,7 +31,7 @@ pub(crate) fn first_unordered(
 ) -> Option<VerifyFault>
     requires table { deps.now ≡ dep_rows (meant checked.now) }
     ensures fault { result
-        ≡ first_unordered (meant checked.now) (spot_of (stages_of placed.now)) }
+        ≡ first_unordered (meant checked.now) (placing_of (stages_of placed.now)) }
 {
     let _ = checked.grammar();
     for rule in 0..checked.rule_count() {
@@ -52,7 +51,7 @@ fn reads_fault(
 ) -> Option<VerifyFault>
     requires table { deps.now ≡ dep_rows (meant checked.now) }
     requires within { rule < length (all_rules checked.now.grammar) }
-    ensures fault { result ≡ reads_fault (meant checked.now) (spot_of (stages_of placed.now))
+    ensures fault { result ≡ reads_fault (meant checked.now) (placing_of (stages_of placed.now))
         (rule, rule_at (meant checked.now) rule) }
 {
     let count = read_count(checked, deps, rule);
@@ -88,7 +87,7 @@ fn read_fault(
     requires place { place < length (rule_reads (meant checked.now)
         (rule_at (meant checked.now) rule)) }
     ensures fault { result ≡ fault_by rule (unordered_writer (meant checked.now)
-        (spot_of (stages_of placed.now)) (rule_at (meant checked.now) rule)
+        (placing_of (stages_of placed.now)) (rule_at (meant checked.now) rule)
         (read_at (rule_reads (meant checked.now) (rule_at (meant checked.now) rule)) place)) }
 {
     let _ = checked.grammar();
@@ -123,7 +122,7 @@ fn fault_of(
     requires writer { writer < length (all_rules checked.now.grammar) }
     requires reader { reader < length (all_rules checked.now.grammar) }
     ensures fault { result ≡ (if is_ordered_read (meant checked.now)
-        (spot_of (stages_of placed.now)) read (rule_at (meant checked.now) writer)
+        (placing_of (stages_of placed.now)) read (rule_at (meant checked.now) writer)
         (rule_at (meant checked.now) reader) then None else Some (fault.Unordered reader writer)) }
 {
     if placed.is_ordered(read, standing(checked, writer), standing(checked, reader)) {
@@ -136,7 +135,7 @@ fn fault_of(
 /// Where a rule stands in the visit of a node.
 pub fn standing(checked: &Checked, rule: u32) -> Standing
     requires within { rule < length (all_rules checked.now.grammar) }
-    ensures place { place_told result
+    ensures place { visit_place_meant result
         ≡ visit_place (meant checked.now) (rule_at (meant checked.now) rule) }
 {
     let _ = checked.grammar();

@@ -7,8 +7,8 @@ ghost use Rattle.ftl_schedule.specs.reading.Read.{Answers};
 ghost use Rattle.ftl_schedule.specs.stages.Stages.{stages_of};
 
 use crate::stages::Schedule;
-use ftl_checked::grammars::Checked;
-use ftl_tokens::scanner::Scanned;
+use ftl_checked::Checked;
+use ftl_tokens::Scanned;
 
 /// Says of a schedule that was read what its check asks for: its entries are computed attributes.
 pub fn computed_entries(checked: &Checked, scanned: &Scanned, schedule: &Schedule)

@@ -4,7 +4,7 @@
 
 mod laws;
 
-pub use crate::check::{Accepted, Spot, VerifyFault, verify};
+pub use crate::check::{Accepted, SchedulePlace, VerifyFault, verify};
 pub use crate::printing::{known_entries, print_schedule, printed_schedules};
 pub use crate::reading::{ScheduleFault, read_schedule};
 pub use crate::stages::{AttrList, Pass, PassKind, PassList, Schedule, Stage, StageList};

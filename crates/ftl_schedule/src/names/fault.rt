@@ -3,7 +3,7 @@
 ghost use Rattle.std.specs.Prelude.{◌≡◌};
 ghost use Rattle.ftl_schedule.specs.declared.names.fault.ScheduleFault.TheVariants as fault;
 
-use ftl_tokens::scanner::Name;
+use ftl_tokens::Name;
 use std::alloc::AllocError;
 
 /// Why a text is no schedule of a grammar. Places are counted in bytes, from 0.

@@ -8,7 +8,7 @@ ghost use Rattle.ftl_schedule.specs.declared.names.fault.ScheduleFault.TheVarian
 use crate::names::fault::ScheduleFault;
 use crate::stages::{AttrList, Pass, PassList, Schedule, Stage, StageList};
 use crate::syntax::{AttributeName, WrittenPass, WrittenSchedule, WrittenStage};
-use ftl_checked::grammars::Checked;
+use ftl_checked::Checked;
 use sqlite_items::Items;
 use std::alloc::Global;
 

@@ -3,7 +3,7 @@
 ghost use Rattle.std.specs.Prelude.{◌≡◌, ◌++◌, IfOk, OnOk};
 ghost use Rattle.ftl_schedule.specs.places.Entries.{all_entries, entries_of_pass, entries_of_stage};
 
-use crate::places::spot::Spot;
+use crate::places::schedule_place::SchedulePlace;
 use crate::stages::{Pass, PassKind, Schedule};
 use sqlite_items::Items;
 use std::alloc::{AllocError, Global};
@@ -12,7 +12,7 @@ use std::alloc::{AllocError, Global};
 #[derive(Clone, Copy, Debug, PartialEq, Eq)]
 pub struct Entry {
     pub attr: u32,
-    pub spot: Spot,
+    pub schedule_place: SchedulePlace,
 }
 
 /// The entries of all passes, in the order of the text.
@@ -48,7 +48,7 @@ fn pass_entries(
         ≡ found.old ++ entries_of_pass stage pass kind attrs.now) }
 {
     for index in 0..attrs.len() {
-        let spot = Spot {
+        let schedule_place = SchedulePlace {
             stage,
             pass,
             kind,
@@ -56,7 +56,7 @@ fn pass_entries(
         };
         found.push(Entry {
             attr: attrs[index],
-            spot,
+            schedule_place,
         })?;
     }
     Ok(())

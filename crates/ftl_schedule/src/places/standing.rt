@@ -1,16 +1,16 @@
 //! Whether the schedule has the writer of a read earlier than its reader.
 
 ghost use Rattle.std.specs.Prelude.{◌≡◌};
-ghost use Rattle.ftl_order.specs.orders.Schedule.{spot_of};
+ghost use Rattle.ftl_order.specs.orders.Schedule.{placing_of};
 ghost use Rattle.ftl_order.specs.faults.OrderedReads as spec;
 ghost use Rattle.ftl_schedule.specs.stages.Stages.{kind_of, stages_of};
-ghost use Rattle.ftl_schedule.specs.places.Entries.{spot_told};
-ghost use Rattle.ftl_schedule.specs.places.Standing.{is_ordered_at, place_told};
+ghost use Rattle.ftl_schedule.specs.places.Entries.{schedule_place_meant};
+ghost use Rattle.ftl_schedule.specs.places.Standing.{is_ordered_at, visit_place_meant};
 
 use crate::places::placed::Placed;
-use crate::places::spot::Spot;
+use crate::places::schedule_place::SchedulePlace;
 use crate::stages::PassKind;
-use ftl_order::dependencies::{DepRead, Form, Site};
+use ftl_order::{DepRead, Form, Site};
 
 /// Where a rule stands in the visit of a node.
 #[derive(Clone, Copy, Debug, PartialEq, Eq)]
@@ -26,18 +26,19 @@ pub struct Standing {
 impl Placed {
     /// Whether the writer of what is read stands in an earlier stage, or earlier in the same pass.
     pub fn is_ordered(&self, read: DepRead, writer: Standing, reader: Standing) -> bool
-        ensures ordered { result ≡ is_ordered_at (spot_of (stages_of self.now)) read
-            (place_told writer) (place_told reader) }
+        ensures ordered { result ≡ is_ordered_at (placing_of (stages_of self.now)) read
+            (visit_place_meant writer) (visit_place_meant reader) }
     {
-        let early = self.spot(writer.attr);
-        let late = self.spot(reader.attr);
+        let early = self.schedule_place(writer.attr);
+        let late = self.schedule_place(reader.attr);
         early.stage < late.stage
             || (is_one_pass(early, late) && self.in_pass(late.kind, read, writer, reader))
     }
 
     fn in_pass(&self, kind: PassKind, read: DepRead, writer: Standing, reader: Standing) -> bool
         ensures in_pass { result ≡ spec.in_pass_by read.site (kind_of kind)
-            (spot_of (stages_of self.now)) read (place_told writer) (place_told reader) }
+            (placing_of (stages_of self.now)) read
+            (visit_place_meant writer) (visit_place_meant reader) }
     {
         match read.site {
             Site::Input => true,
@@ -49,7 +50,7 @@ impl Placed {
 
     fn in_same_visit(&self, kind: PassKind, by_prev: bool, x: Standing, y: Standing) -> bool
         ensures in_visit { result ≡ spec.in_same_visit (kind_of kind)
-            (spot_of (stages_of self.now)) by_prev (place_told x) (place_told y) }
+            (placing_of (stages_of self.now)) by_prev (visit_place_meant x) (visit_place_meant y) }
     {
         match kind {
             PassKind::TopDown | PassKind::BottomUp => {
@@ -63,40 +64,44 @@ impl Placed {
     }
 
     fn has_smaller_key(&self, x: Standing, y: Standing) -> bool
-        ensures smaller { result ≡ spec.has_smaller_key (spot_of (stages_of self.now))
-            (place_told x) (place_told y) }
+        ensures smaller { result ≡ spec.has_smaller_key (placing_of (stages_of self.now))
+            (visit_place_meant x) (visit_place_meant y) }
     {
-        let early = self.spot(x.attr);
-        let late = self.spot(y.attr);
+        let early = self.schedule_place(x.attr);
+        let late = self.schedule_place(y.attr);
         early.index < late.index || (early.index == late.index && x.child < y.child)
     }
 }
 
-fn is_one_pass(x: Spot, y: Spot) -> bool
-    ensures one { result ≡ spec.is_one_pass (spot_told x) (spot_told y) }
+fn is_one_pass(x: SchedulePlace, y: SchedulePlace) -> bool
+    ensures one { result ≡ spec.is_one_pass (schedule_place_meant x) (schedule_place_meant y) }
 {
     x.stage == y.stage && x.pass == y.pass
 }
 
-fn is_same_rule(x: Standing, y: Standing) -> bool
-    ensures same { result ≡ spec.is_same_rule (place_told x) (place_told y) }
+/// Whether two rules are one: they are for one attribute, in one child.
+pub fn is_same_rule(x: Standing, y: Standing) -> bool
+    ensures same { result ≡ spec.is_same_rule (visit_place_meant x) (visit_place_meant y) }
 {
     x.attr == y.attr && x.child == y.child
 }
 
-fn has_earlier_block(x: Standing, y: Standing) -> bool
-    ensures earlier { result ≡ spec.has_earlier_block (place_told x) (place_told y) }
+/// Whether the block of the first comes before that of the second in the visit.
+pub fn has_earlier_block(x: Standing, y: Standing) -> bool
+    ensures earlier { result ≡ spec.has_earlier_block (visit_place_meant x) (visit_place_meant y) }
 {
     x.block < y.block || (x.block == y.block && x.child < y.child)
 }
 
-fn is_same_block(x: Standing, y: Standing) -> bool
-    ensures same { result ≡ spec.is_same_block (place_told x) (place_told y) }
+/// Whether the two stand in one block.
+pub fn is_same_block(x: Standing, y: Standing) -> bool
+    ensures same { result ≡ spec.is_same_block (visit_place_meant x) (visit_place_meant y) }
 {
     x.block == y.block && x.child == y.child
 }
 
-fn is_prev(form: Form) -> bool
+/// Whether the value of the kid before is read.
+pub fn is_prev(form: Form) -> bool
     ensures prev { result ≡ spec.is_prev form }
 {
     match form {
@@ -105,7 +110,8 @@ fn is_prev(form: Form) -> bool
     }
 }
 
-fn from_parent(kind: PassKind) -> bool
+/// Whether a pass of this kind has what is read of the parent earlier.
+pub fn from_parent(kind: PassKind) -> bool
     ensures above { result ≡ spec.from_parent (kind_of kind) }
 {
     match kind {
@@ -114,8 +120,9 @@ fn from_parent(kind: PassKind) -> bool
     }
 }
 
-fn from_kid(kind: PassKind, by_prev: bool, child: u32, reader: Standing) -> bool
-    ensures below { result ≡ spec.from_kid (kind_of kind) by_prev child (place_told reader) }
+/// Whether a pass of this kind has what is read of the kids in this child earlier.
+pub fn from_kid(kind: PassKind, by_prev: bool, child: u32, reader: Standing) -> bool
+    ensures below { result ≡ spec.from_kid (kind_of kind) by_prev child (visit_place_meant reader) }
 {
     match kind {
         PassKind::TopDown => false,

@@ -8,7 +8,7 @@ ghost use Rattle.ftl_schedule.specs.stages.Stages.{stages_of};
 
 use crate::stages::Schedule;
 use crate::text::canonical_schedules;
-use ftl_checked::grammars::Checked;
+use ftl_checked::Checked;
 
 /// A law: a schedule's canonical text is read as the schedule again.
 pub fn printed_schedules()

@@ -10,9 +10,8 @@ ghost use Rattle.ftl_tokens.specs.writing.Written.{text_of};
 
 use crate::stages::{Pass, Schedule, Stage};
 use crate::text::{write_attribute, write_close, write_open};
-use ftl_checked::grammars::Checked;
-use ftl_tokens::scanner::Kind;
-use ftl_tokens::writing::write_fixed;
+use ftl_checked::Checked;
+use ftl_tokens::{Kind, write_fixed};
 use std::alloc::{AllocError, Global};
 
 /// The canonical text of the schedule, its attributes by the names of their owners and their own.

@@ -10,9 +10,9 @@ use crate::names::{ScheduleFault, schedule_named};
 use crate::reading::limits::limit_fault;
 use crate::stages::Schedule;
 use crate::syntax::{WrittenFault, WrittenSchedule, read_written_schedule};
-use ftl_checked::grammars::Checked;
-use ftl_meaning::counts::counts_of_spelled_grammars;
-use ftl_tokens::scanner::Scanned;
+use ftl_checked::Checked;
+use ftl_meaning::counts_of_spelled_grammars;
+use ftl_tokens::Scanned;
 use std::alloc::Global;
 
 /// The schedule that the tokens of a text of at most 64 MiB spell, its attributes by number, or its

@@ -3,7 +3,7 @@
 ghost use Rattle.std.specs.Prelude.{◌≡◌, ℕ};
 ghost use Rattle.ftl_tokens.specs.scanner.Tokenized.{Tokenized};
 ghost use Rattle.ftl_tokens.specs.reading.Reader.{Tokens};
-ghost use Rattle.ftl_tokens.specs.reading.Place.{IsPlaceOf};
+ghost use Rattle.ftl_tokens.specs.reading.Place.{IsFaultPlace};
 ghost use Rattle.ftl_schedule.specs.syntax.Spelling.{SpellsSchedule};
 ghost use Rattle.ftl_schedule.specs.declared.syntax.types.WrittenSchedule.{WrittenSchedule};
 
@@ -15,6 +15,6 @@ pub fn one_written_schedule()
 
 /// A law: the tokens of a text go wrong at one byte at most.
 pub fn one_place()
-    ensures same { (scanned : Tokenized) (at other : ℕ) → IsPlaceOf SpellsSchedule scanned at
-        → IsPlaceOf SpellsSchedule scanned other → at ≡ other }
+    ensures same { (scanned : Tokenized) (at other : ℕ) → IsFaultPlace SpellsSchedule scanned at
+        → IsFaultPlace SpellsSchedule scanned other → at ≡ other }
 {}

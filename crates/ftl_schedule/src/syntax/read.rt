@@ -11,14 +11,13 @@ use crate::syntax::types::{
     AttributeName, AttributeNames, WrittenPass, WrittenPassList, WrittenSchedule, WrittenStage,
     WrittenStageList,
 };
-use ftl_tokens::reading::{Input, ReadFault, place};
-use ftl_tokens::scanner::{Kind, Scanned};
+use ftl_tokens::{Input, Kind, ReadFault, Scanned, place};
 use sqlite_items::Items;
 use std::alloc::Global;
 
 #[tactic(auto, unfolding(crate::specs::syntax::Reading::take_kind))]
 fn kind(input: &mut Input<'_>) -> Result<PassKind, ReadFault>
-    ensures { Reads (spec.take_kind input.old) result input.new }
+    ensures reads { Reads (spec.take_kind input.old) result input.new }
 {
     if input.take_name_of("topdown") {
         Ok(PassKind::TopDown)
@@ -33,7 +32,7 @@ fn kind(input: &mut Input<'_>) -> Result<PassKind, ReadFault>
 
 #[tactic(auto, unfolding(crate::specs::syntax::Reading::attribute))]
 fn attribute(alloc: Global, input: &mut Input<'_>) -> Result<AttributeName, ReadFault>
-    ensures { Reads (spec.attribute input.old) result input.new }
+    ensures reads { Reads (spec.attribute input.old) result input.new }
 {
     let owner = input.name(alloc)?;
     input.expect(Kind::Dot)?;
@@ -43,7 +42,7 @@ fn attribute(alloc: Global, input: &mut Input<'_>) -> Result<AttributeName, Read
 
 #[tactic(auto, unfolding(crate::specs::syntax::Reading::more_attribute))]
 fn more_attribute(alloc: Global, input: &mut Input<'_>) -> Result<Option<AttributeName>, ReadFault>
-    ensures { Reads (spec.more_attribute input.old) result input.new }
+    ensures reads { Reads (spec.more_attribute input.old) result input.new }
 {
     match input.peek() {
         Some(Kind::Name) => Ok(Some(attribute(alloc, input)?)),
@@ -52,7 +51,7 @@ fn more_attribute(alloc: Global, input: &mut Input<'_>) -> Result<Option<Attribu
 }
 
 fn attributes(alloc: Global, input: &mut Input<'_>) -> Result<AttributeNames, ReadFault>
-    ensures { Reads (chain_of push spec.more_attribute [] input.old) result input.new }
+    ensures reads { Reads (chain_of push spec.more_attribute [] input.old) result input.new }
 {
     let mut found = Items::new(alloc);
     for _turn in 0..input.left() {
@@ -66,7 +65,7 @@ fn attributes(alloc: Global, input: &mut Input<'_>) -> Result<AttributeNames, Re
 
 #[tactic(auto, unfolding(crate::specs::syntax::Reading::pass))]
 fn pass(alloc: Global, input: &mut Input<'_>) -> Result<WrittenPass, ReadFault>
-    ensures { Reads (spec.pass input.old) result input.new }
+    ensures reads { Reads (spec.pass input.old) result input.new }
 {
     let kind = kind(input)?;
     input.expect(Kind::LeftBrace)?;
@@ -78,7 +77,7 @@ fn pass(alloc: Global, input: &mut Input<'_>) -> Result<WrittenPass, ReadFault>
 // `||` and one more pass, if they are there.
 #[tactic(auto, unfolding(crate::specs::syntax::Reading::more_pass))]
 fn more_pass(alloc: Global, input: &mut Input<'_>) -> Result<Option<WrittenPass>, ReadFault>
-    ensures { Reads (spec.more_pass input.old) result input.new }
+    ensures reads { Reads (spec.more_pass input.old) result input.new }
 {
     match input.peek() {
         Some(Kind::OrOr) => {
@@ -95,7 +94,7 @@ fn passes(
     input: &mut Input<'_>,
     first: WrittenPass,
 ) -> Result<WrittenPassList, ReadFault>
-    ensures { Reads (chain_of push spec.more_pass (first ∷ []) input.old) result input.new }
+    ensures reads { Reads (chain_of push spec.more_pass (first ∷ []) input.old) result input.new }
 {
     let mut found = Items::new(alloc);
     found.push(first)?;
@@ -110,7 +109,7 @@ fn passes(
 
 #[tactic(auto, unfolding(crate::specs::syntax::Reading::stage))]
 fn stage(alloc: Global, input: &mut Input<'_>) -> Result<WrittenStage, ReadFault>
-    ensures { Reads (spec.stage input.old) result input.new }
+    ensures reads { Reads (spec.stage input.old) result input.new }
 {
     let first = pass(alloc, input)?;
     let passes = passes(alloc, input, first)?;
@@ -120,7 +119,7 @@ fn stage(alloc: Global, input: &mut Input<'_>) -> Result<WrittenStage, ReadFault
 // `;` and one more stage, if they are there.
 #[tactic(auto, unfolding(crate::specs::syntax::Reading::more_stage))]
 fn more_stage(alloc: Global, input: &mut Input<'_>) -> Result<Option<WrittenStage>, ReadFault>
-    ensures { Reads (spec.more_stage input.old) result input.new }
+    ensures reads { Reads (spec.more_stage input.old) result input.new }
 {
     match input.peek() {
         Some(Kind::Semicolon) => {
@@ -137,7 +136,7 @@ fn stage_list(
     input: &mut Input<'_>,
     first: WrittenStage,
 ) -> Result<WrittenStageList, ReadFault>
-    ensures { Reads (chain_of push spec.more_stage (first ∷ []) input.old) result input.new }
+    ensures reads { Reads (chain_of push spec.more_stage (first ∷ []) input.old) result input.new }
 {
     let mut found = Items::new(alloc);
     found.push(first)?;
@@ -152,7 +151,7 @@ fn stage_list(
 
 #[tactic(auto, unfolding(crate::specs::syntax::Reading::stages))]
 fn stages(alloc: Global, input: &mut Input<'_>) -> Result<WrittenSchedule, ReadFault>
-    ensures { Reads (spec.stages input.old) result input.new }
+    ensures reads { Reads (spec.stages input.old) result input.new }
 {
     let first = stage(alloc, input)?;
     let stages = stage_list(alloc, input, first)?;
@@ -162,7 +161,7 @@ fn stages(alloc: Global, input: &mut Input<'_>) -> Result<WrittenSchedule, ReadF
 
 #[tactic(auto, unfolding(crate::specs::syntax::Reading::schedule))]
 fn schedule(alloc: Global, input: &mut Input<'_>) -> Result<WrittenSchedule, ReadFault>
-    ensures { Reads (spec.schedule input.old) result input.new }
+    ensures reads { Reads (spec.schedule input.old) result input.new }
 {
     match input.peek() {
         None => Ok(WrittenSchedule {

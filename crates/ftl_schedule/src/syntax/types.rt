@@ -1,7 +1,7 @@
 //! Schedules as they are written: stages of passes, each with its list of attributes by name.
 
 use crate::syntax::kind::PassKind;
-use ftl_tokens::scanner::Name;
+use ftl_tokens::Name;
 use sqlite_items::Items;
 
 /// The stages, which run one after the other.

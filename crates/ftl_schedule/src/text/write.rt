@@ -6,8 +6,7 @@ ghost use Rattle.ftl_schedule.specs.syntax.Trees.{attribute_name, word_of};
 ghost use Rattle.ftl_schedule.specs.text.ScheduleText.{attribute_written, close, open_pass};
 
 use crate::syntax::PassKind;
-use ftl_tokens::scanner::{Kind, Name};
-use ftl_tokens::writing::{write_fixed, write_name};
+use ftl_tokens::{Kind, Name, write_fixed, write_name};
 use std::alloc::AllocError;
 
 /// Writes the kind of a pass and `{`.

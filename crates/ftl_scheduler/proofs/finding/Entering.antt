@@ -1,4 +1,4 @@
--- Rows of needs, read by read.
+-- Rows of constraints, read by read.
 use Rattle.std.proofs.Common.{◌≡◌, ◌⊎◌, ℕ, ◌+◌, ◌<◌, ◌==◌, ◌&&◌, ◌||◌, Bool, true, false, length, refl, sym, ◌∙◌, ap, ap₂, subst, inl, inr, ⊎_elim, arith, Some, None}
 use Rattle.std.proofs.lemmas.Bool.{cases_lt, true≢false}
 use Rattle.std.proofs.lemmas.Option.{none-some, same_Some}
@@ -10,11 +10,11 @@ use Rattle.ftl_order.specs.orders.Schedule.{PassKind}
 use Rattle.ftl_order.specs.dependencies.DepReads.{rule_reads}
 use Rattle.ftl_order.specs.dependencies.Writers.{first_writer}
 use Rattle.ftl_order.specs.declared.dependencies.dep_read.DepRead.{DepRead}
-use Rattle.ftl_scheduler.specs.declared.largest_sets.needs.Needs.{Needs}
+use Rattle.ftl_scheduler.specs.declared.largest_sets.constraints.Constraints.{Constraints}
 use Rattle.ftl_schedule.specs.check.RuleAt.{read_at, rule_at}
-use Rattle.ftl_scheduler.specs.outcomes.Need.{Asks, Need, beside, done_before, earlier, need_of}
-use Rattle.ftl_scheduler.specs.outcomes.NeedRows.{AreNeedsOf}
-use Rattle.ftl_scheduler.specs.finding.Entered.{AreEmpty, AreEnteredTo, AreOfSize, HasNeed, HasRead, IsEntered}
+use Rattle.ftl_scheduler.specs.outcomes.Constraint.{Asks, Constraint, beside, done_before, earlier, constraint_of}
+use Rattle.ftl_scheduler.specs.outcomes.ConstraintRows.{AreConstraintsOf}
+use Rattle.ftl_scheduler.specs.finding.Entered.{AreEmpty, AreEnteredTo, AreOfSize, HasConstraint, HasRead, IsEntered}
 use Rattle.ftl_scheduler.specs.finding.Entered.{is_earlier, is_late, is_use}
 use Rattle.ftl_scheduler.proofs.finding.Grown.{grown_here, grown_old, grown_only, only_earlier, only_late, only_use}
 
@@ -26,7 +26,7 @@ and_comm false false = refl
 
 module _ (g : AttributeGrammar) (kind : PassKind) where
   -- before the first read
-  pub entered_none : (n : Needs) → AreOfSize n g.attribute_count → AreEmpty n → AreEnteredTo g kind n 0 0
+  pub entered_none : (n : Constraints) → AreOfSize n g.attribute_count → AreEmpty n → AreEnteredTo g kind n 0 0
   entered_none n sized none =
       record {
         sized = sized;
@@ -48,20 +48,20 @@ module _ (g : AttributeGrammar) (kind : PassKind) where
   read r k = read_at (rule_reads g (rule_at g r)) k
 
   -- what that read asks of a writer
-  abbrev asked : (rule place writer : ℕ) → Need
-  asked r k v = need_of kind (read r k) (visit_place g (rule_at g v)) (visit_place g (rule_at g r))
+  abbrev asked : (rule place writer : ℕ) → Constraint
+  asked r k v = constraint_of kind (read r k) (visit_place g (rule_at g v)) (visit_place g (rule_at g r))
 
   -- after all reads
-  module _ (n : Needs) (h : AreEnteredTo g kind n (length g.rules) 0) where
-    has : (need : Need) (x y : ℕ) → Asks g kind need x y → HasNeed n x y need
-    has need x y a =
-        subst (λ v. HasNeed n v y need) a.written
-        (subst (λ v. HasNeed n (for_rule a.writer) v need) a.reads
-        (subst (HasNeed n (for_rule a.writer) (for_rule a.rule)) a.needs
+  module _ (n : Constraints) (h : AreEnteredTo g kind n (length g.rules) 0) where
+    has : (constraint : Constraint) (x y : ℕ) → Asks g kind constraint x y → HasConstraint n x y constraint
+    has constraint x y a =
+        subst (λ v. HasConstraint n v y constraint) a.written
+        (subst (λ v. HasConstraint n (for_rule a.writer) v constraint) a.reads
+        (subst (HasConstraint n (for_rule a.writer) (for_rule a.rule)) a.constraints
         (h.reads a.rule a.place (inl a.known) a.within a.writer a.first)))
 
-    pub are_needs : AreNeedsOf g kind n
-    are_needs =
+    pub are_constraints : AreConstraintsOf g kind n
+    are_constraints =
         record {
           before = λ x y. (h.before x y, λ a. (has earlier x y a).1);
           used = λ x y. (h.used x y, λ a. ⊎_elim (λ b. has beside x y b) (λ b. (has earlier x y b).0) a);
@@ -69,7 +69,7 @@ module _ (g : AttributeGrammar) (kind : PassKind) where
         }
 
   -- all reads of a rule are entered
-  pub entered_rule : (n : Needs) (rule : ℕ) → AreEnteredTo g kind n rule (length (rule_reads g (rule_at g rule)))
+  pub entered_rule : (n : Constraints) (rule : ℕ) → AreEnteredTo g kind n rule (length (rule_reads g (rule_at g rule)))
       → AreEnteredTo g kind n (rule + 1) 0
   entered_rule n rule h =
       record {
@@ -90,7 +90,7 @@ module _ (g : AttributeGrammar) (kind : PassKind) where
       }
 
   -- one read more
-  module _ (old new : Needs) (rule place : ℕ) (h : AreEnteredTo g kind old rule place) where
+  module _ (old new : Constraints) (rule place : ℕ) (h : AreEnteredTo g kind old rule place) where
     -- the reads before it have what they had, and it has what it asks
     reads_more : ((r k : ℕ) → HasRead g kind old r k → HasRead g kind new r k) → HasRead g kind new rule place
         → (r k : ℕ) → (r < rule) ⊎ ((r ≡ rule) × (k < place + 1)) → k < length (rule_reads g (rule_at g r))
@@ -106,7 +106,7 @@ module _ (g : AttributeGrammar) (kind : PassKind) where
         (cases_lt k place)) there
 
   -- it has no writer
-  pub entered_nothing : (n : Needs) (rule place : ℕ) → AreEnteredTo g kind n rule place
+  pub entered_nothing : (n : Constraints) (rule place : ℕ) → AreEnteredTo g kind n rule place
       → first_writer g (class_of_rule (rule_at g rule)) (read rule place) ≡ None
       → AreEnteredTo g kind n rule (place + 1)
   entered_nothing n rule place h none =
@@ -119,25 +119,25 @@ module _ (g : AttributeGrammar) (kind : PassKind) where
         reads = reads_more n n rule place h (λ r k has. has) (λ v is. absurd (none-some v (sym none ∙ is)));
       }
 
-  module _ (old new : Needs) (rule place writer : ℕ) (h : AreEnteredTo g kind old rule place)
+  module _ (old new : Constraints) (rule place writer : ℕ) (h : AreEnteredTo g kind old rule place)
       (known : rule < length g.rules) (within : place < length (rule_reads g (rule_at g rule)))
       (first : first_writer g (class_of_rule (rule_at g rule)) (read rule place) ≡ Some writer)
       (sized : AreOfSize new g.attribute_count)
       (put : IsEntered (asked rule place writer) old new (for_rule writer) (for_rule rule)) where
-    need_kept : (need : Need) (x y : ℕ) → HasNeed old x y need → HasNeed new x y need
-    need_kept beside x y has =
+    constraint_kept : (constraint : Constraint) (x y : ℕ) → HasConstraint old x y constraint → HasConstraint new x y constraint
+    constraint_kept beside x y has =
         grown_old (is_use (asked rule place writer)) old.users new.users (for_rule writer) (for_rule rule) put.users x y has
-    need_kept earlier x y has = (
+    constraint_kept earlier x y has = (
       grown_old (is_use (asked rule place writer)) old.users new.users (for_rule writer) (for_rule rule) put.users x y has.0,
       grown_old (is_earlier (asked rule place writer)) old.earlier new.earlier (for_rule rule) (for_rule writer) put.earlier
           y x has.1,
     )
-    need_kept done_before x y has =
+    constraint_kept done_before x y has =
         grown_old (is_late (asked rule place writer)) old.late new.late (for_rule rule) (for_rule writer) put.late y x has
 
-    asks_this : (need : Need) (x y : ℕ) → asked rule place writer ≡ need → x ≡ for_rule writer → y ≡ for_rule rule
-        → Asks g kind need x y
-    asks_this need x y is at_x at_y =
+    asks_this : (constraint : Constraint) (x y : ℕ) → asked rule place writer ≡ constraint → x ≡ for_rule writer → y ≡ for_rule rule
+        → Asks g kind constraint x y
+    asks_this constraint x y is at_x at_y =
         record {
           rule = rule;
           place = place;
@@ -147,10 +147,10 @@ module _ (g : AttributeGrammar) (kind : PassKind) where
           first = first;
           written = sym at_x;
           reads = sym at_y;
-          needs = is;
+          constraints = is;
         }
 
-    has_this : (need : Need) → asked rule place writer ≡ need → HasNeed new (for_rule writer) (for_rule rule) need
+    has_this : (constraint : Constraint) → asked rule place writer ≡ constraint → HasConstraint new (for_rule writer) (for_rule rule) constraint
     has_this beside is =
         grown_here (is_use (asked rule place writer)) old.users new.users (for_rule writer) (for_rule rule) put.users
         (ap is_use is)
@@ -166,7 +166,7 @@ module _ (g : AttributeGrammar) (kind : PassKind) where
 
     read_this : HasRead g kind new rule place
     read_this v is =
-        subst (λ w. HasNeed new (for_rule w) (for_rule rule) (asked rule place w)) (same_Some writer v (sym first ∙ is))
+        subst (λ w. HasConstraint new (for_rule w) (for_rule rule) (asked rule place w)) (same_Some writer v (sym first ∙ is))
         (has_this (asked rule place writer) refl)
 
     turned : (x y : ℕ) → entry new.followers x y ≡ entry new.earlier y x
@@ -199,5 +199,5 @@ module _ (g : AttributeGrammar) (kind : PassKind) where
               (grown_only (is_late (asked rule place writer)) old.late new.late (for_rule rule) (for_rule writer)
               put.late y x e);
           reads = reads_more old new rule place h
-              (λ r k has v is. need_kept (asked r k v) (for_rule v) (for_rule r) (has v is)) read_this;
+              (λ r k has v is. constraint_kept (asked r k v) (for_rule v) (for_rule r) (has v is)) read_this;
         }

@@ -1,9 +1,9 @@
--- Matrices that have one entry more, and tests of needs.
+-- Matrices that have one entry more, and tests of constraints.
 use Rattle.std.proofs.Common.{◌≡◌, ◌⊎◌, ℕ, ◌==◌, ◌&&◌, Bool, true, List, refl, sym, ◌∙◌, inl, inr, ⊎_elim, eqb-true, eq-eqb}
 use Rattle.std.proofs.lemmas.Bool.{and_from, and_parts, or_cases, or_left, or_right}
 use Rattle.lane_rows.specs.Matrix.{entry}
 use Rattle.ftl_scheduler.specs.largest_sets.Rows.{Row}
-use Rattle.ftl_scheduler.specs.outcomes.Need.{Need, beside, done_before, earlier}
+use Rattle.ftl_scheduler.specs.outcomes.Constraint.{Constraint, beside, done_before, earlier}
 use Rattle.ftl_scheduler.specs.finding.Entered.{Grows, is_earlier, is_late, is_use}
 
 module _ (adds : Bool) (old new : List Row) (start end : ℕ) (grows : Grows adds old new start end) where
@@ -31,17 +31,17 @@ module _ (adds : Bool) (old new : List Row) (start end : ℕ) (grows : Grows add
       inr (both.0, (eqb-true a start places.0, eqb-true b end places.1)))
       (λ there. inl there) (or_cases (here a b) (entry old a b) (sym (grows a b) ∙ e))
 
-pub only_earlier : (need : Need) → is_earlier need ≡ true → need ≡ earlier
+pub only_earlier : (constraint : Constraint) → is_earlier constraint ≡ true → constraint ≡ earlier
 only_earlier beside e = cc
 only_earlier earlier e = refl
 only_earlier done_before e = cc
 
-pub only_use : (need : Need) → is_use need ≡ true → (need ≡ beside) ⊎ (need ≡ earlier)
+pub only_use : (constraint : Constraint) → is_use constraint ≡ true → (constraint ≡ beside) ⊎ (constraint ≡ earlier)
 only_use beside e = inl refl
 only_use earlier e = inr refl
 only_use done_before e = cc
 
-pub only_late : (need : Need) → is_late need ≡ true → need ≡ done_before
+pub only_late : (constraint : Constraint) → is_late constraint ≡ true → constraint ≡ done_before
 only_late beside e = cc
 only_late earlier e = cc
 only_late done_before e = refl

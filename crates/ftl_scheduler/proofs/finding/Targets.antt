@@ -16,18 +16,18 @@ use Rattle.ftl_meaning.proofs.lawful.Lawfulness.{faultless_lawful}
 use Rattle.ftl_meaning.proofs.lawful.WithinLimits.{within_limits}
 use Rattle.ftl_deps.specs.reads.DepRows.{DepRows, dep_rows, writer_at}
 use Rattle.ftl_deps.specs.reads.Meant.{meant}
-use Rattle.ftl_deps.proofs.reads.RuleNumbers.{told_at, told_rule}
+use Rattle.ftl_deps.proofs.reads.RuleNumbers.{info_is, info_rule}
 use Rattle.ftl_order.specs.automatic.Fitting.{IsComputed}
 use Rattle.ftl_order.proofs.automatic.Targets.{target_computed}
 use Rattle.ftl_scheduler.specs.largest_sets.Rows.{AreSized, AreWhole, Has, Row}
-use Rattle.ftl_scheduler.specs.declared.largest_sets.needs.Needs.{Needs}
+use Rattle.ftl_scheduler.specs.declared.largest_sets.constraints.Constraints.{Constraints}
 use Rattle.ftl_scheduler.proofs.largest_sets.Marks.{IsMarked}
 use Rattle.ftl_schedule.specs.check.RuleAt.{read_at, rule_at}
 use Rattle.ftl_schedule.proofs.check.RuleCount.{rules_counted, writer_there}
-use Rattle.ftl_scheduler.specs.outcomes.Need.{Asks, Need, beside, earlier}
-use Rattle.ftl_scheduler.specs.outcomes.NeedRows.{HasComputed}
+use Rattle.ftl_scheduler.specs.outcomes.Constraint.{Asks, Constraint, beside, earlier}
+use Rattle.ftl_scheduler.specs.outcomes.ConstraintRows.{HasComputed}
 use Rattle.ftl_scheduler.specs.finding.Entered.{AreEnteredTo}
-use Rattle.ftl_scheduler.proofs.finding.Entering.{are_needs}
+use Rattle.ftl_scheduler.proofs.finding.Entering.{are_constraints}
 
 not_input : (s : Sort) → s ≢ input → not (is_input s) ≡ true
 not_input input n = absurd (n refl)
@@ -62,26 +62,26 @@ module _ (c : CheckedGrammar) (none : first_fault c.grammar ≡ None) where
         → IsComputed (meant c) (visit_place (meant c) (rule_at (meant c) n)).attribute
     rule_computed n within =
         target_computed (meant c) lawful (rule_at (meant c) n)
-        (subst (IsRule (meant c)) (sym (told_at c none n within)) (told_rule c none n within))
+        (subst (IsRule (meant c)) (sym (info_is c none n within)) (info_rule c none n within))
 
     -- the table has all that is asked, and nothing else
-    module _ (kind : PassKind) (n : Needs) (all : Row) (h : AreEnteredTo (meant c) kind n (length (meant c).rules) 0)
+    module _ (kind : PassKind) (n : Constraints) (all : Row) (h : AreEnteredTo (meant c) kind n (length (meant c).rules) 0)
         (computed : HasComputed (meant c) all) where
       by_number : (r : ℕ) → r < length (meant c).rules → Has all (visit_place (meant c) (rule_at (meant c) r)).attribute
       by_number r known =
           (computed (visit_place (meant c) (rule_at (meant c) r)).attribute).1
           (rule_computed r (subst (λ m. r < m) (sym (rules_counted c none)) known))
 
-      writer_in : (need : Need) (x y : ℕ) → Asks (meant c) kind need x y → Has all x
-      writer_in need x y a =
+      writer_in : (constraint : Constraint) (x y : ℕ) → Asks (meant c) kind constraint x y → Has all x
+      writer_in constraint x y a =
           subst (Has all) a.written
           (by_number a.writer
           (position-Some
           (is_writer (meant c) (class_of_rule (rule_at (meant c) a.rule))
           (read_at (rule_reads (meant c) (rule_at (meant c) a.rule)) a.place)) (meant c).rules a.writer (for_self 0 0) a.first).0)
 
-      reader_in : (need : Need) (x y : ℕ) → Asks (meant c) kind need x y → Has all y
-      reader_in need x y a = subst (Has all) a.reads (by_number a.rule a.known)
+      reader_in : (constraint : Constraint) (x y : ℕ) → Asks (meant c) kind constraint x y → Has all y
+      reader_in constraint x y a = subst (Has all) a.reads (by_number a.rule a.known)
 
       pub sized : AreSized n all (meant c).attribute_count
       sized =
@@ -98,7 +98,7 @@ module _ (c : CheckedGrammar) (none : first_fault c.grammar ≡ None) where
       whole =
           record {
             turned = h.turned;
-            used = λ x y e. ((are_needs (meant c) kind n h).used x y).1 (inr (h.before x y e));
+            used = λ x y e. ((are_constraints (meant c) kind n h).used x y).1 (inr (h.before x y e));
             writers = λ x y e. ⊎_elim (writer_in beside x y) (writer_in earlier x y) (h.used x y e);
             readers = λ x y e. ⊎_elim (reader_in beside x y) (reader_in earlier x y) (h.used x y e);
           }

@@ -11,10 +11,10 @@ use Rattle.ftl_model.proofs.lists.Elements.{distinct-filter, filter_has, in_filt
 use Rattle.ftl_order.specs.automatic.Fitting.{HasAll, IsAtMost}
 use Rattle.ftl_order.proofs.automatic.Turns.{places_rise, rising-filter, rising_place}
 use Rattle.ftl_scheduler.specs.largest_sets.Rows.{AreWhole, Has, Row}
-use Rattle.ftl_scheduler.specs.largest_sets.Picks.{IsPick, MeetsNeeds}
+use Rattle.ftl_scheduler.specs.largest_sets.LargestList.{IsLargestList, MeetsConstraints}
 use Rattle.ftl_scheduler.specs.largest_sets.Staying.{CanStay, IsClosure, has_late, is_first}
 use Rattle.ftl_scheduler.specs.largest_sets.Turns.{Turns, after}
-use Rattle.ftl_scheduler.specs.declared.largest_sets.needs.Needs.{Needs}
+use Rattle.ftl_scheduler.specs.declared.largest_sets.constraints.Constraints.{Constraints}
 use Rattle.ftl_scheduler.proofs.largest_sets.Turns.{after_cases, after_has, along_places, kept_least, none_missed}
 use Rattle.ftl_scheduler.proofs.largest_sets.Turns.{after_more, none_ready, turns_distinct, turns_in_turn, turns_new, turns_within}
 use Rattle.ftl_scheduler.proofs.largest_sets.Turns.{put_cases, put_more}
@@ -114,7 +114,7 @@ module _ (users : List Row) (all done first : Row) where
             (l.of_either b t));
       }
 
-module _ (n : Needs) (all done first taken : Row) (xs : List ℕ) (whole : AreWhole n all)
+module _ (n : Constraints) (all done first taken : Row) (xs : List ℕ) (whole : AreWhole n all)
     (turns : Turns n.earlier all done xs)
     (is_first_is : (b : ℕ) → set.contains first b ≡ is_first n.late all done (after done xs) b)
     (closure : IsClosure n.users done first taken) where
@@ -170,7 +170,7 @@ module _ (n : Needs) (all done first taken : Row) (xs : List ℕ) (whole : AreWh
       (turns_in_turn n.earlier all done xs turns x y (there y h) e))
       (used x y h (whole.used x y e))
 
-  meets : MeetsNeeds n all done list
+  meets : MeetsConstraints n all done list
   meets =
       record {
         distinct = distinct-filter keep xs (turns_distinct n.earlier all done xs turns);
@@ -183,7 +183,7 @@ module _ (n : Needs) (all done first taken : Row) (xs : List ℕ) (whole : AreWh
             (not_taken y (turns_within n.earlier all done xs turns y (there y h)) (stays y h)).1 x e;
       }
 
-  module _ (other : List ℕ) (m : MeetsNeeds n all done other) where
+  module _ (other : List ℕ) (m : MeetsConstraints n all done other) where
     in_order : (a : ℕ) → Contains other a → Contains xs a
     in_order a h =
         ⊎_elim (λ d. absurd (true≢false (sym d ∙ m.not_done a h))) (λ t. t)
@@ -220,5 +220,5 @@ module _ (n : Needs) (all done first taken : Row) (xs : List ℕ) (whole : AreWh
           along = along_places n.earlier all done other m.distinct m.in_turn;
         })
 
-  pub is_pick : IsPick n all done list
-  is_pick = record { meets = meets; largest = largest; least = least }
+  pub is_largest_list : IsLargestList n all done list
+  is_largest_list = record { meets = meets; largest = largest; least = least }

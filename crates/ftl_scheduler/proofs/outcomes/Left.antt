@@ -11,7 +11,7 @@ use Rattle.ftl_order.specs.orders.Schedule.{Schedule, entries}
 use Rattle.ftl_order.specs.automatic.Automatic.{IsAutomatic, IsChain, IsLeft, IsStuck}
 use Rattle.ftl_order.proofs.automatic.Turns.{cases_in}
 use Rattle.ftl_scheduler.specs.largest_sets.Rows.{Has, Row}
-use Rattle.ftl_scheduler.specs.outcomes.NeedRows.{HasComputed, IsRowOf}
+use Rattle.ftl_scheduler.specs.outcomes.ConstraintRows.{HasComputed, IsRowOf}
 use Rattle.ftl_scheduler.specs.outcomes.Outcomes.{Passes}
 
 falls_push : (xs : List ℕ) (n : ℕ) → NoneFalls (λ a. a) xs → ((a : ℕ) → Contains xs a → a ≤ n)

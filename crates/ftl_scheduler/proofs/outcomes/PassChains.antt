@@ -12,7 +12,7 @@ use Rattle.ftl_order.specs.automatic.Automatic.{IsChain, IsChainAfter, IsNext}
 use Rattle.ftl_scheduler.specs.largest_sets.Rows.{Has, Row}
 use Rattle.ftl_scheduler.proofs.largest_sets.Marks.{lacking, lacking_covers}
 use Rattle.ftl_scheduler.proofs.largest_sets.Turns.{put_cases, put_here, put_more}
-use Rattle.ftl_scheduler.specs.outcomes.NeedRows.{AreNew, AreTablesOf, HasComputed, IsRowOf}
+use Rattle.ftl_scheduler.specs.outcomes.ConstraintRows.{AreNew, AreTablesOf, HasComputed, IsRowOf}
 use Rattle.ftl_scheduler.specs.declared.outcomes.next.Tables.{Tables}
 
 entries_push : (s : Schedule) (p : Pass) → entries (s ++ (p ∷ []) ∷ []) ≡ entries s ++ p.attributes

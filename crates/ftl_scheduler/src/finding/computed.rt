@@ -1,10 +1,10 @@
 //! The attributes that rules compute.
 
 ghost use Rattle.ftl_deps.specs.reads.Meant.{meant};
-ghost use Rattle.ftl_scheduler.specs.outcomes.NeedRows.{HasComputed};
+ghost use Rattle.ftl_scheduler.specs.outcomes.ConstraintRows.{HasComputed};
 
-use ftl_checked::grammars::Checked;
-use ftl_schedule::check::{attribute_count, is_input};
+use ftl_checked::Checked;
+use ftl_schedule::{attribute_count, is_input};
 use lane_rows::BitRow;
 
 /// The computed attributes.

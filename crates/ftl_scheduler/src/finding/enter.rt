@@ -1,22 +1,22 @@
-//! Needs that are entered into rows.
+//! Constraints that are entered into rows.
 
 ghost use Rattle.std.specs.Prelude.{◌≡◌, ◌<◌, ◌≤◌, length, false, true, IfOk};
 ghost use Rattle.lane_rows.specs.Matrix.{entry};
 ghost use Rattle.ftl_scheduler.specs.finding.Entered.{AreEmpty, AreOfSize, Grows, IsEntered};
-ghost use Rattle.ftl_scheduler.specs.finding.Entered.{need_told};
+ghost use Rattle.ftl_scheduler.specs.finding.Entered.{constraint_meant};
 
-use crate::finding::need::Need;
-use crate::largest_sets::Needs;
+use crate::finding::constraint::Constraint;
+use crate::largest_sets::Constraints;
 use lane_rows::BitMatrix;
 use std::alloc::{AllocError, Global};
 
 /// Rows of so many attributes without an entry.
-pub(crate) fn no_needs(alloc: Global, size: u32) -> Result<Needs, AllocError>
+pub(crate) fn no_constraints(alloc: Global, size: u32) -> Result<Constraints, AllocError>
     requires few { size ≤ 2048 }
     ensures size { IfOk result (λ n. AreOfSize n size) }
     ensures none { IfOk result AreEmpty }
 {
-    Ok(Needs {
+    Ok(Constraints {
         earlier: BitMatrix::new(alloc, size)?,
         followers: BitMatrix::new(alloc, size)?,
         users: BitMatrix::new(alloc, size)?,
@@ -25,20 +25,27 @@ pub(crate) fn no_needs(alloc: Global, size: u32) -> Result<Needs, AllocError>
 }
 
 /// Enters what the reader asks of the writer.
-pub(crate) fn enter(needs: &mut Needs, size: u32, need: Need, writer: u32, reader: u32)
-    requires sized { AreOfSize needs.old size }
+pub(crate) fn enter(
+    constraints: &mut Constraints,
+    size: u32,
+    constraint: Constraint,
+    writer: u32,
+    reader: u32,
+)
+    requires sized { AreOfSize constraints.old size }
     requires writer { writer < size }
     requires reader { reader < size }
-    ensures sized { AreOfSize needs.new size }
-    ensures entered { IsEntered (need_told need) needs.old needs.new writer reader }
+    ensures sized { AreOfSize constraints.new size }
+    ensures entered { IsEntered (constraint_meant constraint) constraints.old constraints.new
+        writer reader }
 {
     let _ = size;
-    let is_earlier = need == Need::Earlier;
-    let is_late = need == Need::DoneBefore;
-    put_where(is_earlier, &mut needs.earlier, reader, writer);
-    put_where(is_earlier, &mut needs.followers, writer, reader);
-    put_where(!is_late, &mut needs.users, writer, reader);
-    put_where(is_late, &mut needs.late, reader, writer);
+    let is_earlier = constraint == Constraint::Earlier;
+    let is_late = constraint == Constraint::DoneBefore;
+    put_where(is_earlier, &mut constraints.earlier, reader, writer);
+    put_where(is_earlier, &mut constraints.followers, writer, reader);
+    put_where(!is_late, &mut constraints.users, writer, reader);
+    put_where(is_late, &mut constraints.late, reader, writer);
 }
 
 // Adds an entry where it is told to.

@@ -3,7 +3,7 @@
 ghost use Rattle.std.specs.Prelude.{◌≡◌};
 ghost use Rattle.ftl_scheduler.specs.declared.finding.fault.FindFault.TheVariants.{OutOfMemory};
 
-use ftl_schedule::stages::AttrList;
+use ftl_schedule::AttrList;
 use std::alloc::AllocError;
 
 /// Why no schedule is found. Attributes are numbers of the grammar.

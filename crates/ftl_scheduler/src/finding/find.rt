@@ -14,10 +14,10 @@ ghost use Rattle.ftl_scheduler.specs.declared.finding.fault.FindFault.TheVariant
 use crate::finding::fault::FindFault;
 use crate::finding::tables::tables_of;
 use crate::outcomes::{Outcome, find_outcome};
-use ftl_checked::grammars::Checked;
-use ftl_deps::reads::DepTable;
-use ftl_order::faults::faultless_is_ordered;
-use ftl_schedule::check::{Accepted, VerifyFault, attribute_count, verify};
+use ftl_checked::Checked;
+use ftl_deps::DepTable;
+use ftl_order::faultless_is_ordered;
+use ftl_schedule::{Accepted, VerifyFault, attribute_count, verify};
 use std::alloc::{AllocError, Global};
 
 /// The automatic schedule, accepted, or the attributes that are left where there is none.

@@ -1,9 +1,9 @@
 //! The least list of the largest set of attributes that can be taken next. Goes in: what attributes
 //! need, as rows of bits, and what is done. Comes out: the list that
-//! `specs/largest_sets/Picks.antt` defines.
+//! `specs/largest_sets/LargestList.antt` defines.
 
-mod needs;
-mod pick;
+mod constraints;
+mod largest_list;
 
-pub use needs::Needs;
-pub use pick::list_of;
+pub use constraints::Constraints;
+pub use largest_list::list_of;

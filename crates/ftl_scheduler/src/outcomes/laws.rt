@@ -1,8 +1,8 @@
-//! Laws on what is picked by rows.
+//! Laws on what is found by rows.
 
-ghost use Rattle.ftl_scheduler.specs.outcomes.NeedLaws.{PicksAreLists};
+ghost use Rattle.ftl_scheduler.specs.outcomes.ConstraintLaws.{RowsGiveLists};
 
-/// A law: the pick by the rows of a kind is the list of that kind.
-pub fn picks_are_lists()
-    ensures lists { PicksAreLists }
+/// A law: the largest list by the rows of a kind is the list of that kind.
+pub fn rows_give_lists()
+    ensures lists { RowsGiveLists }
 {}

@@ -6,20 +6,20 @@ ghost use Rattle.ftl_order.specs.orders.Lawful.{IsLawful};
 ghost use Rattle.ftl_order.specs.automatic.Automatic.{IsNext};
 ghost use Rattle.ftl_scheduler.specs.largest_sets.Rows.{AreSized, AreWhole};
 ghost use Rattle.ftl_schedule.specs.stages.Stages.{pass_of};
-ghost use Rattle.ftl_scheduler.specs.outcomes.NeedRows.{AreNew, AreTablesOf, AreUsable};
-ghost use Rattle.ftl_scheduler.specs.outcomes.NeedRows.{HasComputed, IsRowOf};
+ghost use Rattle.ftl_scheduler.specs.outcomes.ConstraintRows.{AreNew, AreTablesOf, AreUsable};
+ghost use Rattle.ftl_scheduler.specs.outcomes.ConstraintRows.{HasComputed, IsRowOf};
 
-use crate::largest_sets::{Needs, list_of};
-use ftl_schedule::stages::{Pass, PassKind};
+use crate::largest_sets::{Constraints, list_of};
+use ftl_schedule::{Pass, PassKind};
 use lane_rows::BitRow;
 use std::alloc::{AllocError, Global};
 
 /// What the attributes of a grammar need in a pass of each kind.
 #[derive(Drop)]
 pub struct Tables {
-    pub down: Needs,
-    pub up: Needs,
-    pub in_order: Needs,
+    pub down: Constraints,
+    pub up: Constraints,
+    pub in_order: Constraints,
 }
 
 /// The pass that takes the most of what is left; it is empty where nothing can be taken.

@@ -4,12 +4,12 @@ ghost use Rattle.std.specs.Prelude.{◌≡◌, ◌<◌, ◌≤◌, ◌&&◌, not
 ghost use Rattle.std.specs.FinSet as set;
 ghost use Rattle.ftl_model.specs.layout.AttributeGrammar.{AttributeGrammar};
 ghost use Rattle.ftl_order.specs.orders.Lawful.{IsLawful};
-ghost use Rattle.ftl_scheduler.specs.outcomes.NeedRows.{AreTablesOf, AreUsable, HasComputed};
+ghost use Rattle.ftl_scheduler.specs.outcomes.ConstraintRows.{AreTablesOf, AreUsable, HasComputed};
 ghost use Rattle.ftl_scheduler.specs.outcomes.Outcomes.{IsOutcome, Passes};
 
 use crate::outcomes::next::Tables;
 use crate::outcomes::passes::find_passes;
-use ftl_schedule::stages::{AttrList, Schedule};
+use ftl_schedule::{AttrList, Schedule};
 use lane_rows::BitRow;
 use sqlite_items::Items;
 use std::alloc::{AllocError, Global};

@@ -8,11 +8,11 @@ ghost use Rattle.ftl_order.specs.orders.Schedule.{entries};
 ghost use Rattle.ftl_order.specs.automatic.Automatic.{IsChain};
 ghost use Rattle.ftl_scheduler.specs.largest_sets.Rows.{Has};
 ghost use Rattle.ftl_schedule.specs.stages.Stages.{stages_of};
-ghost use Rattle.ftl_scheduler.specs.outcomes.NeedRows.{AreTablesOf, AreUsable, HasComputed};
-ghost use Rattle.ftl_scheduler.specs.outcomes.NeedRows.{IsRowOf};
+ghost use Rattle.ftl_scheduler.specs.outcomes.ConstraintRows.{AreTablesOf, AreUsable, HasComputed};
+ghost use Rattle.ftl_scheduler.specs.outcomes.ConstraintRows.{IsRowOf};
 
 use crate::outcomes::next::{Tables, next_pass};
-use ftl_schedule::stages::{Pass, Schedule, Stage};
+use ftl_schedule::{Pass, Schedule, Stage};
 use lane_rows::BitRow;
 use sqlite_items::Items;
 use std::alloc::{AllocError, Global};

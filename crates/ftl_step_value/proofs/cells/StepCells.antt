@@ -7,12 +7,12 @@ use Rattle.ftl_model.specs.layout.Solves.{seen_from}
 use Rattle.ftl_model.specs.layout.Table.{instance_number}
 use Rattle.ftl_model.specs.layout.TreeOf.{IsTreeOf}
 use Rattle.ftl_order.specs.orders.Lawful.{IsLawful}
-use Rattle.ftl_meaning.specs.faults.Checked.{CheckedGrammar, all_rules, rule_told}
+use Rattle.ftl_meaning.specs.faults.Checked.{CheckedGrammar, all_rules, rule_info_at}
 use Rattle.ftl_meaning.specs.faults.FirstFault.{first_fault}
 use Rattle.ftl_meaning.specs.declared.faults.info.RuleInfo.{RuleInfo}
 use Rattle.ftl_deps.specs.reads.Meant.{meant}
-use Rattle.ftl_deps.specs.reads.Products.{told_name}
-use Rattle.ftl_deps.proofs.reads.RuleNumbers.{rules_long, told_at}
+use Rattle.ftl_deps.specs.reads.Products.{name_of_info}
+use Rattle.ftl_deps.proofs.reads.RuleNumbers.{rules_long, info_is}
 use Rattle.ftl_deps.specs.parts.RuleParts.{parts_named}
 use Rattle.ftl_visit.specs.step_reads.StepReads.{kids_in}
 use Rattle.ftl_order.specs.steps.Steps.{IsStepOf, rule_at}
@@ -50,13 +50,13 @@ module _ (t : CheckedTree) (c : CheckedGrammar) (same : c ≡ t.checked) (none :
   here : r < length (meant c).rules
   here = subst (λ (k : CheckedGrammar). r < length (meant k).rules) (sym same) within
 
-  -- the rule is among those that are told
-  pub told_within : r < length (all_rules c.grammar)
-  told_within = subst (λ n. r < n) (rules_long c none) here
+  -- the rule is among those that are known
+  pub info_within : r < length (all_rules c.grammar)
+  info_within = subst (λ n. r < n) (rules_long c none) here
 
-  -- and its name is what is told
-  pub name_is : (i : RuleInfo) → i ≡ rule_told c.grammar r → rule_at (meant t.checked) r ≡ told_name i
+  -- and its name is what is known
+  pub name_is : (i : RuleInfo) → i ≡ rule_info_at c.grammar r → rule_at (meant t.checked) r ≡ name_of_info i
   name_is i told =
       ap (λ (k : CheckedGrammar). rule_at (meant k) r) (sym same)
-      ∙ told_at c none r told_within
-      ∙ ap told_name (sym told)
+      ∙ info_is c none r info_within
+      ∙ ap name_of_info (sym told)

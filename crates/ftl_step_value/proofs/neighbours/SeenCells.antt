@@ -1,4 +1,4 @@
--- The cells of what is seen at near nodes.
+-- The cells of what is seen at neighbours.
 use Rattle.std.proofs.Common.{◌≡◌, ℕ, ◌-◌, ◌<◌, Bool, true, List, [], ◌∷◌, ◌++◌, flat_map, map, Option, Some, None, refl, sym, ◌∙◌, ap, ap₂, subst, arith, Contains}
 use Rattle.std.specs.Option.{unwrap_or}
 use Rattle.std.proofs.lemmas.List.{map-append}
@@ -16,11 +16,11 @@ use Rattle.ftl_order.specs.orders.Lawful.{OfClass}
 use Rattle.ftl_step_value.specs.cells.Seen.{EachIsSeen, IsSeen, cell_seen}
 use Rattle.ftl_step_value.proofs.cells.KidCells.{kid_there}
 use Rattle.ftl_tree.specs.trees.CheckedTree.{CheckedTree}
-use Rattle.ftl_step_value.specs.neighbours.NearCells.{AreNear, HasAttribute, cell_of, near_cell, near_cells, site_node}
-use Rattle.ftl_step_value.specs.declared.neighbours.reads.NearRead.{NearRead}
-use Rattle.ftl_step_value.specs.declared.neighbours.reads.NearSite.{NearSite}
-use Rattle.ftl_step_value.specs.declared.neighbours.reads.NearSite.TheVariants.{Before, Kid, Own}
-use Rattle.ftl_step_value.proofs.neighbours.NearSeen.{AreOf, IsSite, near_occurrence, site_occurrence}
+use Rattle.ftl_step_value.specs.neighbours.NeighbourCells.{AreNeighbours, HasAttribute, cell_of, neighbour_cell, neighbour_cells, site_node}
+use Rattle.ftl_step_value.specs.declared.neighbours.reads.NeighbourRead.{NeighbourRead}
+use Rattle.ftl_step_value.specs.declared.neighbours.reads.NeighbourSite.{NeighbourSite}
+use Rattle.ftl_step_value.specs.declared.neighbours.reads.NeighbourSite.TheVariants.{Before, Kid, Own}
+use Rattle.ftl_step_value.proofs.neighbours.NeighbourSeen.{AreOf, IsSite, neighbour_occurrence, site_occurrence}
 
 -- maps that agree on what a list has
 map_same : {X Y : Type 0} (f h : X → Y) (xs : List X) → ((x : X) → Contains xs x → f x ≡ h x) → map f xs ≡ map h xs
@@ -34,9 +34,9 @@ pub record IsCell (t : CheckedTree) (node number attribute : ℕ) (o : Occurrenc
   pub has : HasAttribute t number attribute
 
 -- the cells of some reads are those of what is seen, and what they read is there
-pub record AreCells (t : CheckedTree) (node kid before : ℕ) (ns : List NearRead) (cells : List ℕ) : Type 0 where
-  pub cells_are : near_cells t node kid before ns ≡ cells
-  pub near : AreNear t node kid before ns
+pub record AreCells (t : CheckedTree) (node kid before : ℕ) (ns : List NeighbourRead) (cells : List ℕ) : Type 0 where
+  pub cells_are : neighbour_cells t node kid before ns ≡ cells
+  pub neighbours : AreNeighbours t node kid before ns
 
 -- these are the numbers of the kid at hand and of the kid before that one
 pub record AreKids (t : CheckedTree) (node k : ℕ) (child : Option ℕ) (later : Bool) (kid before : ℕ) : Type 0 where
@@ -60,8 +60,8 @@ module _ (t : CheckedTree) (fits : IsTreeOf (meant t.checked) t.tree) (node : �
 
   module _ (k : ℕ) (later : Bool) (kid_number before : ℕ) where
     -- the cell of a read
-    site_cell : (child : Option ℕ) (n : NearRead) → AreKids t node k child later kid_number before
-        → (site : NearSite) → n.site ≡ site
+    site_cell : (child : Option ℕ) (n : NeighbourRead) → AreKids t node k child later kid_number before
+        → (site : NeighbourSite) → n.site ≡ site
         → IsSite child later site → IsSeen t node (site_occurrence (unwrap_or child 0) k site n.attr)
         → IsCell t node (site_node node kid_number before site) n.attr
         (site_occurrence (unwrap_or child 0) k site n.attr)
@@ -74,28 +74,28 @@ module _ (t : CheckedTree) (fits : IsTreeOf (meant t.checked) t.tree) (node : �
         kid_cell before c (k - 1) n.attr (are.before_is c refl site.1) seen
 
     -- those of all
-    pub seen_cells : (child : Option ℕ) (kids : ℕ → ℕ) (reads : List Read) (ns : List NearRead)
+    pub seen_cells : (child : Option ℕ) (kids : ℕ → ℕ) (reads : List Read) (ns : List NeighbourRead)
         → AreKids t node k child later kid_number before
         → AreOf kids k child later reads ns → EachIsSeen t node (seen_by kids k reads)
         → AreCells t node kid_number before ns (map (cell_seen t node) (seen_by kids k reads))
     seen_cells child kids reads ns are of all =
         record {
           cells_are =
-              map_same (near_cell t node kid_number before) (λ n. cell_seen t node (near_occurrence child k n)) ns
+              map_same (neighbour_cell t node kid_number before) (λ n. cell_seen t node (neighbour_occurrence child k n)) ns
               (λ n h. (each n h).cell)
-              ∙ sym (map-map (cell_seen t node) (near_occurrence child k) ns)
+              ∙ sym (map-map (cell_seen t node) (neighbour_occurrence child k) ns)
               ∙ ap (map (cell_seen t node)) (sym of.see);
-          near = λ n h. (each n h).has;
+          neighbours = λ n h. (each n h).has;
         }
       where
-        each : (n : NearRead) → Contains ns n
+        each : (n : NeighbourRead) → Contains ns n
             → IsCell t node (site_node node kid_number before n.site) n.attr
-            (near_occurrence child k n)
+            (neighbour_occurrence child k n)
         each n h =
             site_cell child n are n.site refl (of.sites n h)
-            (all (near_occurrence child k n)
-            (subst (λ (os : List Occurrence). Contains os (near_occurrence child k n)) (sym of.see)
-            (map_has (near_occurrence child k) ns n h)))
+            (all (neighbour_occurrence child k n)
+            (subst (λ (os : List Occurrence). Contains os (neighbour_occurrence child k n)) (sym of.see)
+            (map_has (neighbour_occurrence child k) ns n h)))
 
 -- those of a step of a fold, at each of some kids
 pub fold_cells : (f : Occurrence → ℕ) (at : ℕ → List ℕ) (seen : ℕ → List Occurrence) (js : List ℕ)

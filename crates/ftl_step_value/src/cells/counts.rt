@@ -8,10 +8,10 @@ ghost use Rattle.ftl_step_value.specs.cells.ReadCells.{read_cells};
 
 use crate::cells::cursor::StepReads;
 use crate::cells::parts::step_parts;
-use ftl_limits::reads::ReadTables;
-use ftl_order::steps::Step;
-use ftl_tree::trees::Tree;
-use ftl_visit::step_reads::read_count as count_by_parts;
+use ftl_limits::ReadTables;
+use ftl_order::Step;
+use ftl_tree::Tree;
+use ftl_visit::read_count as count_by_parts;
 
 /// How many cells a step reads, each counted as often as it is read.
 pub fn read_count(tables: &ReadTables, tree: &Tree<'_>, step: Step) -> u32

@@ -14,10 +14,10 @@ ghost use Rattle.ftl_step_value.specs.cells.Seen.{IsThere, cell_seen};
 
 use crate::cells::parts::step_parts;
 use crate::cells::seen::read_cell;
-use ftl_deps::parts::{PartRead, RuleParts};
-use ftl_limits::reads::ReadTables;
-use ftl_order::steps::Step;
-use ftl_tree::trees::Tree;
+use ftl_deps::{PartRead, RuleParts};
+use ftl_limits::ReadTables;
+use ftl_order::Step;
+use ftl_tree::Tree;
 use std::marker::Model;
 
 /// A cursor over the cells that a step reads. Contracts see the cells that are left.

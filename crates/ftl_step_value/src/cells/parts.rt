@@ -6,10 +6,10 @@ ghost use Rattle.ftl_visit.specs.step_reads.StepReads.{MayStandAt};
 ghost use Rattle.ftl_limits.specs.reads.ReadTables.{AreTables, IsSound};
 ghost use Rattle.ftl_order.specs.steps.Steps.{IsStepOf, rule_at};
 
-use ftl_deps::parts::RuleParts;
-use ftl_limits::reads::ReadTables;
-use ftl_order::steps::Step;
-use ftl_tree::trees::Tree;
+use ftl_deps::RuleParts;
+use ftl_limits::ReadTables;
+use ftl_order::Step;
+use ftl_tree::Tree;
 
 /// The parts of the rule of a step of the tree.
 #[inline(always)]

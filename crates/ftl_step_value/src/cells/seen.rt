@@ -7,8 +7,8 @@ ghost use Rattle.ftl_deps.specs.parts.RuleParts.{read_meant};
 ghost use Rattle.ftl_visit.specs.step_reads.StepReads.{children_in, kids_in};
 ghost use Rattle.ftl_step_value.specs.cells.Seen.{EachIsSeen, IsSeen, IsThere, cell_seen};
 
-use ftl_deps::parts::PartRead;
-use ftl_tree::trees::Tree;
+use ftl_deps::PartRead;
+use ftl_tree::Tree;
 
 /// The cell of a read at a node while this kid is at hand; none where there is nothing to read.
 #[inline(always)]

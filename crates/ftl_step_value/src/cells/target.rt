@@ -6,8 +6,8 @@ ghost use Rattle.ftl_order.specs.steps.Steps.{IsStepOf};
 ghost use Rattle.ftl_step_value.specs.cells.ReadCells.{filled_cell};
 
 use crate::cells::seen::kid_cell;
-use ftl_order::steps::Step;
-use ftl_tree::trees::Tree;
+use ftl_order::Step;
+use ftl_tree::Tree;
 
 /// The cell of the instance that a step computes.
 #[inline(always)]

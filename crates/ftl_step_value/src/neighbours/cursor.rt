@@ -1,4 +1,4 @@
-//! The cells that a step reads of near nodes, one after the other.
+//! The cells that a step reads of neighbours, one after the other.
 ghost use Rattle.std.specs.Prelude.{◌≡◌, ◌<◌, [], is_some, map, slice_index_or, IfNone, IfSome};
 ghost use Rattle.std.specs.List.{cons_option};
 ghost use Rattle.ftl_model.specs.layout.Tree.{size};
@@ -6,67 +6,75 @@ ghost use Rattle.ftl_deps.specs.reads.Meant.{meant};
 ghost use Rattle.ftl_limits.specs.reads.ReadTables.{IsSound};
 ghost use Rattle.ftl_order.specs.steps.Steps.{IsStepOf};
 ghost use Rattle.ftl_step_value.specs.cells.ReadCells.{read_cells};
-ghost use Rattle.ftl_step_value.specs.neighbours.NearParts.{AreNearParts, is_near, near_at};
-ghost use Rattle.ftl_step_value.specs.neighbours.NearCells.{AreNear, IsNear, near_cell, near_cells};
-ghost use Rattle.ftl_step_value.specs.neighbours.NearCells.{site_node};
+ghost use Rattle.ftl_step_value.specs.neighbours.NeighbourParts.{AreNeighbourParts};
+ghost use Rattle.ftl_step_value.specs.neighbours.NeighbourParts.{reads_neighbours};
+ghost use Rattle.ftl_step_value.specs.neighbours.NeighbourParts.{neighbour_parts_at};
+ghost use Rattle.ftl_step_value.specs.neighbours.NeighbourCells.{AreNeighbours, IsNeighbour};
+ghost use Rattle.ftl_step_value.specs.neighbours.NeighbourCells.{neighbour_cell, neighbour_cells};
+ghost use Rattle.ftl_step_value.specs.neighbours.NeighbourCells.{site_node};
 
-use crate::neighbours::parts::NearParts;
-use crate::neighbours::reads::{NearRead, NearSite};
-use ftl_order::steps::Step;
-use ftl_tree::trees::Tree;
+use crate::neighbours::parts::NeighbourParts;
+use crate::neighbours::reads::{NeighbourRead, NeighbourSite};
+use ftl_order::Step;
+use ftl_tree::Tree;
 use std::marker::Model;
 
-/// A cursor over the cells that a step reads, all of near nodes. Contracts see the cells that are
+/// A cursor over the cells that a step reads, all of neighbours. Contracts see the cells that are
 /// left.
 #[derive(Drop)]
-pub struct NearCells<'a> {
+pub struct NeighbourCells<'a> {
     tree: &'a Tree<'a>,
     own: u32,
     kid: u32,
     before: u32,
-    reads: &'a [NearRead],
-    each: &'a [NearRead],
+    reads: &'a [NeighbourRead],
+    each: &'a [NeighbourRead],
     kids: &'a [u32],
 }
 
-impl<'a> Model for NearCells<'a> {
+impl<'a> Model for NeighbourCells<'a> {
     ghost use Rattle.std.specs.Prelude.{ℕ, List};
 
     ghost Value = { List ℕ };
 
-    ghost use Rattle.ftl_step_value.specs.neighbours.NearCells.{IsCursor, cells_left};
+    ghost use Rattle.ftl_step_value.specs.neighbours.NeighbourCells.{IsCursor, cells_left};
 
     ghost view = { cells_left };
 
     ghost invariant = { IsCursor };
 }
 
-impl<'a> NearCells<'a> {
+impl<'a> NeighbourCells<'a> {
     /// Before the first cell that a step reads; none where its rule reads elsewhere too.
     #[inline(always)]
-    pub fn new(parts: &'a [NearParts], tree: &'a Tree<'a>, step: Step) -> Option<NearCells<'a>>
+    pub fn new(
+        parts: &'a [NeighbourParts],
+        tree: &'a Tree<'a>,
+        step: Step,
+    ) -> Option<NeighbourCells<'a>>
         requires sound { IsSound (meant tree.now.checked) }
-        requires parts { AreNearParts tree.now.checked parts.now }
+        requires parts { AreNeighbourParts tree.now.checked parts.now }
         requires step { IsStepOf (meant tree.now.checked) tree.now.tree step }
         ensures cells { IfSome result
             (λ c. c ≡ read_cells (meant tree.now.checked) tree.now.tree step) }
-        ensures near { is_some result ≡ is_near (near_at parts.now step.rule) }
+        ensures neighbours { is_some result
+            ≡ reads_neighbours (neighbour_parts_at parts.now step.rule) }
     {
         let _nodes = tree.node_count();
         match &parts[step.rule as usize] {
-            NearParts::Own(reads) => {
-                Some(NearCells::of_part(tree, step.node, 0, 0, reads.as_slice()))
+            NeighbourParts::Own(reads) => {
+                Some(NeighbourCells::of_part(tree, step.node, 0, 0, reads.as_slice()))
             }
-            NearParts::Kids(child, first, later) => {
+            NeighbourParts::Kids(child, first, later) => {
                 let kids = tree.kids(step.node, *child);
                 let kid = kids[step.kid as usize];
                 if step.kid == 0 {
-                    return Some(NearCells::of_part(tree, step.node, kid, 0, first.as_slice()));
+                    return Some(NeighbourCells::of_part(tree, step.node, kid, 0, first.as_slice()));
                 }
                 let before = kids[step.kid as usize - 1];
-                Some(NearCells::of_part(tree, step.node, kid, before, later.as_slice()))
+                Some(NeighbourCells::of_part(tree, step.node, kid, before, later.as_slice()))
             }
-            NearParts::Fold(child, start, each) => Some(NearCells {
+            NeighbourParts::Fold(child, start, each) => Some(NeighbourCells {
                 tree,
                 own: step.node,
                 kid: 0,
@@ -75,7 +83,7 @@ impl<'a> NearCells<'a> {
                 each: each.as_slice(),
                 kids: tree.kids(step.node, *child),
             }),
-            NearParts::Far => None,
+            NeighbourParts::Far => None,
         }
     }
 
@@ -86,12 +94,12 @@ impl<'a> NearCells<'a> {
         own: u32,
         kid: u32,
         before: u32,
-        reads: &'a [NearRead],
-    ) -> NearCells<'a>
-        requires near { AreNear tree.now own kid before reads.now }
-        ensures cells { result ≡ near_cells tree.now own kid before reads.now }
+        reads: &'a [NeighbourRead],
+    ) -> NeighbourCells<'a>
+        requires neighbours { AreNeighbours tree.now own kid before reads.now }
+        ensures cells { result ≡ neighbour_cells tree.now own kid before reads.now }
     {
-        NearCells {
+        NeighbourCells {
             tree,
             own,
             kid,
@@ -111,7 +119,7 @@ impl<'a> NearCells<'a> {
         loop {
             if let [read, rest @ ..] = self.reads {
                 self.reads = rest;
-                return Some(near_cell(self.tree, self.own, self.kid, self.before, *read));
+                return Some(neighbour_cell(self.tree, self.own, self.kid, self.before, *read));
             }
             if let [kid, rest @ ..] = self.kids {
                 self.kids = rest;
@@ -124,23 +132,23 @@ impl<'a> NearCells<'a> {
     }
 }
 
-/// The cell of a read, where these are the near nodes.
+/// The cell of a read, where these are the neighbours.
 #[inline(always)]
-fn near_cell(tree: &Tree<'_>, own: u32, kid: u32, before: u32, read: NearRead) -> u32
-    requires near { IsNear tree.now own kid before read }
-    ensures cell { result ≡ near_cell tree.now own kid before read }
+fn neighbour_cell(tree: &Tree<'_>, own: u32, kid: u32, before: u32, read: NeighbourRead) -> u32
+    requires neighbours { IsNeighbour tree.now own kid before read }
+    ensures cell { result ≡ neighbour_cell tree.now own kid before read }
 {
     tree.instance(site_node(own, kid, before, read.site), read.attr)
 }
 
 /// The node of a site.
 #[inline(always)]
-fn site_node(own: u32, kid: u32, before: u32, site: NearSite) -> u32
+fn site_node(own: u32, kid: u32, before: u32, site: NeighbourSite) -> u32
     ensures node { result ≡ site_node own kid before site }
 {
     match site {
-        NearSite::Own => own,
-        NearSite::Kid => kid,
-        NearSite::Before => before,
+        NeighbourSite::Own => own,
+        NeighbourSite::Kid => kid,
+        NeighbourSite::Before => before,
     }
 }

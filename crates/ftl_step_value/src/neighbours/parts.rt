@@ -1,39 +1,41 @@
-//! What each rule reads of near nodes.
+//! What each rule reads of neighbours.
 ghost use Rattle.std.specs.Prelude.{◌≡◌, false, map, None, Some, IfOk};
 ghost use Rattle.ftl_deps.specs.reads.Meant.{meant};
 ghost use Rattle.ftl_limits.specs.reads.ReadTables.{AreTables};
 ghost use Rattle.ftl_deps.specs.parts.RuleParts.{parts_meant, read_meant};
-ghost use Rattle.ftl_step_value.specs.neighbours.NearParts.{AreNearParts, fold_parts, kids_parts};
-ghost use Rattle.ftl_step_value.specs.neighbours.NearParts.{near_list, near_parts_of, own_parts};
+ghost use Rattle.ftl_step_value.specs.neighbours.NeighbourParts.{AreNeighbourParts, fold_parts};
+ghost use Rattle.ftl_step_value.specs.neighbours.NeighbourParts.{kids_parts};
+ghost use Rattle.ftl_step_value.specs.neighbours.NeighbourParts.{neighbour_list};
+ghost use Rattle.ftl_step_value.specs.neighbours.NeighbourParts.{neighbour_parts_of, own_parts};
 
-use crate::neighbours::reads::{NearRead, near_list};
-use ftl_checked::grammars::Checked;
-use ftl_deps::parts::{PartRead, RuleParts};
-use ftl_limits::reads::ReadTables;
+use crate::neighbours::reads::{NeighbourRead, neighbour_list};
+use ftl_checked::Checked;
+use ftl_deps::{PartRead, RuleParts};
+use ftl_limits::ReadTables;
 use sqlite_items::Items;
 use std::alloc::{AllocError, Global};
 
-/// What a rule reads of near nodes, where it reads of no others.
+/// What a rule reads of neighbours, where it reads of no others.
 #[derive(Drop)]
-pub enum NearParts {
+pub enum NeighbourParts {
     /// A rule of one part for the node itself.
-    Own(Items<NearRead>),
+    Own(Items<NeighbourRead>),
     /// A rule for the kids of this child: for its first kid, and for each later one.
-    Kids(u32, Items<NearRead>, Items<NearRead>),
+    Kids(u32, Items<NeighbourRead>, Items<NeighbourRead>),
     /// A fold over the kids of this child: its start, and its step at each kid.
-    Fold(u32, Items<NearRead>, Items<NearRead>),
+    Fold(u32, Items<NeighbourRead>, Items<NeighbourRead>),
     /// A rule that reads elsewhere too.
     Far,
 }
 
-/// What each rule reads of near nodes, by the rule's number.
-pub fn near_parts(
+/// What each rule reads of neighbours, by the rule's number.
+pub fn neighbour_parts(
     alloc: Global,
     tables: &ReadTables,
     checked: &Checked,
-) -> Result<Vec<NearParts>, AllocError>
+) -> Result<Vec<NeighbourParts>, AllocError>
     requires tables { AreTables (meant checked.now) tables.now }
-    ensures parts { IfOk result (λ v. AreNearParts checked.now v.items) }
+    ensures parts { IfOk result (λ v. AreNeighbourParts checked.now v.items) }
 {
     let _lawful = checked.grammar();
     let rows = tables.parts.as_slice();
@@ -45,10 +47,14 @@ pub fn near_parts(
     Ok(parts)
 }
 
-/// What a rule with these parts reads of near nodes, which is for the kids of this child, or for
+/// What a rule with these parts reads of neighbours, which is for the kids of this child, or for
 /// the node itself.
-fn parts_of(alloc: Global, child: Option<u32>, parts: &RuleParts) -> Result<NearParts, AllocError>
-    ensures parts { IfOk result (λ p. p ≡ near_parts_of child (parts_meant parts.now)) }
+fn parts_of(
+    alloc: Global,
+    child: Option<u32>,
+    parts: &RuleParts,
+) -> Result<NeighbourParts, AllocError>
+    ensures parts { IfOk result (λ p. p ≡ neighbour_parts_of child (parts_meant parts.now)) }
 {
     match parts {
         RuleParts::Plain(reads) => match child {
@@ -56,7 +62,7 @@ fn parts_of(alloc: Global, child: Option<u32>, parts: &RuleParts) -> Result<Near
             Some(of) => kids_parts(alloc, of, reads.as_slice(), false, reads.as_slice()),
         },
         RuleParts::FirstThen(first, later) => match child {
-            None => Ok(NearParts::Far),
+            None => Ok(NeighbourParts::Far),
             Some(of) => kids_parts(alloc, of, first.as_slice(), true, later.as_slice()),
         },
         RuleParts::FoldOver(over, start, step) => {
@@ -65,13 +71,13 @@ fn parts_of(alloc: Global, child: Option<u32>, parts: &RuleParts) -> Result<Near
     }
 }
 
-fn own_parts(alloc: Global, reads: &[PartRead]) -> Result<NearParts, AllocError>
+fn own_parts(alloc: Global, reads: &[PartRead]) -> Result<NeighbourParts, AllocError>
     ensures parts { IfOk result (λ p.
-        p ≡ own_parts (near_list None false (map read_meant reads.now))) }
+        p ≡ own_parts (neighbour_list None false (map read_meant reads.now))) }
 {
-    match near_list(alloc, None, false, reads)? {
-        Some(reads) => Ok(NearParts::Own(reads)),
-        None => Ok(NearParts::Far),
+    match neighbour_list(alloc, None, false, reads)? {
+        Some(reads) => Ok(NeighbourParts::Own(reads)),
+        None => Ok(NeighbourParts::Far),
     }
 }
 
@@ -83,16 +89,16 @@ fn kids_parts(
     first: &[PartRead],
     is_later: bool,
     later: &[PartRead],
-) -> Result<NearParts, AllocError>
+) -> Result<NeighbourParts, AllocError>
     ensures parts { IfOk result (λ p. p ≡ kids_parts child
-        (near_list (Some child) false (map read_meant first.now))
-        (near_list (Some child) is_later (map read_meant later.now))) }
+        (neighbour_list (Some child) false (map read_meant first.now))
+        (neighbour_list (Some child) is_later (map read_meant later.now))) }
 {
-    let first = near_list(alloc, Some(child), false, first)?;
-    let later = near_list(alloc, Some(child), is_later, later)?;
+    let first = neighbour_list(alloc, Some(child), false, first)?;
+    let later = neighbour_list(alloc, Some(child), is_later, later)?;
     match (first, later) {
-        (Some(first), Some(later)) => Ok(NearParts::Kids(child, first, later)),
-        _ => Ok(NearParts::Far),
+        (Some(first), Some(later)) => Ok(NeighbourParts::Kids(child, first, later)),
+        _ => Ok(NeighbourParts::Far),
     }
 }
 
@@ -101,15 +107,15 @@ fn fold_parts(
     child: u32,
     start: &[PartRead],
     step: &[PartRead],
-) -> Result<NearParts, AllocError>
+) -> Result<NeighbourParts, AllocError>
     ensures parts { IfOk result (λ p. p ≡ fold_parts child
-        (near_list None false (map read_meant start.now))
-        (near_list (Some child) false (map read_meant step.now))) }
+        (neighbour_list None false (map read_meant start.now))
+        (neighbour_list (Some child) false (map read_meant step.now))) }
 {
-    let start = near_list(alloc, None, false, start)?;
-    let step = near_list(alloc, Some(child), false, step)?;
+    let start = neighbour_list(alloc, None, false, start)?;
+    let step = neighbour_list(alloc, Some(child), false, step)?;
     match (start, step) {
-        (Some(start), Some(step)) => Ok(NearParts::Fold(child, start, step)),
-        _ => Ok(NearParts::Far),
+        (Some(start), Some(step)) => Ok(NeighbourParts::Fold(child, start, step)),
+        _ => Ok(NeighbourParts::Far),
     }
 }

@@ -1,16 +1,17 @@
-//! Reads of near nodes.
+//! Reads of neighbours.
 ghost use Rattle.std.specs.Prelude.{◌≡◌, map, IfOk};
 ghost use Rattle.ftl_deps.specs.parts.RuleParts.{read_meant};
-ghost use Rattle.ftl_step_value.specs.neighbours.NearParts.{is_child, near_if, near_list};
-ghost use Rattle.ftl_step_value.specs.neighbours.NearParts.{near_read};
+ghost use Rattle.ftl_step_value.specs.neighbours.NeighbourParts.{is_child, neighbour_if};
+ghost use Rattle.ftl_step_value.specs.neighbours.NeighbourParts.{neighbour_list};
+ghost use Rattle.ftl_step_value.specs.neighbours.NeighbourParts.{neighbour_read};
 
-use ftl_deps::parts::PartRead;
+use ftl_deps::PartRead;
 use sqlite_items::Items;
 use std::alloc::{AllocError, Global};
 
 /// The node whose attribute is read.
 #[derive(Clone, Copy, Debug, PartialEq, Eq)]
-pub enum NearSite {
+pub enum NeighbourSite {
     /// The node at which the step runs.
     Own,
     /// The kid that the step is for, or that a fold has come to.
@@ -19,51 +20,55 @@ pub enum NearSite {
     Before,
 }
 
-/// A read of an attribute, by number, of a near node.
+/// A read of an attribute, by number, of a neighbour.
 #[derive(Clone, Copy, Debug, PartialEq, Eq)]
-pub struct NearRead {
-    pub site: NearSite,
+pub struct NeighbourRead {
+    pub site: NeighbourSite,
     pub attr: u32,
 }
 
-/// What the reads of a part are of near nodes; none where one of them is of another.
-pub(crate) fn near_list(
+/// What the reads of a part are of neighbours; none where one of them is of another.
+pub(crate) fn neighbour_list(
     alloc: Global,
     child: Option<u32>,
     later: bool,
     reads: &[PartRead],
-) -> Result<Option<Items<NearRead>>, AllocError>
-    ensures list { IfOk result (λ o. o ≡ near_list child later (map read_meant reads.now)) }
+) -> Result<Option<Items<NeighbourRead>>, AllocError>
+    ensures list { IfOk result (λ o. o ≡ neighbour_list child later (map read_meant reads.now)) }
 {
-    let mut near = Items::new(alloc);
+    let mut neighbours = Items::new(alloc);
     for read in reads {
-        match near_read(child, later, *read) {
-            Some(read) => near.push(read)?,
+        match neighbour_read(child, later, *read) {
+            Some(read) => neighbours.push(read)?,
             None => return Ok(None),
         }
     }
-    Ok(Some(near))
+    Ok(Some(neighbours))
 }
 
-/// What a read is of near nodes, in a part that stands at a kid of this child, or at no kid.
-fn near_read(child: Option<u32>, later: bool, read: PartRead) -> Option<NearRead>
-    ensures read { result ≡ near_read child later (read_meant read) }
+/// What a read is of neighbours, in a part that stands at a kid of this child, or at no kid.
+fn neighbour_read(child: Option<u32>, later: bool, read: PartRead) -> Option<NeighbourRead>
+    ensures read { result ≡ neighbour_read child later (read_meant read) }
 {
     match read {
-        PartRead::Own(attr) => near_if(true, NearSite::Own, attr),
+        PartRead::Own(attr) => neighbour_if(true, NeighbourSite::Own, attr),
         PartRead::Each(of, attr) | PartRead::This(of, attr) => {
-            near_if(is_child(child, of), NearSite::Kid, attr)
+            neighbour_if(is_child(child, of), NeighbourSite::Kid, attr)
         }
-        PartRead::Prev(of, attr) => near_if(later && is_child(child, of), NearSite::Before, attr),
+        PartRead::Prev(of, attr) => neighbour_if(
+            later && is_child(child, of),
+            NeighbourSite::Before,
+            attr,
+        ),
         PartRead::Single(_, _) | PartRead::Last(_, _) => None,
     }
 }
 
-fn near_if(near: bool, site: NearSite, attr: u32) -> Option<NearRead>
-    ensures read { result ≡ near_if near site attr }
+fn neighbour_if(is_neighbour: bool, site: NeighbourSite, attr: u32) -> Option<NeighbourRead>
+    ensures read { result ≡ neighbour_if is_neighbour site attr }
 {
-    if near {
-        Some(NearRead { site, attr })
+    if is_neighbour {
+        Some(NeighbourRead { site, attr })
     } else {
         None
     }

@@ -6,8 +6,8 @@ ghost use Rattle.ftl_order.specs.orders.Lawful.{EachMay};
 ghost use Rattle.ftl_deps.specs.parts.RuleParts.{read_meant};
 ghost use Rattle.ftl_visit.specs.step_reads.StepReads.{IsOfChildren, children_in, kids_in};
 
-use ftl_deps::parts::PartRead;
-use ftl_tree::trees::Tree;
+use ftl_deps::PartRead;
+use ftl_tree::Tree;
 
 /// How many of some reads are of anything, while this kid is at hand.
 pub(crate) fn seen_count(tree: &Tree<'_>, node: u32, reads: &[PartRead], at_hand: u32) -> usize

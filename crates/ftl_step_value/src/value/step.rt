@@ -17,12 +17,11 @@ use crate::cells::step_parts;
 use crate::value::fold::fold_value;
 use crate::value::part::{Site, SitePart};
 use ftl_base::{CodeStack, Val};
-use ftl_deps::parts::RuleParts;
-use ftl_limits::reads::ReadTables;
-use ftl_order::steps::Step;
-use ftl_tree::trees::Tree;
-use ftl_visit::compiled::{Part, Programs};
-use ftl_visit::rule_values::parts_give_the_rule;
+use ftl_deps::RuleParts;
+use ftl_limits::ReadTables;
+use ftl_order::Step;
+use ftl_tree::Tree;
+use ftl_visit::{Part, Programs, parts_give_the_rule};
 
 /// The value that a step gives the cell that it fills, by the values of the cells that it reads, in
 /// their order.

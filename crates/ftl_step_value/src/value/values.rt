@@ -9,9 +9,9 @@ ghost use Rattle.ftl_step_value.specs.value.Spread.{spread};
 
 use crate::value::counts::{is_there, seen_count};
 use ftl_base::Val;
-use ftl_deps::parts::PartRead;
-use ftl_tree::trees::Tree;
-use ftl_visit::rule_code::Reads;
+use ftl_deps::PartRead;
+use ftl_tree::Tree;
+use ftl_visit::Reads;
 use std::marker::Model;
 
 /// A value for each read.

@@ -1,7 +1,7 @@
 //! Operators on numbers.
 use crate::code::running::{Number, run, val};
 use ftl_base::Width;
-use ftl_visit::rule_code::Instruction;
+use ftl_visit::Instruction;
 use std::test::Fail;
 
 const SUMS: [(Width, Number, Number, Number); 9] = [

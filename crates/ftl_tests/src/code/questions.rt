@@ -2,7 +2,7 @@
 //! where it does not.
 use crate::code::running::{Number, run, val};
 use ftl_base::{Cmp, Width};
-use ftl_visit::rule_code::Instruction;
+use ftl_visit::Instruction;
 use std::test::Fail;
 
 const COMPARED: [(Cmp, Number, Number, Number); 15] = [

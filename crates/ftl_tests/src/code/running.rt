@@ -3,7 +3,8 @@ ghost use Rattle.std.specs.Prelude.{◌≤◌, length};
 ghost use Rattle.ftl_visit.specs.rule_code.Depth.{depth_of, Stands};
 
 use ftl_base::{CodeStack, Val, Width};
-use ftl_visit::rule_code::{Instruction, Reads, run_code};
+use ftl_visit::rule_code::run_code;
+use ftl_visit::{Instruction, Reads};
 use std::alloc::{AllocError, Global};
 
 /// A number, or none for Overflow.

@@ -1,6 +1,6 @@
 use ftl_base::Width;
 use ftl_boxes::shipped;
-use ftl_page::sections::{Need, Page, PageFault, Section, Text, split_page};
+use ftl_page::{Need, Page, PageFault, Section, Text, split_page};
 use std::process::Abort;
 use std::test::Fail;
 

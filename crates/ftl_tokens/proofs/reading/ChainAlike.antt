@@ -2,8 +2,8 @@
 use Rattle.std.proofs.Common.{◌≡◌, ℕ, zero, suc, ◌+◌, ◌<◌, ◌≤◌, [], ◌∷◌, ◌++◌, length, Option, Some, None, Ok, Err}
 use Rattle.std.proofs.Common.{sym, refl, ap, ◌∙◌, subst, length-append, arith}
 use Rattle.ftl_tokens.specs.reading.Reader.{Tokens, ReadResult, Reader, and_then, go_on, chain, chain_of}
-use Rattle.ftl_tokens.proofs.reading.Told.{Taken, Tells, Told}
-use Rattle.ftl_tokens.proofs.reading.ChainTold.{OrNone}
+use Rattle.ftl_tokens.proofs.reading.KeptPrefix.{Taken, HasPrefix, KeepsPrefix}
+use Rattle.ftl_tokens.proofs.reading.ChainPrefix.{OrNone}
 use Rattle.ftl_tokens.proofs.reading.Went.{got}
 use Rattle.ftl_tokens.proofs.reading.Alike.{left, with_left, Alike, bind_alike, pure_alike}
 
@@ -71,12 +71,12 @@ module _ {A B : Type 0} {peak : Tokens → ℕ} {n : ℕ} (add : B → A → B) 
         (λ o. with_left o s) (sym here);
   }
 
--- an item that tells of tokens takes some, where what it tells of has some
-pub takes_some : {A : Type 0} {S : Tokens → A → Type 0} {item : Reader (Option A)} → Told (OrNone S) item
+-- an item that keeps the prefix takes some tokens, where what it spells has some
+pub takes_some : {A : Type 0} {S : Tokens → A → Type 0} {item : Reader (Option A)} → KeepsPrefix (OrNone S) item
     → ((a : Tokens) (x : A) → S a x → 0 < length a) → item [] ≡ got None [] → TakesSome item
 takes_some {A} {S} {item} told some at_end = record { at_end = at_end; fewer = fewer }
   where
     fewer : (ts rest : Tokens) (x : A) → item ts ≡ got (Some x) rest → length rest < length ts
     fewer ts rest x e =
-        let taken : Taken (OrNone S) ts (Some x) rest = subst (λ o. Tells (OrNone S) o ts) e (told.tells ts) in
+        let taken : Taken (OrNone S) ts (Some x) rest = subst (λ o. HasPrefix (OrNone S) o ts) e (told.keeps ts) in
         omega (arith, some taken.front x taken.spells, ap length taken.split, length-append taken.front rest)

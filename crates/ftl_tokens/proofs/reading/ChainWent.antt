@@ -2,7 +2,7 @@
 use Rattle.std.proofs.Common.{◌≡◌, ℕ, zero, suc, ◌<◌, ◌≤◌, ◌++◌, length, Option, Some, None, sym, subst, append_assoc}
 use Rattle.std.proofs.Common.{length-append, arith}
 use Rattle.ftl_tokens.specs.reading.Reader.{Tokens, Reader, go_on, chain, chain_of}
-use Rattle.ftl_tokens.proofs.reading.ChainTold.{Chain, none, more}
+use Rattle.ftl_tokens.proofs.reading.ChainPrefix.{Chain, none, more}
 use Rattle.ftl_tokens.proofs.reading.Went.{got, Went, went_bind, went_pure, went_at}
 
 -- What the item of a chain has to be: what may follow an item is the next, or what may follow the chain.

@@ -5,8 +5,8 @@ use Rattle.std.proofs.Common.{append_assoc, length-append, arith}
 use Rattle.std.proofs.lemmas.List.{length-map}
 use Rattle.ftl_tokens.specs.scanner.Tokenized.{Tokenized, symbol_of, symbols_of}
 use Rattle.ftl_tokens.specs.reading.Reader.{Tokens, Reader}
-use Rattle.ftl_tokens.specs.reading.Place.{Begins, LongestFront, IsPlaceOf, place_of}
-use Rattle.ftl_tokens.proofs.reading.Told.{Grown}
+use Rattle.ftl_tokens.specs.reading.Place.{Begins, LongestFront, IsFaultPlace, place_of}
+use Rattle.ftl_tokens.proofs.reading.KeptPrefix.{Grown}
 use Rattle.ftl_tokens.proofs.reading.Went.{got}
 use Rattle.ftl_tokens.proofs.reading.Alike.{first_of, left, with_left, Alike}
 
@@ -66,7 +66,7 @@ front-length {rest = rest} wrong = omega (arith, ap length wrong.split, length-a
 pub is_place : {A : Type 0} {S : Tokens → A → Type 0} {scanned : Tokenized} {at : ℕ} (rest : Tokens)
     → LongestFront S (symbols_of scanned) rest
     → (kept : ℕ) → kept ≡ length rest → at ≡ place_of scanned.tokens (length scanned.tokens - kept)
-    → IsPlaceOf S scanned at
+    → IsFaultPlace S scanned at
 is_place {scanned = scanned} rest wrong kept count place = record {
   rest = rest;
   wrong = wrong;

@@ -2,7 +2,7 @@
 use Rattle.std.proofs.Common.{◌≡◌, ℕ, ◌-◌, [], ◌∷◌, ◌++◌, length, sym, ap, ◌∙◌, subst, append_assoc}
 use Rattle.ftl_tokens.specs.scanner.Tokenized.{Tokenized, Symbol, symbols_of}
 use Rattle.ftl_tokens.specs.reading.Reader.{Tokens}
-use Rattle.ftl_tokens.specs.reading.Place.{Begins, LongestFront, IsPlaceOf, place_of}
+use Rattle.ftl_tokens.specs.reading.Place.{Begins, LongestFront, IsFaultPlace, place_of}
 use Rattle.ftl_tokens.proofs.reading.Fronts.{Parting, together, sooner, later, parting}
 use Rattle.ftl_tokens.proofs.reading.Places.{begins_shorter, front-length}
 
@@ -23,8 +23,8 @@ one_rest {A} {S} {ts} {r} {s} a b = by (parting a.front b.front r s (sym a.split
     by (later t more rest front) = absurd (not_longer b a.front t more r rest front a.begins)
 
 -- and at one byte
-pub one_place : {A : Type 0} {S : Tokens → A → Type 0} {scanned : Tokenized} {at other : ℕ} → IsPlaceOf S scanned at
-    → IsPlaceOf S scanned other
+pub one_place : {A : Type 0} {S : Tokens → A → Type 0} {scanned : Tokenized} {at other : ℕ} → IsFaultPlace S scanned at
+    → IsFaultPlace S scanned other
     → at ≡ other
 one_place {scanned = scanned} a b =
     a.place

@@ -4,8 +4,8 @@ use Rattle.std.proofs.Common.{refl, ap, ◌∙◌, subst, length-append, arith}
 use Rattle.ftl_tokens.specs.declared.reading.chain_item.ChainItem.{ChainItem}
 use Rattle.ftl_tokens.specs.declared.reading.chain_item.ChainItem.TheVariants.{Stop, Next, Last}
 use Rattle.ftl_tokens.specs.reading.Reader.{Tokens, ReadResult, Reader, and_then, go_until, until, until_of}
-use Rattle.ftl_tokens.proofs.reading.Told.{Taken, Tells, Told}
-use Rattle.ftl_tokens.proofs.reading.ChainTold.{ChainItemOf}
+use Rattle.ftl_tokens.proofs.reading.KeptPrefix.{Taken, HasPrefix, KeepsPrefix}
+use Rattle.ftl_tokens.proofs.reading.ChainPrefix.{ChainItemOf}
 use Rattle.ftl_tokens.proofs.reading.Went.{got}
 use Rattle.ftl_tokens.proofs.reading.Alike.{left, with_left, Alike, bind_alike, pure_alike}
 
@@ -75,13 +75,13 @@ module _ {A B C : Type 0} {peak : Tokens → ℕ} {n : ℕ} (add : C → A → C
         (λ o. with_left o s) (sym here);
   }
 
--- an item that tells of tokens takes some, where what it tells of has some
+-- an item that keeps the prefix takes some tokens, where what it spells has some
 pub step_takes_some : {A B : Type 0} {S : Tokens → A → Type 0} {T : Tokens → B → Type 0} {item : Reader (ChainItem A B)}
-    → Told (ChainItemOf S T) item
+    → KeepsPrefix (ChainItemOf S T) item
     → ((a : Tokens) (x : A) → S a x → 0 < length a) → item [] ≡ got Stop [] → ChainItemTakesSome item
 step_takes_some {A} {B} {S} {T} {item} told some at_end = record { at_end = at_end; fewer = fewer }
   where
     fewer : (ts rest : Tokens) (x : A) → item ts ≡ got (Next x) rest → length rest < length ts
     fewer ts rest x e =
-        let taken : Taken (ChainItemOf S T) ts (Next x) rest = subst (λ o. Tells (ChainItemOf S T) o ts) e (told.tells ts) in
+        let taken : Taken (ChainItemOf S T) ts (Next x) rest = subst (λ o. HasPrefix (ChainItemOf S T) o ts) e (told.keeps ts) in
         omega (arith, some taken.front x taken.spells, ap length taken.split, length-append taken.front rest)

@@ -4,7 +4,7 @@ use Rattle.std.proofs.Common.{length-append, arith}
 use Rattle.ftl_tokens.specs.declared.reading.chain_item.ChainItem.{ChainItem}
 use Rattle.ftl_tokens.specs.declared.reading.chain_item.ChainItem.TheVariants.{Stop, Next, Last}
 use Rattle.ftl_tokens.specs.reading.Reader.{Tokens, Reader, go_until, until, until_of}
-use Rattle.ftl_tokens.proofs.reading.ChainTold.{Until, stopped, ended, went_on}
+use Rattle.ftl_tokens.proofs.reading.ChainPrefix.{Until, stopped, ended, went_on}
 use Rattle.ftl_tokens.proofs.reading.Went.{got, Went, went_bind, went_pure, went_at}
 
 -- What the item has to be: what may follow an item is the next, the last thing, or what may follow the chain.

@@ -149,7 +149,7 @@ record IsTokenText (greatest : ℕ) (says : Symbol) (text : List ℕ) : Type 0 w
   utf8 : IsUtf8 text
   kind : kind_of (chars text) ≡ Some (kind_of_symbol says)
   small : is_too_large greatest (kind_of_symbol says) (chars text) ≡ false
-  told : symbol (kind_of_symbol says) text ≡ says
+  reads_back : symbol (kind_of_symbol says) text ≡ says
 
 -- a number in decimal is a number
 decimal_kind : (ds : List ℕ) → is_number ds ≡ true → kind_of ds ≡ Some Number
@@ -169,7 +169,7 @@ fixed_symbol _ text is = refl
 
 token_texts : (greatest : ℕ) (says : Symbol) → greatest ≤ 140737488355327 → CanBeSaid greatest says
     → IsTokenText greatest says (symbol_text says)
-token_texts greatest (name text) most can = record { utf8 = can.0; kind = can.1; small = refl; told = refl }
+token_texts greatest (name text) most can = record { utf8 = can.0; kind = can.1; small = refl; reads_back = refl }
 token_texts greatest (number value) most can =
     let ascii : IsAscii (decimal value) = IsAscii-decimal value (omega arith) in
     let same = chars-IsAscii (decimal value) ascii in
@@ -178,7 +178,7 @@ token_texts greatest (number value) most can =
       utf8 = IsUtf8-from_ascii (decimal value) ascii;
       kind = ap kind_of same ∙ decimal_kind (decimal value) (number_from (decimal value) (decimal_nonempty value (omega arith)) (numerals.from (decimal value) (decimal_is_IsNumeral value (omega arith)).0.1));
       small = ap (is_too_large greatest Number) same ∙ le-ltb _ _ (omega (arith, worth));
-      told = ap number worth;
+      reads_back = ap number worth;
     }
   where
     number_from : (ds : List ℕ) → 0 < length ds → list_all is_ascii_digit ds ≡ true → is_number ds ≡ true
@@ -192,7 +192,7 @@ token_texts greatest (fixed kind) most can =
       utf8 = IsUtf8-from_ascii _ ascii;
       kind = ap kind_of same ∙ is.is;
       small = fixed_small greatest kind _ can;
-      told = fixed_symbol kind _ can;
+      reads_back = fixed_symbol kind _ can;
     }
 
 -- what a scan of the rest of a text finds
@@ -245,9 +245,9 @@ finds greatest text front (t ∷ ts) most split are =
           ∙ ap (λ n. followed_by (record { kind = kind_of_symbol t.says; start = length front; end = length front + n } ∷ []) (scan_from greatest (length front + n) 0 (chars (t.gap ++ rest)))) (bytes_of word is.utf8)
           ∙ ap (followed_by (this ∷ [])) after;
       said =
-          let told : symbol_of text this ≡ t.says =
-          ap (symbol (kind_of_symbol t.says)) (seam_text text front word (t.gap ++ rest) cut) ∙ is.told in
-          ap (λ s. s ∷ map (symbol_of text) more.found) told ∙ ap (λ l. t.says ∷ l) more.said;
+          let reads_back : symbol_of text this ≡ t.says =
+          ap (symbol (kind_of_symbol t.says)) (seam_text text front word (t.gap ++ rest) cut) ∙ is.reads_back in
+          ap (λ s. s ∷ map (symbol_of text) more.found) reads_back ∙ ap (λ l. t.says ∷ l) more.said;
     }
 
 -- a scan of a written text finds the tokens that were written

@@ -29,7 +29,7 @@ unfoldable pub place_of : List Token → ℕ → ℕ
 place_of tokens read = byte_at (slice_get tokens read) (slice_get tokens (length tokens - 1))
 
 -- byte `at` is the place of the token after the longest front that begins some list that spells a value
-pub record IsPlaceOf {A : Type 0} (Spells : Tokens → A → Type 0) (scanned : Tokenized) (at : ℕ) : Type 0 where
+pub record IsFaultPlace {A : Type 0} (Spells : Tokens → A → Type 0) (scanned : Tokenized) (at : ℕ) : Type 0 where
   pub rest : Tokens
   pub wrong : LongestFront Spells (symbols_of scanned) rest
   pub place : at ≡ place_of scanned.tokens (length wrong.front)

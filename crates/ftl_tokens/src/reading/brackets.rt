@@ -47,8 +47,8 @@ pub fn first_too_deep(
 }
 
 fn counted(count: usize, kinds: &[Kind], kind: Kind) -> usize
-    requires { count < usize.MAX }
-    ensures { result ≡ (if list_any (same_kind kind) kinds.now then count + 1 else count) }
+    requires few { count < usize.MAX }
+    ensures count { result ≡ (if list_any (same_kind kind) kinds.now then count + 1 else count) }
 {
     if is_among(kinds, kind) {
         count + 1
@@ -59,7 +59,7 @@ fn counted(count: usize, kinds: &[Kind], kind: Kind) -> usize
 
 #[tactic(auto, unfolding(crate::specs::reading::Reader::same_kind))]
 fn is_among(kinds: &[Kind], kind: Kind) -> bool
-    ensures { result ≡ list_any (same_kind kind) kinds.now }
+    ensures among { result ≡ list_any (same_kind kind) kinds.now }
 {
     kinds.iter().any(|other| kind == *other)
 }

@@ -40,7 +40,7 @@ impl<'a> WideInput<'a> {
 
     /// All tokens of the text.
     pub(crate) fn over(scanned: &'a TokenizedText) -> WideInput<'a>
-        ensures { result ≡ symbols_of scanned.now }
+        ensures tokens { result ≡ symbols_of scanned.now }
     {
         WideInput { scanned, at: 0 }
     }
@@ -196,7 +196,7 @@ impl<'a> WideInput<'a> {
 
     #[tactic(auto, using(crate::proofs::reading::Steps::steps))]
     fn is_name(&self, text: &str) -> bool
-        ensures { result ≡ spec.is_name text.now self.now }
+        ensures name { result ≡ spec.is_name text.now self.now }
     {
         match self.peek() {
             Some(Kind::Name) => self.text() == text,
@@ -206,15 +206,15 @@ impl<'a> WideInput<'a> {
 
     /// The characters of the next token, which is a name.
     fn text(&self) -> &'a str
-        requires { spec.next_kind self.now ≡ Some Kind.Name }
-        ensures { self.now ≡ name result.now ∷ spec.rest_of self.now }
+        requires name { spec.next_kind self.now ≡ Some Kind.Name }
+        ensures text { self.now ≡ name result.now ∷ spec.rest_of self.now }
     {
         self.scanned.slice(self.at)
     }
 
     /// The value of the next token, which is a number.
     fn value(&self) -> u64
-        requires { spec.next_kind self.now ≡ Some Kind.Number }
+        requires number { spec.next_kind self.now ≡ Some Kind.Number }
         ensures value { self.now ≡ number result ∷ spec.rest_of self.now }
         ensures small { result ≤ 140737488355327 }
     {

@@ -28,8 +28,8 @@ pub enum Piece {
 
 #[inline(always)]
 fn word_piece(text: &str) -> Piece
-    requires { StartsWord (chars text.now) }
-    ensures { (greatest : ℕ) → IsTokenPiece greatest (chars text.now) result }
+    requires word { StartsWord (chars text.now) }
+    ensures piece { (greatest : ℕ) → IsTokenPiece greatest (chars text.now) result }
 {
     let length = run_length(Run::Word, text);
     Piece::Token(word_kind(&text[..length]), length)
@@ -38,7 +38,7 @@ fn word_piece(text: &str) -> Piece
 /// The number of so many digits, which is cut at `greatest` and one.
 #[inline(always)]
 fn number_token(number: u64, length: usize, greatest: u64) -> Piece
-    ensures { IsNumberPiece greatest number length result }
+    ensures piece { IsNumberPiece greatest number length result }
 {
     if number > greatest {
         Piece::LargeNumber
@@ -51,7 +51,7 @@ fn number_token(number: u64, length: usize, greatest: u64) -> Piece
 fn number_piece(text: &str, greatest: u64) -> Piece
     requires number { StartsNumber (chars text.now) }
     requires limit { greatest ≤ 140737488355327 }
-    ensures { IsTokenPiece greatest (chars text.now) result }
+    ensures piece { IsTokenPiece greatest (chars text.now) result }
 {
     let mut number = 0;
     for (at, &byte) in text.as_bytes().iter().enumerate() {
@@ -65,7 +65,7 @@ fn number_piece(text: &str, greatest: u64) -> Piece
 
 #[inline(always)]
 fn short_piece(c: char) -> Piece
-    ensures { (greatest : ℕ)
+    ensures piece { (greatest : ℕ)
         → IsPieceOf greatest (token_if (kind_of_mark (c ∷ [])) 1) (c ∷ []) result }
 {
     match short_mark(c) {
@@ -76,8 +76,8 @@ fn short_piece(c: char) -> Piece
 
 #[inline(always)]
 fn mark_piece(text: &str) -> Piece
-    requires { StartsOther (chars text.now) }
-    ensures { (greatest : ℕ) → IsTokenPiece greatest (chars text.now) result }
+    requires other { StartsOther (chars text.now) }
+    ensures piece { (greatest : ℕ) → IsTokenPiece greatest (chars text.now) result }
 {
     let mut rest = text.chars();
     let Some(first) = rest.next() else {
@@ -95,8 +95,8 @@ fn mark_piece(text: &str) -> Piece
 /// The front of a text that begins beyond ASCII.
 #[inline(never)]
 fn far_piece(text: &str) -> Piece
-    requires { StartsFar (chars text.now) }
-    ensures { (greatest : ℕ) → IsTokenPiece greatest (chars text.now) result }
+    requires far { StartsFar (chars text.now) }
+    ensures piece { (greatest : ℕ) → IsTokenPiece greatest (chars text.now) result }
 {
     let Some(first) = text.chars().next() else {
         return Piece::Nothing;
@@ -111,8 +111,8 @@ fn far_piece(text: &str) -> Piece
 /// The front of a text, whose numbers are at most `greatest`.
 #[inline(always)]
 pub fn piece_of(text: &str, greatest: u64) -> Piece
-    requires { greatest ≤ 140737488355327 }
-    ensures { IsFrontPiece greatest (chars text.now) result }
+    requires limit { greatest ≤ 140737488355327 }
+    ensures piece { IsFrontPiece greatest (chars text.now) result }
 {
     if text.is_empty() {
         return Piece::Nothing;

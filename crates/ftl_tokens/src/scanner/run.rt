@@ -20,14 +20,14 @@ pub enum Run {
 /// White space.
 #[inline]
 fn is_white_space(c: char) -> bool
-    ensures { result ≡ is_white_space c }
+    ensures space { result ≡ is_white_space c }
 {
     c == ' ' || c == '\t' || c == '\r' || c == '\n'
 }
 
 #[inline]
 fn char_goes_on(run: Run, c: char) -> bool
-    ensures { result ≡ goes_on run c }
+    ensures goes { result ≡ goes_on run c }
 {
     match run {
         Run::White => is_white_space(c),
@@ -62,7 +62,7 @@ static CLASS: [u8; 256] = [
 /// Whether the byte is an ASCII character that goes on.
 #[inline]
 pub fn byte_goes_on(run: Run, byte: u8) -> bool
-    ensures { result ≡ byte_goes_on run byte }
+    ensures goes { result ≡ byte_goes_on run byte }
 {
     match run {
         Run::White => CLASS[byte as usize] & 1 != 0,
@@ -75,7 +75,7 @@ pub fn byte_goes_on(run: Run, byte: u8) -> bool
 /// Whether the byte is an ASCII character that begins a word.
 #[inline]
 pub fn byte_begins_word(byte: u8) -> bool
-    ensures { result ≡ byte_begins_word byte }
+    ensures begins { result ≡ byte_begins_word byte }
 {
     CLASS[byte as usize] & 16 != 0
 }
@@ -83,7 +83,7 @@ pub fn byte_begins_word(byte: u8) -> bool
 /// How many bytes the characters have that go on from the front of `text`.
 #[inline(never)]
 fn char_run_length(run: Run, text: &str) -> usize
-    ensures { result ≡ byte_length (take_while (goes_on run) (chars text.now)) }
+    ensures length { result ≡ byte_length (take_while (goes_on run) (chars text.now)) }
 {
     for (place, c) in text.char_indices() {
         if !char_goes_on(run, c) {
@@ -97,7 +97,7 @@ fn char_run_length(run: Run, text: &str) -> usize
 /// from the first one on that is not ASCII.
 #[inline(always)]
 pub fn run_length(run: Run, text: &str) -> usize
-    ensures { result ≡ byte_length (take_while (goes_on run) (chars text.now)) }
+    ensures length { result ≡ byte_length (take_while (goes_on run) (chars text.now)) }
 {
     for (at, &byte) in text.as_bytes().iter().enumerate() {
         if !byte_goes_on(run, byte) {

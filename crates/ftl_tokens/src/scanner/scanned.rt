@@ -29,8 +29,8 @@ impl Model for Scanned {
 
 impl Scanned {
     pub(crate) fn new(tokenized: TokenizedText) -> Scanned
-        requires { AreTokensOf 2147483647 tokenized.text 0 tokenized.tokens }
-        ensures { result ≡ tokenized }
+        requires tokens { AreTokensOf 2147483647 tokenized.text 0 tokenized.tokens }
+        ensures tokenized { result ≡ tokenized }
     {
         Scanned { tokenized }
     }

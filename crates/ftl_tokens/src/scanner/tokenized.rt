@@ -30,7 +30,7 @@ impl Model for TokenizedText {
 
 impl TokenizedText {
     pub(crate) fn new(text: String, list: Vec<Token>) -> TokenizedText
-        requires { AreTokensOf 140737488355327 (string_bytes text) 0 list.items }
+        requires tokens { AreTokensOf 140737488355327 (string_bytes text) 0 list.items }
         ensures text { result.text ≡ string_bytes text }
         ensures tokens { result.tokens ≡ list.items }
     {
@@ -75,7 +75,7 @@ impl TokenizedText {
 fn number_of(digits: &str) -> u64
     requires number { IsTrue (is_number digits.now) }
     requires small { digits_value 10 digits.now ≤ 140737488355327 }
-    ensures { result ≡ digits_value 10 digits.now }
+    ensures value { result ≡ digits_value 10 digits.now }
 {
     digits.parse::<u64>().unwrap()
 }

@@ -9,7 +9,7 @@ use crate::scanner::kind::Kind;
 #[inline(always)]
 #[tactic(auto, unfolding(crate::specs::scanner::Kinds::kind_of_word))]
 pub fn word_kind(word: &str) -> Kind
-    ensures { result ≡ kind_of_word word.now }
+    ensures kind { result ≡ kind_of_word word.now }
 {
     match word.len() {
         2 => match word {
@@ -55,7 +55,7 @@ pub fn word_kind(word: &str) -> Kind
 #[inline(always)]
 #[tactic(auto, unfolding(crate::specs::scanner::Kinds::kind_of_mark))]
 pub fn short_mark(c: char) -> Option<Kind>
-    ensures { result ≡ kind_of_mark (c ∷ []) }
+    ensures kind { result ≡ kind_of_mark (c ∷ []) }
 {
     Some(match c {
         '{' => Kind::LeftBrace,
@@ -84,7 +84,7 @@ pub fn short_mark(c: char) -> Option<Kind>
 #[inline(always)]
 #[tactic(auto, unfolding(crate::specs::scanner::Kinds::kind_of_mark))]
 pub fn long_mark(first: char, second: char) -> Option<Kind>
-    ensures { result ≡ kind_of_mark (first ∷ second ∷ []) }
+    ensures kind { result ≡ kind_of_mark (first ∷ second ∷ []) }
 {
     match (first, second) {
         (':', '=') => Some(Kind::Assign),

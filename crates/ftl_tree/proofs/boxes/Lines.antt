@@ -19,7 +19,7 @@ use Rattle.ftl_order.proofs.orders.Kids.{class_known}
 use Rattle.ftl_tree.proofs.rows.Access.{has_at, number_at, size-one}
 use Rattle.ftl_meaning.specs.faults.FirstFault.{first_fault}
 use Rattle.ftl_meaning.specs.faults.Numbering.{interface_of}
-use Rattle.ftl_meaning.proofs.lawful.Needs.{interface_known}
+use Rattle.ftl_meaning.proofs.lawful.RequiredRules.{interface_known}
 use Rattle.ftl_deps.specs.reads.Meant.{meant}
 use Rattle.ftl_meaning.specs.grammars.GrammarOf.{names_of}
 use Rattle.ftl_tree.specs.trees.CheckedTree.{CheckedTree}

@@ -13,7 +13,7 @@ use Rattle.ftl_grammar.specs.declared.syntax.rules.Interface.{Interface}
 use Rattle.ftl_meaning.specs.faults.FirstFault.{first_fault}
 use Rattle.ftl_meaning.specs.faults.Numbering.{class_at, interface_at, interface_of, own_count, shared_count}
 use Rattle.ftl_meaning.specs.grammars.GrammarOf.{grammar_of}
-use Rattle.ftl_meaning.proofs.lawful.Needs.{interface_known}
+use Rattle.ftl_meaning.proofs.lawful.RequiredRules.{interface_known}
 use Rattle.ftl_meaning.proofs.lawful.Numbers.{map-numbered}
 use Rattle.ftl_meaning.proofs.lawful.WithinLimits.{within_limits}
 use Rattle.ftl_tree.specs.declared.rows.class_row.ClassRow.{ClassRow}

@@ -9,7 +9,7 @@ ghost use Rattle.ftl_model.specs.layout.Tree.{size};
 ghost use Rattle.ftl_tree.specs.boxes.Shows.{node_shows, shown_rows};
 
 use crate::trees::Tree;
-use ftl_checked::grammars::Checked;
+use ftl_checked::Checked;
 use sqlite_items::Items;
 use std::alloc::{AllocError, Global};
 

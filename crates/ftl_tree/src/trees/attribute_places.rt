@@ -6,7 +6,7 @@ ghost use Rattle.ftl_meaning.specs.faults.Numbering.{class_at, interface_at, int
 ghost use Rattle.ftl_tree.specs.rows.ClassRows.{AreAttributePlaces};
 ghost use Rattle.ftl_tree.specs.trees.OwnerPlaces.{own_places, shared_places};
 
-use ftl_checked::grammars::Checked;
+use ftl_checked::Checked;
 use std::alloc::{AllocError, Global};
 
 /// The place of each attribute among those of each class that has it. The attributes of an

@@ -10,7 +10,7 @@ ghost use Rattle.ftl_tree.specs.rows.Rows.{IsPreorder, attribute_width, input_wi
 
 use crate::rows::{ClassRow, NodeRow, class_starts, kid_counts, kids_in_runs, sums};
 use crate::trees::widths::{attribute_widths, child_widths, input_widths};
-use ftl_checked::grammars::Checked;
+use ftl_checked::Checked;
 use std::alloc::{AllocError, Global};
 
 /// Where the instances of each node begin.

@@ -7,7 +7,7 @@ ghost use Rattle.ftl_tree.specs.rows.Rows.{sums_from};
 ghost use Rattle.ftl_tree.specs.trees.OwnerRuns.{AreRuns, own_counts, shared_counts};
 
 use crate::rows::{ClassRow, sums};
-use ftl_checked::grammars::Checked;
+use ftl_checked::Checked;
 use std::alloc::{AllocError, Global};
 
 /// How many attributes each interface or each class declares, and how many come before.

@@ -6,8 +6,8 @@ ghost use Rattle.ftl_meaning.specs.grammars.GrammarOf.{sort_of};
 ghost use Rattle.ftl_deps.specs.reads.Meant.{meant};
 ghost use Rattle.ftl_tree.specs.rows.ClassRows.{AreInputCounts};
 
-use ftl_checked::grammars::Checked;
-use ftl_grammar::syntax::AttrKind;
+use ftl_checked::Checked;
+use ftl_grammar::AttrKind;
 use std::alloc::{AllocError, Global};
 
 /// How many inputs have smaller numbers than each attribute.

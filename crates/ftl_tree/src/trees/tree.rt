@@ -25,7 +25,7 @@ use crate::trees::class_attrs::is_shared;
 use crate::trees::class_table::class_rows;
 use crate::trees::input_counts::counts_of_inputs;
 use crate::trees::runs::run_of;
-use ftl_checked::grammars::Checked;
+use ftl_checked::Checked;
 use std::alloc::{AllocError, Global};
 use std::marker::Model;
 

@@ -5,7 +5,7 @@ ghost use Rattle.ftl_tree.specs.rows.ClassRows.{AreClassRows, AreInputCounts, Ar
 ghost use Rattle.ftl_tree.specs.rows.Rows.{attribute_width, input_width};
 
 use crate::rows::ClassRow;
-use ftl_checked::grammars::Checked;
+use ftl_checked::Checked;
 use std::alloc::{AllocError, Global};
 
 /// How many attributes.

@@ -11,7 +11,7 @@ use crate::trees::build::first_inputs;
 use crate::trees::class_table::class_rows;
 use crate::trees::input_counts::counts_of_inputs;
 use crate::trees::tree::Tree;
-use ftl_checked::grammars::Checked;
+use ftl_checked::Checked;
 use std::alloc::{AllocError, Global};
 
 /// The tree that has these rows, in preorder, with every input 0. What the first row says of where

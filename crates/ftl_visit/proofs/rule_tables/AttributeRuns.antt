@@ -60,3 +60,6 @@ count_whole f (x ∷ xs) =
     length-append (f x) (flat_map f (take (length xs) xs))
     ∙ ap (λ n. length (f x) + n) (count_whole f xs)
     ∙ sym (length-append (f x) (flat_map f xs))
+
+-- the run of one list
+pub ruleset run_steps = (one_run, run_within)

@@ -19,7 +19,7 @@ use Rattle.ftl_grammar.specs.declared.syntax.rules.Rule as written
 use Rattle.ftl_meaning.specs.formulas.Expressions.{formula_of}
 use Rattle.ftl_meaning.specs.formulas.Formula.{reads_of}
 use Rattle.ftl_meaning.specs.faults.Allowed.{Position, for_kids, for_later, for_self, for_single, in_step, leaf_of}
-use Rattle.ftl_meaning.specs.faults.Checked.{CheckedGrammar, all_rules, info_by, rule_info, rule_told}
+use Rattle.ftl_meaning.specs.faults.Checked.{CheckedGrammar, all_rules, info_by, rule_info, rule_info_at}
 use Rattle.ftl_meaning.specs.faults.FirstFault.{first_fault}
 use Rattle.ftl_meaning.specs.faults.Numbering.{child_at, class_at, find_child}
 use Rattle.ftl_meaning.specs.faults.RuleForms.{Form, Slot, expressions_of, first_form, fold_form, fold_over_list, form_of, kid_slot, one_form, own_slot, parts_of, slot_of}
@@ -34,7 +34,7 @@ use Rattle.ftl_visit.specs.compiled.Compilable.{HasCode, IsCompilable}
 use Rattle.ftl_visit.specs.compiled.RuleCode.{RuleCode, expression_code, first_then_code, fold_code, part_code, plain_code, read_count, rule_code}
 use Rattle.ftl_visit.specs.declared.compiled.part.Part.{Part}
 use Rattle.ftl_visit.specs.declared.compiled.part.Part.TheVariants as part
-use Rattle.ftl_visit.specs.rule_values.PartValues.{IsCodeOf, IsRuleOf, code_of_part, form_part_value, form_told, has_part, meant_rule, name_told, part_of, part_value, part_value_by, value_by_parts, values_read}
+use Rattle.ftl_visit.specs.rule_values.PartValues.{IsCodeOf, IsRuleOf, code_of_part, form_part_value, rule_form_at, has_part, meant_rule, name_of_info, part_of, part_value, part_value_by, value_by_parts, values_read}
 use Rattle.ftl_visit.proofs.rule_values.Names.{AreKnown, expression_computes, expression_takes}
 use Rattle.ftl_visit.proofs.rule_values.Numbered.{HasRule, code_stands_at, code_with, has_rule}
 
@@ -183,7 +183,7 @@ module _ (g : Grammar) (k : ℕ) where
   class_by (own_slot a) = refl
   class_by (kid_slot c a) = refl
 
-  name_is : (slot : Slot) → name_told (info_by k (Some slot)) ≡ name_of_rule k slot
+  name_is : (slot : Slot) → name_of_info (info_by k (Some slot)) ≡ name_of_rule k slot
   name_is (own_slot a) = refl
   name_is (kid_slot c a) = refl
 
@@ -200,22 +200,22 @@ module _ (c : CheckedGrammar) (rule : ℕ) (is : IsRuleOf c rule) where
   abbrev kept : IsKept g here.class here.place here.written
   kept = rule_kept g is.lawful here.class here.known here.place here.written here.stands
 
-  told : rule_told g rule ≡ info_by here.class (Some kept.slot)
-  told =
+  info_is : rule_info_at g rule ≡ info_by here.class (Some kept.slot)
+  info_is =
       get_or_from_slice_get (map (rule_info g) (all_rules g)) rule (rule_info g (here.class, here.written)) (info_by 0 None)
       (slice_get-map (rule_info g) (all_rules g) rule ∙ ap (option_map (rule_info g)) here.is)
       ∙ ap (info_by here.class) kept.is_for
 
-  class_is : (rule_told g rule).class ≡ here.class
-  class_is = ap (λ x. x.class) told ∙ class_by g here.class kept.slot
+  class_is : (rule_info_at g rule).class ≡ here.class
+  class_is = ap (λ x. x.class) info_is ∙ class_by g here.class kept.slot
 
   means : meant_rule c rule ≡ rule_of_form w g here.class kept.form
   means =
-      ap (λ x. rule_named (meant c) (name_told x)) told
+      ap (λ x. rule_named (meant c) (name_of_info x)) info_is
       ∙ ap (rule_named (meant c)) (name_is g here.class kept.slot)
       ∙ kept.means w
 
-  form_is : form_told g rule ≡ Some kept.form
+  form_is : rule_form_at g rule ≡ Some kept.form
   form_is =
       ap (option_and_then (λ (r : ℕ × written.Rule). option_and_then (λ slot. form_of g r.0 slot r.1.body) (slot_of g r.0 r.1.target))) here.is
       ∙ ap (option_and_then (λ slot. form_of g here.class slot here.written.body)) kept.is_for

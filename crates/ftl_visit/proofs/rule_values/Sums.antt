@@ -21,3 +21,6 @@ some_left xs i step few more =
     ⊎_elim (λ within. within)
     (λ past. let all = ap (sum_by (λ n. n)) (take_all i xs past) in absurd (omega (arith, all, few, more)))
     (cases_lt i (length xs))
+
+-- the steps of a loop over counts
+pub ruleset sum_steps = (one_further, some_left)

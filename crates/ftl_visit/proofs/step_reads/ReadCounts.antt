@@ -105,3 +105,6 @@ few_kids g t n c fits known =
     let here = size_within t p (has-node_at t n (root_there g t fits) (omega (arith, all, known))) in
     let kids = kids_few c (below_of (at t p)) in
     omega (arith, here, all, kids)
+
+-- the reads of the later steps
+pub ruleset later_reads = (step_reads, no_steps)

@@ -4,7 +4,7 @@ use Rattle.std.specs.List.{sum_by}
 use Rattle.ftl_visit.specs.declared.rule_values.places.StepPlace.{StepPlace}
 
 -- the operations before it have so many steps that it is this step of its own
-pub record IsPlaceOf (lengths : List ℕ) (step : ℕ) (place : StepPlace) : Type 0 where
+pub record IsStepPlace (lengths : List ℕ) (step : ℕ) (place : StepPlace) : Type 0 where
   pub op : place.op < length lengths
   pub before : sum_by (λ n. n) (take place.op lengths) + place.kid ≡ step
   pub kid : place.kid < slice_index_or lengths place.op 0

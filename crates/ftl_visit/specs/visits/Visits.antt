@@ -27,15 +27,15 @@ children g class = range_with_len 0 (g.child_count class)
 -- ---- topdown and bottomup
 
 -- the rules of a class for an attribute of this sort: for the node itself, or for the kids of each child in turn
-abbrev pub rules_for : AttributeGrammar → (class : ℕ) → Sort → (attribute : ℕ) → List VisitOp
-rules_for g class input a = []
-rules_for g class inherited a = flat_map (λ c. rule_in g class (Some c) a) (children g class)
-rules_for g class synthesized a = rule_in g class None a
-rules_for g class local a = rule_in g class None a
+abbrev pub operations_for : AttributeGrammar → (class : ℕ) → Sort → (attribute : ℕ) → List VisitOp
+operations_for g class input a = []
+operations_for g class inherited a = flat_map (λ c. rule_in g class (Some c) a) (children g class)
+operations_for g class synthesized a = rule_in g class None a
+operations_for g class local a = rule_in g class None a
 
 -- the rules of a class for the attributes of a list, by key
 abbrev pub rules_by_key : AttributeGrammar → (class : ℕ) → (attributes : List ℕ) → List VisitOp
-rules_by_key g class attributes = flat_map (λ a. rules_for g class (g.sort a) a) attributes
+rules_by_key g class attributes = flat_map (λ a. operations_for g class (g.sort a) a) attributes
 
 -- ---- inorder
 

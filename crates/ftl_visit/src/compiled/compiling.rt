@@ -7,8 +7,8 @@ ghost use Rattle.ftl_visit.specs.compiled.RuleCode.{class_codes, rule_code, rule
 
 use crate::compiled::built::{Built, push_rule};
 use crate::compiled::programs::Programs;
-use ftl_checked::grammars::Checked;
-use ftl_grammar::syntax::{Class, Rule};
+use ftl_checked::Checked;
+use ftl_grammar::{Class, Rule};
 use std::alloc::{AllocError, Global};
 
 /// Makes the code of each part of each rule.

@@ -64,7 +64,7 @@ impl Programs {
 }
 
 /// Where the code of a part of a rule lies.
-#[tactic(auto, using(crate::proofs::compiled::Laying::piece_found, crate::proofs::compiled::Laying::range_runs))]
+#[tactic(auto, using(crate::proofs::compiled::Laying::found_steps))]
 fn range_at(built: &Built, rule: u32, part: Part) -> Option<CodeRange>
     requires built { IsBuilt built.now }
     ensures piece { option_map (piece built.now.instructions.items) result

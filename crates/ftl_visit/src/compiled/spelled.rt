@@ -6,8 +6,8 @@ ghost use Rattle.ftl_grammar.specs.declared.syntax.rules.Grammar as grammars;
 ghost use Rattle.ftl_grammar.specs.syntax.GrammarSpelling.{SpellsGrammar};
 ghost use Rattle.ftl_visit.specs.compiled.Compilable.{HasCode};
 
-use ftl_grammar::syntax::Grammar;
-use ftl_tokens::scanner::Scanned;
+use ftl_grammar::Grammar;
+use ftl_tokens::Scanned;
 
 /// A law: a grammar that a text spells divides by its numbers alone, and its code has no more
 /// instructions than the text has tokens.

@@ -4,8 +4,8 @@ ghost use Rattle.ftl_visit.specs.compiled.Entries.{instruction_of};
 ghost use Rattle.ftl_visit.specs.compiled.RuleCode.{expression_code, is_accumulator};
 
 use crate::rule_code::Instruction;
-use ftl_grammar::syntax::Expr;
-use ftl_meaning::postfix_code::{Entry, ReadKind, ReadRef, postfix};
+use ftl_grammar::Expr;
+use ftl_meaning::{Entry, ReadKind, ReadRef, postfix};
 use std::alloc::{AllocError, Global};
 
 /// Adds the code of an expression.

@@ -6,7 +6,7 @@ ghost use Rattle.ftl_visit.specs.passes.Runs.{IsCut, runs};
 ghost use Rattle.ftl_visit.specs.passes.VisitRows.{visits_of};
 
 use crate::visits::{RuleIndex, VisitOp, visit_list};
-use ftl_schedule::syntax::PassKind;
+use ftl_schedule::PassKind;
 use std::alloc::{AllocError, Global};
 use std::marker::Model;
 

@@ -2,10 +2,10 @@
 ghost use Rattle.std.specs.Prelude.{◌≡◌, None, map, IfOk};
 ghost use Rattle.ftl_meaning.specs.faults.FirstFault.{first_fault};
 ghost use Rattle.ftl_deps.specs.reads.Meant.{meant};
-ghost use Rattle.ftl_deps.specs.reads.Products.{told_name};
+ghost use Rattle.ftl_deps.specs.reads.Products.{name_of_info};
 ghost use Rattle.ftl_visit.specs.passes.VisitRows.{target_of};
 
-use ftl_checked::grammars::{Checked, RuleInfo};
+use ftl_checked::{Checked, RuleInfo};
 use std::alloc::{AllocError, Global};
 
 /// For whom a rule is.
@@ -30,7 +30,7 @@ pub fn rule_targets(alloc: Global, checked: &Checked) -> Result<Vec<RuleTarget>,
 }
 
 fn target_of(info: RuleInfo) -> RuleTarget
-    ensures target { result ≡ target_of (told_name info) }
+    ensures target { result ≡ target_of (name_of_info info) }
 {
     match info.child {
         None => RuleTarget::Own,

@@ -6,8 +6,8 @@ ghost use Rattle.ftl_meaning.specs.faults.Numbering.{own_count, shared_count};
 ghost use Rattle.ftl_deps.specs.reads.Meant.{meant};
 ghost use Rattle.ftl_visit.specs.rule_tables.RuleTables.{by_number};
 
-use ftl_checked::grammars::Checked;
-use ftl_grammar::syntax::{Class, Interface};
+use ftl_checked::Checked;
+use ftl_grammar::{Class, Interface};
 use sqlite_items::Items;
 use std::alloc::{AllocError, Global};
 
@@ -73,7 +73,7 @@ fn add_run(attrs: &mut Items<u32>, first: usize, count: usize) -> Result<(), All
 }
 
 /// How many attributes the first so many interfaces have.
-#[tactic(auto, using(crate::proofs::rule_tables::AttributeRuns::one_run, crate::proofs::rule_tables::AttributeRuns::run_within))]
+#[tactic(auto, using(crate::proofs::rule_tables::AttributeRuns::run_steps))]
 fn shared_before(interfaces: &[Interface], count: usize) -> usize
     requires within { count ≤ length interfaces.now }
     requires small { shared_count interfaces.now < 4294967296 }
@@ -87,7 +87,7 @@ fn shared_before(interfaces: &[Interface], count: usize) -> usize
 }
 
 /// How many attributes of their own the first so many classes have.
-#[tactic(auto, using(crate::proofs::rule_tables::AttributeRuns::one_run, crate::proofs::rule_tables::AttributeRuns::run_within))]
+#[tactic(auto, using(crate::proofs::rule_tables::AttributeRuns::run_steps))]
 fn own_before(classes: &[Class], count: usize) -> usize
     requires within { count ≤ length classes.now }
     requires small { own_count classes.now < 4294967296 }

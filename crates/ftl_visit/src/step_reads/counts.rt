@@ -9,8 +9,8 @@ ghost use Rattle.ftl_visit.specs.step_reads.StepReads.{IsOfChildren, MayStandAt,
 ghost use Rattle.ftl_visit.specs.step_reads.StepReads.{kids_in};
 ghost use Rattle.ftl_visit.specs.step_reads.StepReads.{reads_here};
 
-use ftl_deps::parts::{PartRead, RuleParts};
-use ftl_tree::trees::Tree;
+use ftl_deps::{PartRead, RuleParts};
+use ftl_tree::Tree;
 
 /// How much a rule with these parts reads that runs at a node for the kid of this number (0 where
 /// it is for the node itself).
@@ -37,7 +37,7 @@ pub fn read_count(tree: &Tree<'_>, node: u32, parts: &RuleParts, number: u32) ->
 }
 
 /// How much the step of a fold reads over all kids of a child.
-#[tactic(auto, using(crate::proofs::step_reads::ReadCounts::step_reads, crate::proofs::step_reads::ReadCounts::no_steps))]
+#[tactic(auto, using(crate::proofs::step_reads::ReadCounts::later_reads))]
 fn step_count(tree: &Tree<'_>, node: u32, child: u32, step: &[PartRead]) -> u64
     requires node { node < size tree.now.tree }
     requires child { child < children_in tree.now node }

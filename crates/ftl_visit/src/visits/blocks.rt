@@ -6,14 +6,14 @@ ghost use Rattle.ftl_meaning.specs.grammars.GrammarOf.{declaration_at, sort_of};
 ghost use Rattle.ftl_visit.specs.visits.Visits.{inherited_rule, inherited_rules, local_rule};
 ghost use Rattle.ftl_visit.specs.visits.Visits.{locals};
 ghost use Rattle.ftl_visit.specs.visits.Visits.{children, child_block, child_blocks, rule_in};
-ghost use Rattle.ftl_visit.specs.visits.Visits.{rules_by_key, rules_for, synthesized_rule};
+ghost use Rattle.ftl_visit.specs.visits.Visits.{rules_by_key, operations_for, synthesized_rule};
 ghost use Rattle.ftl_visit.specs.visits.Visits.{synthesized_rules};
 ghost use Rattle.ftl_visit.specs.declared.visits.visit_op.VisitOp.TheVariants.{Rule};
 
 use crate::visits::rule_index::RuleIndex;
 use crate::visits::visit_op::{VisitOp, VisitOps};
-use ftl_checked::grammars::Checked;
-use ftl_grammar::syntax::AttrKind;
+use ftl_checked::Checked;
+use ftl_grammar::AttrKind;
 use std::alloc::AllocError;
 
 /// The rules for all attributes, by key.
@@ -41,7 +41,7 @@ fn add_rules_for(
 ) -> Result<(), AllocError>
     requires within { class < length index.now.grammar.classes }
     ensures added { OnOk result (ops.new
-        ≡ ops.old ++ rules_for (meant index.now) class ((meant index.now).sort attr) attr) }
+        ≡ ops.old ++ operations_for (meant index.now) class ((meant index.now).sort attr) attr) }
 {
     match kind_of(index.checked(), attr) {
         AttrKind::Input => Ok(()),
@@ -204,7 +204,7 @@ fn add_rule(rule: Option<u32>, ops: &mut VisitOps) -> Result<(), AllocError>
 }
 
 /// The kind of an attribute; past the end that of an input.
-#[tactic(auto, using(ftl_deps::proofs::reads::AttrKinds::kind_within, ftl_deps::proofs::reads::AttrKinds::kind_past))]
+#[tactic(auto, using(ftl_deps::proofs::reads::AttrKinds::kind_steps))]
 fn kind_of(checked: &Checked, attr: u32) -> AttrKind
     ensures kind { result ≡ (declaration_at checked.now.grammar attr).kind }
 {

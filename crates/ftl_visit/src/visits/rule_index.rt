@@ -3,12 +3,12 @@ ghost use Rattle.std.specs.Prelude.{◌≡◌, ◌<◌, ◌+◌, None, Some, IfO
 ghost use Rattle.ftl_meaning.specs.faults.Checked.{all_rules};
 ghost use Rattle.ftl_meaning.specs.faults.FirstFault.{first_fault};
 ghost use Rattle.ftl_deps.specs.reads.Meant.{meant};
-ghost use Rattle.ftl_deps.specs.reads.Products.{or_this, told_name};
+ghost use Rattle.ftl_deps.specs.reads.Products.{or_this, name_of_info};
 ghost use Rattle.ftl_visit.specs.visits.Targets.{FindsFirst, at_target, same_target, target_of};
 ghost use Rattle.ftl_visit.specs.visits.Visits.{rule_number};
 
 use crate::visits::target::Target;
-use ftl_checked::grammars::{Checked, RuleInfo};
+use ftl_checked::{Checked, RuleInfo};
 use std::alloc::{AllocError, Global};
 use std::collections::HashMap;
 use std::marker::Model;
@@ -102,7 +102,7 @@ fn add_rule(
 }
 
 fn target_of(info: RuleInfo) -> Target
-    ensures target { result ≡ target_of (told_name info) }
+    ensures target { result ≡ target_of (name_of_info info) }
 {
     match info.child {
         None => Target::Own(info.class, info.attr),

@@ -6,7 +6,7 @@ ghost use Rattle.ftl_visit.specs.visits.Visits.{visit_of};
 use crate::visits::blocks::{add_blocks, add_locals, add_rules, add_synthesized};
 use crate::visits::rule_index::RuleIndex;
 use crate::visits::visit_op::VisitOps;
-use ftl_schedule::syntax::PassKind;
+use ftl_schedule::PassKind;
 use sqlite_items::Items;
 use std::alloc::{AllocError, Global};
 

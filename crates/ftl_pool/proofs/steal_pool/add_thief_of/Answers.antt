@@ -11,7 +11,7 @@ returns-clause-fresh c =
     let l : c.args.worker < length c.args.holds.now.items = search rules in
     still_fresh c.args.holds.now.items c.args.worker old c.add_thief.new.self c.in_ok-thief.thief.taken
     l is c.args._count.now c.requires.fresh c.in_ok-add_thief.ensures.hold
-    c.in_ok-add_thief.ensures.taken (ap (λ (p : PassModel). p.taken) c.in_ok-thief.ensures)
+    c.in_ok-add_thief.ensures.taken (ap (λ (p : PassModel). p.taken) c.in_ok-thief.ensures.new)
 
 pub returns-clause-deques : goal.returns-clause-deques
 returns-clause-deques c =

@@ -9,16 +9,16 @@ use Rattle.ftl_pool.proofs.steal_pool.make_holds.Goals as goal
 pub loop-preserved : goal.loop-preserved
 loop-preserved c =
     let inv = c.loop.invariant in
-    let told = c.another-other.ensures.told in
+    let effect = c.another-other.ensures.effect in
     let P = IsFreshStealHoldOf c.args.count.now in record {
       made = c.another-other.ensures.made;
-      puts = ap (λ (s : Counted). s.puts) told ∙ inv.puts;
-      takes = ap (λ (s : Counted). s.takes) told ∙ inv.takes;
-      loads = ap (λ (s : Counted). s.loads) told ∙ inv.loads;
-      last = ap (λ (s : Counted). s.last) told ∙ inv.last;
+      puts = ap (λ (s : Counted). s.puts) effect ∙ inv.puts;
+      takes = ap (λ (s : Counted). s.takes) effect ∙ inv.takes;
+      loads = ap (λ (s : Counted). s.loads) effect ∙ inv.loads;
+      last = ap (λ (s : Counted). s.last) effect ∙ inv.last;
       spare = omega (
         arith,
-        ap (λ (s : Counted). s.spare) told,
+        ap (λ (s : Counted). s.spare) effect,
         inv.spare,
         c.loop-test.true,
         c.requires.few,

@@ -73,7 +73,7 @@ pub(super) fn read_endless(
     source: &mut Endless,
     limit: usize,
 ) -> Result<Vec<u8>, ReadAllFault>
-    ensures { IsErrAnd result
+    ensures fault { IsErrAnd result
         (λ why. (why ≡ ReadAllFault.TooLong) ⊎ (why ≡ ReadAllFault.OutOfMemory)) }
 {
     read_all(alloc, source, limit)

@@ -6,4 +6,4 @@ pub overflow_cast-result-2 : goal.overflow_cast-result-2
 overflow_cast-result-2 c = sum_fits c.args.words c.fits-words.0 c.fits-words.1
 
 pub returns : goal.returns
-returns c = (len-row_of c.args.words c.fits-words.1 (omega (arith, c.fits-words.0))).0
+returns c = record { numbers = (len-row_of c.args.words c.fits-words.1 (omega (arith, c.fits-words.0))).0 }

@@ -22,8 +22,8 @@ loop-rule-preserved c =
     let is : slot_of g k x.target ≡ Some slot = c.in_ok-slot.ensures.slot in
     let faults = rule_passes g k xs i x left c.loop-rule.ruled slot is c.in_ok-slot.ensures.finds in
     let slots = slot_more g k xs i x left c.loop-rule.ruled slot is in
-    let infos = info_more g k xs i x left c.loop-rule.told.infos slot is in
-    let reads = reads_more g k xs i x left (map (map leaves_in) c.loop-rule.told.reads)
+    let infos = info_more g k xs i x left c.loop-rule.so_far.infos slot is in
+    let reads = reads_more g k xs i x left (map (map leaves_in) c.loop-rule.so_far.reads)
     (map leaves_in c.in_ok-slot.reads) c.in_ok-slot.ensures.reads in
     record {
       faults = grind (arith, common_steps);

@@ -17,8 +17,8 @@ invariant-loop-rule l =
     record {
       faults : first_there (rule_faults g k [] rules) ≡ first_there (rule_faults g k l.ruled (drop i rules));
       slots : l.ruled ++ slots_of g k (drop i rules) ≡ slots_of g k rules;
-      infos : l.told.infos ++ map (λ (r : Rule). info_by k (slot_of g k r.target)) (drop i rules)
-          ≡ l.initial.told.infos ++ map (λ (r : Rule). info_by k (slot_of g k r.target)) rules;
-      reads : map (map leaves_in) l.told.reads ++ map (λ (r : Rule). rule_leaves g (k, r)) (drop i rules)
-          ≡ map (map leaves_in) l.initial.told.reads ++ map (λ (r : Rule). rule_leaves g (k, r)) rules;
+      infos : l.so_far.infos ++ map (λ (r : Rule). info_by k (slot_of g k r.target)) (drop i rules)
+          ≡ l.initial.so_far.infos ++ map (λ (r : Rule). info_by k (slot_of g k r.target)) rules;
+      reads : map (map leaves_in) l.so_far.reads ++ map (λ (r : Rule). rule_leaves g (k, r)) (drop i rules)
+          ≡ map (map leaves_in) l.initial.so_far.reads ++ map (λ (r : Rule). rule_leaves g (k, r)) rules;
     }

@@ -1,9 +1,9 @@
 use Rattle.std.proofs.Common.{◌≡◌, ◌++◌, drop, flat_map}
 use Rattle.ftl_meaning.specs.faults.Numbering.{numbered}
-use Rattle.ftl_checked.specs.lookup.Told.{shared_told}
+use Rattle.ftl_checked.specs.lookup.OwnerInfos.{shared_infos}
 use Rattle.ftl_checked.proofs.lookup.attrs.all_shared.Given as goal
 
 abbrev pub invariant-loop-number : goal.invariant-loop-number
 invariant-loop-number l =
-    l.infos ++ flat_map (shared_told l.grammar) (numbered l.number (drop l.number l.grammar.interfaces))
-    ≡ l.initial.infos ++ flat_map (shared_told l.grammar) (numbered 0 l.grammar.interfaces)
+    l.infos ++ flat_map (shared_infos l.grammar) (numbered l.number (drop l.number l.grammar.interfaces))
+    ≡ l.initial.infos ++ flat_map (shared_infos l.grammar) (numbered 0 l.grammar.interfaces)

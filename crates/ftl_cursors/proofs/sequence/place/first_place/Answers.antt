@@ -12,7 +12,7 @@ use Rattle.ftl_cursors.specs.sequence.Moves.{moves, moves_left, moves_up, own_mo
 use Rattle.ftl_cursors.specs.sequence.Places.{FitOps, grammar_of, node_of, tree_of}
 use Rattle.ftl_cursors.specs.sequence.SequenceRest.{rest_of_ops, rest_up}
 use Rattle.ftl_cursors.proofs.sequence.MoveLemmas.{visit_moves}
-use Rattle.ftl_cursors.proofs.sequence.Near.{class_within, visit_fits, visit_in, visits_count}
+use Rattle.ftl_cursors.proofs.sequence.CursorMoves.{class_within, visit_fits, visit_in, visits_count}
 use Rattle.ftl_cursors.proofs.sequence.RestLemmas.{visit_left}
 use Rattle.ftl_cursors.proofs.sequence.place.first_place.Goals as goal
 

@@ -6,7 +6,7 @@ use Rattle.ftl_cursors.specs.sequence.Places.{FitOps, grammar_of, node_of, tree_
 use Rattle.ftl_cursors.specs.sequence.SequenceRest.{rest_of_ops}
 use Rattle.ftl_cursors.proofs.sequence.BlockLemmas.{behind_is, drop_within, nowhere}
 use Rattle.ftl_cursors.proofs.sequence.MoveLemmas.{block_moves, blocks_moves, no_kid_moves}
-use Rattle.ftl_cursors.proofs.sequence.Near.{block_fits, blocks_fit}
+use Rattle.ftl_cursors.proofs.sequence.CursorMoves.{block_fits, blocks_fit}
 use Rattle.ftl_cursors.proofs.sequence.RestLemmas.{block_left, blocks_left, no_kid_left}
 use Rattle.ftl_cursors.proofs.sequence.TableLemmas.{block_there, has_places, has_visit}
 use Rattle.ftl_cursors.proofs.sequence.VisitShape.{block_of, blocks_from}

@@ -1,5 +1,5 @@
 use Rattle.ftl_cursors.specs.sequence.Places.{moves_at}
-use Rattle.ftl_cursors.proofs.sequence.Near.{IsAsFar}
+use Rattle.ftl_cursors.proofs.sequence.CursorMoves.{IsAsFar}
 use Rattle.ftl_cursors.proofs.sequence.place.next_step.Given as goal
 
 abbrev pub invariant-search : goal.invariant-search

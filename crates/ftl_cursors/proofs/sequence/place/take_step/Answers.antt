@@ -3,7 +3,7 @@ use Rattle.ftl_order.specs.declared.steps.step.Step.{Step}
 use Rattle.ftl_tree.proofs.rows.Access.{number_at}
 use Rattle.ftl_cursors.specs.sequence.Places.{FitOps, grammar_of, node_of, tree_of}
 use Rattle.ftl_cursors.specs.sequence.SequenceRest.{rest_of_ops}
-use Rattle.ftl_cursors.proofs.sequence.Near.{after_first, rule_and_rest}
+use Rattle.ftl_cursors.proofs.sequence.CursorMoves.{after_first, rule_and_rest}
 use Rattle.ftl_cursors.proofs.sequence.place.take_step.Goals as goal
 
 pub returns-clause-place : goal.returns-clause-place

@@ -7,7 +7,7 @@ use Rattle.ftl_order.specs.dependencies.Writers.{first_writer}
 use Rattle.ftl_order.specs.declared.dependencies.dep_read.DepRead.{DepRead}
 use Rattle.ftl_deps.specs.reads.Meant.{HasKnownChild, meant}
 use Rattle.ftl_deps.proofs.reads.RuleNumbers.{class_known}
-use Rattle.ftl_deps.proofs.reads.WriterRows.{kids_told, other_default, reads_long, writers_told}
+use Rattle.ftl_deps.proofs.reads.WriterRows.{kids_of_infos, other_default, reads_long, writers_of_infos}
 use Rattle.ftl_deps.proofs.reads.dep_writers.rule_writers.Goals as goal
 
 pub bounds-reads-rule : goal.bounds-reads-rule
@@ -33,7 +33,7 @@ row_writers-requires-clause-children c =
     subst (λ (reads : List DepRead). All (HasKnownChild checked.grammar c.rule-class.result.class) reads)
     (sym (row ∙ ap (λ (rows : List (List DepRead)). get_or rows c.args.rule []) c.requires.reads))
     (subst (λ (i : RuleInfo). All (HasKnownChild checked.grammar i.class) (get_or (dep_table (meant checked)) c.args.rule []))
-    (sym c.rule-class.ensures.info) (kids_told checked c.requires.lawful c.args.rule c.requires.within))
+    (sym c.rule-class.ensures.info) (kids_of_infos checked c.requires.lawful c.args.rule c.requires.within))
 
 pub returns : goal.returns
 returns c = record {
@@ -47,6 +47,6 @@ returns c = record {
       (ap₂ (λ (i : RuleInfo) (reads : List DepRead). map (first_writer (meant checked) i.class) reads)
       c.rule-class.ensures.info
       (row ∙ ap (λ (rows : List (List DepRead)). get_or rows c.args.rule []) c.requires.reads)
-      ∙ sym (writers_told checked c.requires.lawful c.args.rule c.requires.within))
+      ∙ sym (writers_of_infos checked c.requires.lawful c.args.rule c.requires.within))
       c.row_writers.ensures.writers;
 }

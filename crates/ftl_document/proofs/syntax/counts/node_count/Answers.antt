@@ -4,6 +4,8 @@ use Rattle.ftl_document.proofs.syntax.CountLemmas.{opens, opened-count}
 use Rattle.ftl_document.proofs.syntax.counts.node_count.Goals as goal
 
 pub returns : goal.returns
-returns c =
-    let s = c.args.scanned.now.tokenized in
-    c.opening_count.ensures.count ∙ ap (λ (l : List Token). count_by opens l) c.list.ensures.list ∙ sym (opened-count s)
+returns c = record {
+  count =
+      let s = c.args.scanned.now.tokenized in
+      c.opening_count.ensures.count ∙ ap (λ (l : List Token). count_by opens l) c.list.ensures.list ∙ sym (opened-count s);
+}

@@ -6,8 +6,8 @@ use Rattle.ftl_model.proofs.lists.Elements.{filter_has}
 use Rattle.ftl_meaning.specs.grammars.GrammarOf.{declaration_at, sort_of}
 use Rattle.ftl_model.specs.layout.AttributeGrammar.{attributes_of, is_input}
 use Rattle.ftl_document_printing.specs.trees.Left.{class_in, node_of, number_in}
-use Rattle.ftl_document_printing.proofs.trees.Attributes.{attribute_there, input_field_ok, kind_is, no_field, told_is}
-use Rattle.ftl_document_printing.proofs.trees.Spots.{class_within}
+use Rattle.ftl_document_printing.proofs.trees.Attributes.{attribute_there, input_field_ok, kind_is, no_field, declared_is}
+use Rattle.ftl_document_printing.proofs.trees.WriterPlaces.{class_within}
 use Rattle.ftl_document_printing.proofs.trees.inputs.write_attribute.Goals as goal
 
 pub attr-requires : goal.attr-requires
@@ -39,7 +39,7 @@ returns-in_ok-write_field c =
     (class_in t p) c.args.attr known c.requires.attr in
     let kind = kind_is t c.args.attr c.attr.result c.checked.result.now c.checked.ensures.grammar c.attr.ensures.info
     there in
-    let told = told_is t.checked.grammar c.args.attr there in
+    let told = declared_is t.checked.grammar c.args.attr there in
     let named : c.attr_name.result.now
     ≡ (declaration_at t.checked.grammar c.args.attr).name = grind (arith, common_steps) in
     let fits : SFits w64 c.input.result = search rules in

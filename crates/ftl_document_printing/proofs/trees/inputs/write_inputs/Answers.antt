@@ -2,7 +2,7 @@ use Rattle.std.proofs.Common.{arith}
 use Rattle.std.proofs.lemmas.Grind.{common_steps}
 use Rattle.ftl_document_printing.specs.trees.Left.{class_in, node_of}
 use Rattle.ftl_document_printing.proofs.trees.Attributes.{attributes_at, table_length}
-use Rattle.ftl_document_printing.proofs.trees.Spots.{class_within}
+use Rattle.ftl_document_printing.proofs.trees.WriterPlaces.{class_within}
 use Rattle.ftl_document_printing.proofs.trees.inputs.write_inputs.Goals as goal
 
 pub bounds-attrs-row : goal.bounds-attrs-row

@@ -1,6 +1,6 @@
 use Rattle.std.proofs.Common.{arith}
 use Rattle.std.proofs.lemmas.Grind.{common_steps}
-use Rattle.ftl_document_printing.proofs.trees.Spots.{class_within}
+use Rattle.ftl_document_printing.proofs.trees.WriterPlaces.{class_within}
 use Rattle.ftl_document_printing.proofs.trees.print.child_count.Goals as goal
 
 pub child_count-requires : goal.child_count-requires

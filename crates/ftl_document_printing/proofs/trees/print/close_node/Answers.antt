@@ -7,7 +7,7 @@ returns-in_ok-write_mark-in-Some c =
     record {
       goes = kid_closing t c.tree_is_lawful.ensures.is_tree c.tree_is_lawful.ensures.faultless c.args.node
           c.in-Some.parent
-          c.args.child c.spot_behind.result _ _
+          c.args.child c.place_behind.result _ _
           (parent_there t c.args.node c.in-Some.parent c.in-Some.ensures.parent) c.requires.past
-          c.in_ok-write_mark-in-Some.ensures.text c.spot_behind.ensures.left c.spot_behind.ensures.spot;
+          c.in_ok-write_mark-in-Some.ensures.text c.place_behind.ensures.left c.place_behind.ensures.writer_place;
     }

@@ -1,7 +1,7 @@
 use Rattle.std.proofs.Common.{◌≡◌, ◌<◌, ◌≤◌, ◌+◌, suc, arith}
 use Rattle.ftl_model.specs.layout.Path.{down, kids_at}
 use Rattle.ftl_document_printing.specs.trees.Left.{node_of}
-use Rattle.ftl_document_printing.proofs.trees.Spots.{kid_there, number_within}
+use Rattle.ftl_document_printing.proofs.trees.WriterPlaces.{kid_there, number_within}
 use Rattle.ftl_document_printing.proofs.trees.Turns.{kid_entering, list_closing, on_ok}
 use Rattle.ftl_document_printing.proofs.trees.print.next_kid.Goals as goal
 

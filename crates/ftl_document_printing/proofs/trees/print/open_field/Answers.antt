@@ -3,7 +3,7 @@ use Rattle.std.proofs.lemmas.Grind.{common_steps}
 use Rattle.ftl_meaning.specs.faults.Numbering.{child_at}
 use Rattle.ftl_model.specs.layout.Path.{down, kids_at}
 use Rattle.ftl_document_printing.specs.trees.Left.{class_in, is_many, node_of}
-use Rattle.ftl_document_printing.proofs.trees.Spots.{has_node, kid_there, number_within, one_kid}
+use Rattle.ftl_document_printing.proofs.trees.WriterPlaces.{has_node, kid_there, number_within, one_kid}
 use Rattle.ftl_document_printing.proofs.trees.Turns.{on_ok, opening_list, opening_single}
 use Rattle.ftl_document_printing.proofs.trees.print.open_field.Goals as goal
 

@@ -4,7 +4,7 @@ use Rattle.ftl_model.specs.layout.Path.{top}
 use Rattle.ftl_tree.proofs.rows.Access.{size-one}
 use Rattle.ftl_tokens.specs.writing.Written.{text_of}
 use Rattle.ftl_document_printing.specs.trees.Left.{entered}
-use Rattle.ftl_document_printing.proofs.trees.Spots.{has_node, whole}
+use Rattle.ftl_document_printing.proofs.trees.WriterPlaces.{has_node, whole}
 use Rattle.ftl_document_printing.proofs.trees.Turns.{goes_on}
 use Rattle.ftl_document_printing.proofs.trees.print.write_nodes.Goals as goal
 
@@ -20,5 +20,5 @@ loop-next-init c =
             size-one
                 (meant t.checked) t.tree is,
           )))));
-      spot = c.in_ok-next.ensures.goes.spot;
+      writer_place = c.in_ok-next.ensures.goes.writer_place;
     }

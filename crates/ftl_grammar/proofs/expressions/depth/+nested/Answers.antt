@@ -13,7 +13,7 @@ expr-returns-then-depth-eq0 t c = record { reads = λ _. ap (λ n. expr n c.args
 
 pub cond-returns-then-depth-eq0 : goal.cond-returns-then-depth-eq0
 unfolding cond
-cond-returns-then-depth-eq0 t c = λ _. ap (λ n. cond n c.args.input.now) c.if-depth-eq0.true
+cond-returns-then-depth-eq0 t c = record { reads = λ _. ap (λ n. cond n c.args.input.now) c.if-depth-eq0.true }
 
 pub expr-returns : goal.expr-returns
 unfolding expr
@@ -21,12 +21,14 @@ expr-returns t c = record {
   reads =
       let some : 0 < c.args.depth = omega arith in
       let e = deeper (λ n. expr n c.args.input.now) c.args.depth some in
-      subst (λ o. Reads o c.expr_level.result c.expr_level.new.input) e c.expr_level.ensures;
+      subst (λ o. Reads o c.expr_level.result c.expr_level.new.input) e c.expr_level.ensures.reads;
 }
 
 pub cond-returns : goal.cond-returns
 unfolding cond
-cond-returns t c =
-    let some : 0 < c.args.depth = omega arith in
-    let e = deeper (λ n. cond n c.args.input.now) c.args.depth some in
-    subst (λ o. Reads o c.cond_level.result c.cond_level.new.input) e c.cond_level.ensures
+cond-returns t c = record {
+  reads =
+      let some : 0 < c.args.depth = omega arith in
+      let e = deeper (λ n. cond n c.args.input.now) c.args.depth some in
+      subst (λ o. Reads o c.cond_level.result c.cond_level.new.input) e c.cond_level.ensures.reads;
+}

@@ -4,17 +4,21 @@ use Rattle.ftl_grammar.proofs.printing.TokenLemmas.{tokens-of_sum, tokens-of_ter
 use Rattle.ftl_grammar.proofs.printing.expression.+printing.Goals as goal
 
 pub print_sum-returns : goal.print_sum-returns
-print_sum-returns t c = let e = tokens-of_sum c.args.sum.now in grind (arith, common_steps)
+print_sum-returns t c = record { text = let e = tokens-of_sum c.args.sum.now in grind (arith, common_steps) }
 
 pub print_term-returns : goal.print_term-returns
-print_term-returns t c = let e = tokens-of_term c.args.term.now in grind (arith, common_steps)
+print_term-returns t c = record { text = let e = tokens-of_term c.args.term.now in grind (arith, common_steps) }
 
 pub print_cond-returns : goal.print_cond-returns
-print_cond-returns t c =
-    let e = tokens-of_cond c.args.cond.now c.in-Some.head.now c.in-Some.tail.now (grind (arith, common_steps)) in
-    grind (arith, common_steps)
+print_cond-returns t c = record {
+  text =
+      let e = tokens-of_cond c.args.cond.now c.in-Some.head.now c.in-Some.tail.now (grind (arith, common_steps)) in
+      grind (arith, common_steps);
+}
 
 pub print_conj-returns : goal.print_conj-returns
-print_conj-returns t c =
-    let e = tokens-of_conj c.args.conj.now c.in-Some.head.now c.in-Some.tail.now (grind (arith, common_steps)) in
-    grind (arith, common_steps)
+print_conj-returns t c = record {
+  text =
+      let e = tokens-of_conj c.args.conj.now c.in-Some.head.now c.in-Some.tail.now (grind (arith, common_steps)) in
+      grind (arith, common_steps);
+}

@@ -5,16 +5,20 @@ use Rattle.ftl_grammar.specs.syntax.InterfaceReading as spec
 use Rattle.ftl_grammar.proofs.reading.attrs.own_attrs.Goals as goal
 
 pub returns-in_err-group : goal.returns-in_err-group
-returns-in_err-group c =
-    let l = c.loop-turn in
-    let e = turn spec.append spec.own_attrs _ l._turn l.found l.input c.loop-turn-test.true l.invariant in
-    first_of (search rules, grind (arith, common_steps))
+returns-in_err-group c = record {
+  reads =
+      let l = c.loop-turn in
+      let e = turn spec.append spec.own_attrs _ l._turn l.found l.input c.loop-turn-test.true l.invariant in
+      first_of (search rules, grind (arith, common_steps));
+}
 
 pub returns-in_default : goal.returns-in_default
-returns-in_default c =
-    let l = c.loop-turn in
-    let e = turn spec.append spec.own_attrs _ l._turn l.found l.input c.loop-turn-test.true l.invariant in
-    first_of (search rules, grind (arith, common_steps))
+returns-in_default c = record {
+  reads =
+      let l = c.loop-turn in
+      let e = turn spec.append spec.own_attrs _ l._turn l.found l.input c.loop-turn-test.true l.invariant in
+      first_of (search rules, grind (arith, common_steps));
+}
 
 pub loop-turn-preserved : goal.loop-turn-preserved
 loop-turn-preserved c =
@@ -23,7 +27,9 @@ loop-turn-preserved c =
     first_of (search rules, grind (arith, common_steps))
 
 pub returns : goal.returns
-returns c =
-    let l = c.loop-turn in
-    let e = no_turn spec.append spec.own_attrs _ l._turn l.found l.input c.loop-turn-test.false l.invariant in
-    first_of (search rules, grind (arith, common_steps))
+returns c = record {
+  reads =
+      let l = c.loop-turn in
+      let e = no_turn spec.append spec.own_attrs _ l._turn l.found l.input c.loop-turn-test.false l.invariant in
+      first_of (search rules, grind (arith, common_steps));
+}

@@ -6,7 +6,7 @@ use Rattle.ftl_grammar.proofs.reading.read.read_grammar.Goals as goal
 pub returns-in-Ok : goal.returns-in-Ok
 returns-in-Ok c = record {
   answer =
-      let e = c.in-Ok.ensures in
+      let e = c.in-Ok.ensures.reads in
       is_grammar c.args.scanned.now c.in-Ok.grammar _ c.in_default.ensures.first
       (sym (ap grammar c.new-input.ensures.tokens) ∙ e);
 }
@@ -15,7 +15,7 @@ returns-in-Ok c = record {
 pub returns-in-Err-Refused : goal.returns-in-Err-Refused
 returns-in-Err-Refused c = record {
   answer =
-      let e = c.in-Err-Refused.ensures (λ memory. cc (c.in-Err-Refused.field-0-is)) in
+      let e = c.in-Err-Refused.ensures.reads (λ memory. cc (c.in-Err-Refused.field-0-is)) in
       is_no_grammar c.args.scanned.now c.grammar.new.input c.left.result c.place.result c.in_default.ensures.first
       (sym (ap grammar c.new-input.ensures.tokens) ∙ e) c.left.ensures.count c.place.ensures.place;
 }

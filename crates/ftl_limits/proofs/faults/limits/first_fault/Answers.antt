@@ -1,8 +1,9 @@
 use Rattle.std.proofs.Common.{◌≡◌, Some, None, ap, ◌∙◌, subst, sym}
+use Rattle.std.specs.Option.{option_or}
 use Rattle.ftl_deps.specs.reads.Meant.{meant}
 use Rattle.ftl_model.specs.layout.Table.{instance_count}
 use Rattle.ftl_schedule.specs.stages.Stages.{stages_of}
-use Rattle.ftl_limits.specs.faults.PlanFaults.{first_of_stages, or_else, step_too_wide, too_many_reads}
+use Rattle.ftl_limits.specs.faults.PlanFaults.{first_of_stages, step_too_wide, too_many_reads}
 use Rattle.ftl_limits.specs.faults.StageReads.{AreCounts}
 use Rattle.ftl_limits.proofs.faults.Faults.{many_is, wide_is}
 use Rattle.ftl_limits.proofs.faults.limits.first_fault.Goals as goal
@@ -17,7 +18,7 @@ returns-in-Some c =
     c.in_ok-counts.ensures.counts in
     let found : Some c.in-Some.fault ≡ first_of_stages s (too_many_reads g s t.tree) =
     c.in-Some.ensures.fault ∙ many_is g s t.tree c.as_slice.result.now are in
-    record { fault = ap (λ o. or_else o (first_of_stages s (step_too_wide g s t.tree))) found }
+    record { fault = ap (λ o. option_or o (first_of_stages s (step_too_wide g s t.tree))) found }
 
 pub returns : goal.returns
 returns c =
@@ -36,5 +37,5 @@ returns c =
       fault =
           c.first_too_wide.ensures.fault
           ∙ wide_is g s t.tree c.as_slice-in-None.result.now more
-          ∙ ap (λ o. or_else o (first_of_stages s (step_too_wide g s t.tree))) none;
+          ∙ ap (λ o. option_or o (first_of_stages s (step_too_wide g s t.tree))) none;
     }

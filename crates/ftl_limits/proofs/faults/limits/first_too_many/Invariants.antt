@@ -1,6 +1,6 @@
 use Rattle.std.proofs.Common.{◌≡◌, ◌-◌, length}
 use Rattle.std.specs.List.{range_with_len}
-use Rattle.ftl_limits.specs.faults.PlanFaults.{first_along}
+use Rattle.ftl_model.specs.lists.FirstAlong.{first_along}
 use Rattle.ftl_limits.specs.faults.StageReads.{many_by}
 use Rattle.ftl_limits.proofs.faults.limits.first_too_many.Given as goal
 

@@ -3,8 +3,8 @@ use Rattle.ftl_base.specs.Widths.{greatest_of_width}
 use Rattle.ftl_base.specs.declared.width.Width.{Width}
 use Rattle.ftl_model.specs.layout.AttributeGrammar.{AttributeGrammar}
 use Rattle.ftl_order.specs.orders.Lawful.{IsLawful}
-use Rattle.ftl_order.specs.orders.Schedule.{spot_of}
-use Rattle.ftl_order.proofs.orders.LegalOrders.{spot_of-one_kind}
+use Rattle.ftl_order.specs.orders.Schedule.{placing_of}
+use Rattle.ftl_order.proofs.orders.LegalOrders.{placing_of-one_kind}
 use Rattle.ftl_order.proofs.orders.OrderRank.{rank_falls, read_rank}
 use Rattle.ftl_order.proofs.orders.Scheduled.{one_list_under, one_table_under}
 use Rattle.ftl_order.proofs.orders.TableRange.{value_in_range}
@@ -22,9 +22,9 @@ use Rattle.ftl_meaning.proofs.lawful.lawful.faultless_grammars_are_lawful.Goals 
 stays : (g : AttributeGrammar) → IsLawful g → StaysInRange g
 stays g law s t ordered fits table solves i valid =
     let ends =
-    reads_end_by g law t fits (read_rank g (spot_of s) t)
-    (rank_falls g (spot_of s) t (spot_of-one_kind s) law ordered.pairs fits) in
-    value_in_range g law t fits table solves (suc (read_rank g (spot_of s) t i)) i valid (ends i valid)
+    reads_end_by g law t fits (read_rank g (placing_of s) t)
+    (rank_falls g (placing_of s) t (placing_of-one_kind s) law ordered.pairs fits) in
+    value_in_range g law t fits table solves (suc (read_rank g (placing_of s) t i)) i valid (ends i valid)
 
 abbrev meant : Grammar → Width → AttributeGrammar
 meant g width = grammar_of (greatest_of_width width) g

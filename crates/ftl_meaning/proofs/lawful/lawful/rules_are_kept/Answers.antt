@@ -1,5 +1,5 @@
 use Rattle.ftl_meaning.proofs.lawful.KeptRules.{rule_kept}
-use Rattle.ftl_meaning.proofs.lawful.Needs.{rule_written}
+use Rattle.ftl_meaning.proofs.lawful.RequiredRules.{rule_written}
 use Rattle.ftl_meaning.proofs.lawful.TextReads.{in_text_order}
 use Rattle.ftl_meaning.proofs.lawful.lawful.rules_are_kept.Goals as goal
 

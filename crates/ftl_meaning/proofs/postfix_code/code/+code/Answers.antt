@@ -4,17 +4,21 @@ use Rattle.ftl_meaning.proofs.postfix_code.CodeLemmas.{code-of_sum, code-of_term
 use Rattle.ftl_meaning.proofs.postfix_code.code.+code.Goals as goal
 
 pub push_sum-returns : goal.push_sum-returns
-push_sum-returns t c = let e = code-of_sum c.args.sum.now in grind (arith, common_steps)
+push_sum-returns t c = record { code = let e = code-of_sum c.args.sum.now in grind (arith, common_steps) }
 
 pub push_term-returns : goal.push_term-returns
-push_term-returns t c = let e = code-of_term c.args.term.now in grind (arith, common_steps)
+push_term-returns t c = record { code = let e = code-of_term c.args.term.now in grind (arith, common_steps) }
 
 pub push_cond-returns : goal.push_cond-returns
-push_cond-returns t c =
-    let e = code-of_cond c.args.cond.now c.in-Some.head.now c.in-Some.tail.now (grind (arith, common_steps)) in
-    grind (arith, common_steps)
+push_cond-returns t c = record {
+  code =
+      let e = code-of_cond c.args.cond.now c.in-Some.head.now c.in-Some.tail.now (grind (arith, common_steps)) in
+      grind (arith, common_steps);
+}
 
 pub push_conj-returns : goal.push_conj-returns
-push_conj-returns t c =
-    let e = code-of_conj c.args.conj.now c.in-Some.head.now c.in-Some.tail.now (grind (arith, common_steps)) in
-    grind (arith, common_steps)
+push_conj-returns t c = record {
+  code =
+      let e = code-of_conj c.args.conj.now c.in-Some.head.now c.in-Some.tail.now (grind (arith, common_steps)) in
+      grind (arith, common_steps);
+}

@@ -15,7 +15,7 @@ loop-rest-preserved c =
     let front = c.split_line.ensures.some some in
     let same = ap is_heading c.split_line.ensures.whole
     ∙ is_heading-front c.split_line.result.0.now c.split_line.result.1.now front in
-    let no_heading : is_heading c.loop-rest.rest.now ≡ false = sym c.is_heading.ensures ∙ search rules in
+    let no_heading : is_heading c.loop-rest.rest.now ≡ false = sym c.is_heading.ensures.heading ∙ search rules in
     record {
       is_text = search rules;
       body = body_more c.loop-rest.invariant.body c.split_line.result.0.now c.split_line.result.1.now
@@ -23,12 +23,14 @@ loop-rest-preserved c =
     }
 
 pub returns : goal.returns
-returns c =
-    let next : (length c.loop-rest.rest.now ≡ 0) ⊎ (is_heading c.loop-rest.rest.now ≡ true) =
-    elim c.loop-rest-test.branch [
-      | then-loop-rest-test+else-not-is_heading w ↦ inr (sym w.if-not-is_heading.ensures)
-      | else-loop-rest-test w ↦ inl (eqb-true _ 0 (sym w.loop-rest-test.ensures))
-    ]
-    in
-    body_all c.loop-rest.invariant.body c.split_at.result.0.now c.split_at.result.1.now c.split_at.ensures.front
-    c.split_at.ensures.back next
+returns c = record {
+  body =
+      let next : (length c.loop-rest.rest.now ≡ 0) ⊎ (is_heading c.loop-rest.rest.now ≡ true) =
+      elim c.loop-rest-test.branch [
+        | then-loop-rest-test+else-not-is_heading w ↦ inr (sym w.if-not-is_heading.ensures.heading)
+        | else-loop-rest-test w ↦ inl (eqb-true _ 0 (sym w.loop-rest-test.ensures))
+      ]
+      in
+      body_all c.loop-rest.invariant.body c.split_at.result.0.now c.split_at.result.1.now c.split_at.ensures.front
+      c.split_at.ensures.back next;
+}

@@ -7,15 +7,17 @@ pub loop-rest-init : goal.loop-rest-init
 loop-rest-init c = record { is_text = c.utf8.text; stray = record { left = omega arith; ahead = refl } }
 
 pub returns-then-is_stray : goal.returns-then-is_stray
-returns-then-is_stray c =
-    let some : 0 < length c.loop-rest.rest.now = omega (arith, false-eqb _ 0 c.loop-rest-test.ensures) in
-    let stray : is_stray c.split_line.result.0.now ≡ true = sym c.is_stray.ensures ∙ search rules in
-    sym (stray_found c.loop-rest.invariant.stray _ _ (c.split_line.ensures.lines some) stray)
+returns-then-is_stray c = record {
+  stray =
+      let some : 0 < length c.loop-rest.rest.now = omega (arith, false-eqb _ 0 c.loop-rest-test.ensures) in
+      let stray : is_stray c.split_line.result.0.now ≡ true = sym c.is_stray.ensures.stray ∙ search rules in
+      sym (stray_found c.loop-rest.invariant.stray _ _ (c.split_line.ensures.lines some) stray);
+}
 
 pub loop-rest-preserved : goal.loop-rest-preserved
 loop-rest-preserved c =
     let some : 0 < length c.loop-rest.rest.now = omega (arith, false-eqb _ 0 c.loop-rest-test.ensures) in
-    let plain : is_stray c.split_line.result.0.now ≡ false = sym c.is_stray.ensures ∙ search rules in
+    let plain : is_stray c.split_line.result.0.now ≡ false = sym c.is_stray.ensures.stray ∙ search rules in
     record {
       is_text = search rules;
       stray = stray_further c.loop-rest.invariant.stray _ _ (c.split_line.ensures.lines some) c.split_line.ensures.whole
@@ -23,4 +25,4 @@ loop-rest-preserved c =
     }
 
 pub returns : goal.returns
-returns c = sym (stray_none c.loop-rest.invariant.stray (search rules))
+returns c = record { stray = sym (stray_none c.loop-rest.invariant.stray (search rules)) }

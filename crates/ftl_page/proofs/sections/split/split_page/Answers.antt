@@ -14,5 +14,5 @@ returns-in_default c = record {
 pub returns : goal.returns
 returns c =
     let is = page_text c.args.need c.in-Ok.text.now c.args.bytes.now c.in-Ok.ensures.cases.0 c.in-Ok.ensures.cases.1 in
-    let exact = subst (Gives OutOfMemory (λ page. page) c.page_of_text.result) (sym is) c.page_of_text.ensures in
+    let exact = subst (Gives OutOfMemory (λ page. page) c.page_of_text.result) (sym is) c.page_of_text.ensures.exact in
     record { exact = exact; short = answer_is_short _ _ _ c.requires.limit exact }

@@ -2,7 +2,7 @@ use Rattle.std.proofs.Common.{◌≡◌, ℕ, true, false, ap, ◌∙◌, sym}
 use Rattle.ftl_model.specs.layout.AttributeGrammar.{Sort, is_input}
 use Rattle.ftl_meaning.specs.faults.Checked.{CheckedGrammar}
 use Rattle.ftl_deps.specs.reads.Meant.{meant}
-use Rattle.ftl_order.specs.orders.Schedule.{Spot, spot_of}
+use Rattle.ftl_order.specs.orders.Schedule.{SchedulePlace, placing_of}
 use Rattle.ftl_items.specs.stage_items.StageWork.{kind_by, kind_by_stage}
 use Rattle.ftl_schedule.specs.stages.Stages.{stages_of}
 use Rattle.ftl_plan.proofs.cells.CellPlaces.{input_sort, kind_computed}
@@ -21,8 +21,8 @@ returns-then-is_input c =
     record {
       kind =
           sym
-          (ap (λ (b : ℕ). kind_by (g.sort b) (spot_of s b).stage c.args.stage) (sym c.attr_of_cell-attr.ensures.attr)
-          ∙ ap (λ (x : Sort). kind_by x (spot_of s a).stage c.args.stage) (input_sort (g.sort a) is));
+          (ap (λ (b : ℕ). kind_by (g.sort b) (placing_of s b).stage c.args.stage) (sym c.attr_of_cell-attr.ensures.attr)
+          ∙ ap (λ (x : Sort). kind_by x (placing_of s a).stage c.args.stage) (input_sort (g.sort a) is));
     }
 
 pub returns : goal.returns
@@ -38,8 +38,8 @@ returns c =
     record {
       kind =
           c.kind_by_stage.ensures.kind
-          ∙ ap (λ (x : Spot). kind_by_stage x.stage c.args.stage) c.spot.ensures.spot
+          ∙ ap (λ (x : SchedulePlace). kind_by_stage x.stage c.args.stage) c.schedule_place.ensures.schedule_place
           ∙ sym
-          (ap (λ (b : ℕ). kind_by (g.sort b) (spot_of s b).stage c.args.stage) (sym c.attr_of_cell-attr.ensures.attr)
-          ∙ kind_computed (g.sort a) (spot_of s a).stage c.args.stage is);
+          (ap (λ (b : ℕ). kind_by (g.sort b) (placing_of s b).stage c.args.stage) (sym c.attr_of_cell-attr.ensures.attr)
+          ∙ kind_computed (g.sort a) (placing_of s a).stage c.args.stage is);
     }

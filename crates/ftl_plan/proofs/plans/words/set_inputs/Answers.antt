@@ -1,12 +1,10 @@
-use Rattle.std.proofs.Common.{◌≡◌, ◌+◌, ℕ, List, Contains, get_or, set, take, ◌∙◌, subst, sym, arith}
+use Rattle.std.proofs.Common.{◌+◌, List, get_or, set, take, ◌∙◌, subst, sym, arith, ℕ}
 use Rattle.std.proofs.lemmas.List.{take_all}
-use Rattle.std.proofs.lemmas.List.Elements.{Contains-get_or}
-use Rattle.ftl_model.specs.layout.AttributeGrammar.{class_inputs}
 use Rattle.ftl_model.specs.layout.Path.{node_at}
 use Rattle.ftl_deps.specs.reads.Meant.{meant}
 use Rattle.ftl_limits.specs.reads.ReadTables.{class_in}
 use Rattle.ftl_plan.specs.plans.InputWords.{AreSet}
-use Rattle.ftl_plan.proofs.plans.InputRows.{input_row, none_set, number_inside, of_class, set_more}
+use Rattle.ftl_plan.proofs.plans.InputRows.{input_at, input_row, none_set, number_inside, of_class, row_inputs, set_more}
 use Rattle.ftl_plan.proofs.plans.words.set_inputs.Goals as goal
 
 pub bounds-rows-class : goal.bounds-rows-class
@@ -20,45 +18,33 @@ pub instance-cell-requires-clause-attr : goal.instance-cell-requires-clause-attr
 instance-cell-requires-clause-attr c =
     let t = c.args.tree.now in
     let g = meant t.checked in
-    let fits = c.node_count-nodes.ensures.is_tree in
-    let at = input_row g c.requires.sound.law t.tree fits c.as_slice-rows.result.now c.args.node c.class-class.result
-    (c.as_slice-rows.ensures ∙ c.requires.inputs) c.requires.node c.class-class.ensures.class in
-    let row : c.as_slice-attr-items.result.now ≡ class_inputs g (class_in t c.args.node) =
-    c.as_slice-attr-items.ensures ∙ c.index-rows-class.is ∙ at.is c.index-rows-class.result in
-    let place = c.loop-attr.attr-index in
-    of_class g c.requires.sound.law t.tree fits (class_in t c.args.node)
-    (get_or c.as_slice-attr-items.result.now place 0)
-    (subst (λ (xs : List ℕ). Contains xs (get_or c.as_slice-attr-items.result.now place 0)) row
-    (Contains-get_or c.as_slice-attr-items.result.now place 0 c.loop-attr-test.true))
+    let among = input_at g c.requires.sound.law t.tree c.node_count-nodes.ensures.is_tree c.as_slice-rows.result.now
+    c.args.node c.class-class.result c.index-rows-class.result (c.as_slice-rows.ensures ∙ c.requires.inputs)
+    c.requires.node c.class-class.ensures.class (c.as_slice-attr-items.ensures ∙ c.index-rows-class.is)
+    c.loop-attr.attr-index c.loop-attr-test.true in
+    of_class g c.requires.sound.law t.tree c.node_count-nodes.ensures.is_tree (class_in t c.args.node)
+    (get_or c.as_slice-attr-items.result.now c.loop-attr.attr-index 0) among
 
 pub input_word-requires-clause-attr : goal.input_word-requires-clause-attr
 input_word-requires-clause-attr c =
     let t = c.args.tree.now in
     let g = meant t.checked in
-    let fits = c.node_count-nodes.ensures.is_tree in
-    let at = input_row g c.requires.sound.law t.tree fits c.as_slice-rows.result.now c.args.node c.class-class.result
-    (c.as_slice-rows.ensures ∙ c.requires.inputs) c.requires.node c.class-class.ensures.class in
-    let row : c.as_slice-attr-items.result.now ≡ class_inputs g (class_in t c.args.node) =
-    c.as_slice-attr-items.ensures ∙ c.index-rows-class.is ∙ at.is c.index-rows-class.result in
-    let place = c.loop-attr.attr-index in
-    subst (λ (xs : List ℕ). Contains xs (get_or c.as_slice-attr-items.result.now place 0)) row
-    (Contains-get_or c.as_slice-attr-items.result.now place 0 c.loop-attr-test.true)
+    let among = input_at g c.requires.sound.law t.tree c.node_count-nodes.ensures.is_tree c.as_slice-rows.result.now
+    c.args.node c.class-class.result c.index-rows-class.result (c.as_slice-rows.ensures ∙ c.requires.inputs)
+    c.requires.node c.class-class.ensures.class (c.as_slice-attr-items.ensures ∙ c.index-rows-class.is)
+    c.loop-attr.attr-index c.loop-attr-test.true in
+    among
 
 pub bounds-words-cell : goal.bounds-words-cell
 bounds-words-cell c =
     let t = c.args.tree.now in
     let g = meant t.checked in
-    let fits = c.node_count-nodes.ensures.is_tree in
-    let at = input_row g c.requires.sound.law t.tree fits c.as_slice-rows.result.now c.args.node c.class-class.result
-    (c.as_slice-rows.ensures ∙ c.requires.inputs) c.requires.node c.class-class.ensures.class in
-    let row : c.as_slice-attr-items.result.now ≡ class_inputs g (class_in t c.args.node) =
-    c.as_slice-attr-items.ensures ∙ c.index-rows-class.is ∙ at.is c.index-rows-class.result in
-    let place = c.loop-attr.attr-index in
-    let among : Contains (class_inputs g (class_in t c.args.node)) (get_or c.as_slice-attr-items.result.now place 0) =
-    subst (λ (xs : List ℕ). Contains xs (get_or c.as_slice-attr-items.result.now place 0)) row
-    (Contains-get_or c.as_slice-attr-items.result.now place 0 c.loop-attr-test.true) in
-    let inside = number_inside g c.requires.sound.law t.tree fits c.args.node
-    (get_or c.as_slice-attr-items.result.now place 0) c.requires.node among in
+    let among = input_at g c.requires.sound.law t.tree c.node_count-nodes.ensures.is_tree c.as_slice-rows.result.now
+    c.args.node c.class-class.result c.index-rows-class.result (c.as_slice-rows.ensures ∙ c.requires.inputs)
+    c.requires.node c.class-class.ensures.class (c.as_slice-attr-items.ensures ∙ c.index-rows-class.is)
+    c.loop-attr.attr-index c.loop-attr-test.true in
+    let inside = number_inside g c.requires.sound.law t.tree c.node_count-nodes.ensures.is_tree c.args.node
+    (get_or c.as_slice-attr-items.result.now c.loop-attr.attr-index 0) c.requires.node among in
     let is = c.instance-cell.ensures.instance in
     let long = c.loop-attr.invariant.count in
     let count = c.requires.words in
@@ -68,24 +54,20 @@ pub loop-attr-preserved : goal.loop-attr-preserved
 loop-attr-preserved c =
     let t = c.args.tree.now in
     let g = meant t.checked in
-    let fits = c.node_count-nodes.ensures.is_tree in
-    let at = input_row g c.requires.sound.law t.tree fits c.as_slice-rows.result.now c.args.node c.class-class.result
-    (c.as_slice-rows.ensures ∙ c.requires.inputs) c.requires.node c.class-class.ensures.class in
-    let row : c.as_slice-attr-items.result.now ≡ class_inputs g (class_in t c.args.node) =
-    c.as_slice-attr-items.ensures ∙ c.index-rows-class.is ∙ at.is c.index-rows-class.result in
+    let among = input_at g c.requires.sound.law t.tree c.node_count-nodes.ensures.is_tree c.as_slice-rows.result.now
+    c.args.node c.class-class.result c.index-rows-class.result (c.as_slice-rows.ensures ∙ c.requires.inputs)
+    c.requires.node c.class-class.ensures.class (c.as_slice-attr-items.ensures ∙ c.index-rows-class.is)
+    c.loop-attr.attr-index c.loop-attr-test.true in
     let place = c.loop-attr.attr-index in
-    let among : Contains (class_inputs g (class_in t c.args.node)) (get_or c.as_slice-attr-items.result.now place 0) =
-    subst (λ (xs : List ℕ). Contains xs (get_or c.as_slice-attr-items.result.now place 0)) row
-    (Contains-get_or c.as_slice-attr-items.result.now place 0 c.loop-attr-test.true) in
     let items = c.as_slice-attr-items.result.now in
     subst
     (λ n.
     AreSet g t.tree (node_at t.tree c.args.node) (take (place + 1) items) c.args.words.now
     (set c.loop-attr.words n c.input_word.result))
     (sym c.instance-cell.ensures.instance)
-    (set_more g c.requires.sound.law t.tree fits c.args.node items c.args.words.now c.loop-attr.words place
-    c.input_word.result c.requires.node c.requires.words c.loop-attr-test.true among c.input_word.ensures.word
-    c.loop-attr.invariant)
+    (set_more g c.requires.sound.law t.tree c.node_count-nodes.ensures.is_tree c.args.node items c.args.words.now
+    c.loop-attr.words place c.input_word.result c.requires.node c.requires.words c.loop-attr-test.true among
+    c.input_word.ensures.word c.loop-attr.invariant)
 
 pub loop-attr-init : goal.loop-attr-init
 loop-attr-init c =
@@ -95,11 +77,9 @@ pub returns : goal.returns
 returns c =
     let t = c.args.tree.now in
     let g = meant t.checked in
-    let fits = c.node_count-nodes.ensures.is_tree in
-    let at = input_row g c.requires.sound.law t.tree fits c.as_slice-rows.result.now c.args.node c.class-class.result
-    (c.as_slice-rows.ensures ∙ c.requires.inputs) c.requires.node c.class-class.ensures.class in
-    let row : c.as_slice-attr-items.result.now ≡ class_inputs g (class_in t c.args.node) =
-    c.as_slice-attr-items.ensures ∙ c.index-rows-class.is ∙ at.is c.index-rows-class.result in
+    let row = row_inputs g c.requires.sound.law t.tree c.node_count-nodes.ensures.is_tree c.as_slice-rows.result.now
+    c.args.node c.class-class.result c.index-rows-class.result (c.as_slice-rows.ensures ∙ c.requires.inputs)
+    c.requires.node c.class-class.ensures.class (c.as_slice-attr-items.ensures ∙ c.index-rows-class.is) in
     let past = c.loop-attr-test.false in
     record {
       set =

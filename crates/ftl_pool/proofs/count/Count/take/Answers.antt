@@ -2,12 +2,12 @@ use Rattle.std.proofs.Common.{◌≡◌, ℕ, suc, ◌+◌, ◌-◌, subst, ap, 
 use Rattle.ftl_pool.specs.Count.{Counted, IsMoment, after_load, after_take}
 use Rattle.ftl_pool.proofs.count.Count.take.Goals as goal
 
-pub returns-then-take_from-clause-told : goal.returns-then-take_from-clause-told
-returns-then-take_from-clause-told g c =
+pub returns-then-take_from-clause-effect : goal.returns-then-take_from-clause-effect
+returns-then-take_from-clause-effect g c =
     let count : ℕ = c.load-count.result in
     let some_left : count ≡ suc (count - 1) = omega (arith, c.if-count-eq0.false) in
     let is : c.take_from.new.tally.state ≡ after_take (after_load c.loop.tally.state count) =
-    c.if-take_from.ensures.told ∙ ap after_take c.load-count.ensures.told in record {
+    c.if-take_from.ensures.effect ∙ ap after_take c.load-count.ensures.effect in record {
       puts = ap (λ (s : Counted). s.puts) is ∙ c.loop.invariant.puts;
       takes = ap (λ (s : Counted). s.takes) is ∙ ap (λ (x : ℕ). x + 1) c.loop.invariant.takes;
       loads = omega (arith, ap (λ (s : Counted). s.loads) is, c.loop.invariant.loads);

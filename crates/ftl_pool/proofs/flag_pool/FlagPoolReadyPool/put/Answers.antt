@@ -25,11 +25,11 @@ invariant_of-hold g c =
     record { table = c.hold.inside.tally.table; state = c.hold.inside.tally.state; puts = c.hold.inside.puts.items }
     c.args.hold.now c.args.item c.hold.view_is c.requires.made c.requires.item c.requires.new c.hold.invariant.0 in
     let items : c.push.new.self.items ≡ c.hold.inside.puts.items ++ c.args.item ∷ [] = search rules in (
-      subst (λ (x : Counted × List ℕ). ArePut x.0 x.1) (λ i. (sym c.add.ensures.told i, sym items i)) well.are,
+      subst (λ (x : Counted × List ℕ). ArePut x.0 x.1) (λ i. (sym c.add.ensures.effect i, sym items i)) well.are,
       omega (
         arith,
         c.hold.invariant.1,
-        ap (λ (s : Counted). s.items) c.add.ensures.told,
+        ap (λ (s : Counted). s.items) c.add.ensures.effect,
         c.push.ensures.capacity,
       ),
     )

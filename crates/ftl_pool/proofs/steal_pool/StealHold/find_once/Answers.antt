@@ -9,6 +9,6 @@ pub returns-clause-taken : goal.returns-clause-taken
 returns-clause-taken c =
     let took = thieves_take c.self.inside.own.taken c.pop.new.self.taken c.self.inside.thieves.items
     c.steal_once.new.thieves.items
-    c.steal_once.result c.in_default.ensures.taken c.steal_once.ensures in
+    c.steal_once.result c.in_default.ensures.taken c.steal_once.ensures.taken in
     subst (λ (h : StealHoldModel). TakesFromOne h.taken c.steal_once.result
     (c.pop.new.self.taken ∷ by_thieves c.steal_once.new.thieves.items)) c.self.view_is took

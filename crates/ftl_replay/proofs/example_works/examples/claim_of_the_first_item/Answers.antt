@@ -5,4 +5,4 @@ use Rattle.ftl_replay.proofs.example_works.examples.claim_of_the_first_item.Goal
 
 pub returns : goal.returns
 unfolding cell_total item_total pred_total next_total next_at step_total target_of reads_of_step solution_at
-returns c = claims 0 refl refl
+returns c = record { step = claims 0 refl refl }

@@ -5,4 +5,4 @@ use Rattle.ftl_replay.proofs.example_works.examples.delivery_of_the_first_item.G
 
 pub returns : goal.returns
 unfolding cell_total item_total pred_total next_total next_at step_total target_of reads_of_step solution_at
-returns c = sends 0 0 0 (refl, refl) (omega arith) refl
+returns c = record { step = sends 0 0 0 (refl, refl) (omega arith) refl }

@@ -5,4 +5,4 @@ use Rattle.ftl_replay.proofs.example_works.examples.look_at_the_first_item.Goals
 
 pub returns : goal.returns
 unfolding cell_total item_total pred_total next_total next_at step_total target_of reads_of_step solution_at
-returns c = finds_ready 0 refl (omega arith) refl
+returns c = record { step = finds_ready 0 refl (omega arith) refl }

@@ -4,4 +4,4 @@ use Rattle.ftl_replay.proofs.example_works.examples.opening_of_the_diamond.Goals
 
 pub returns : goal.returns
 unfolding cell_total item_total pred_total next_total next_at step_total target_of reads_of_step solution_at
-returns c = refl
+returns c = record { words = refl }

@@ -49,8 +49,8 @@ loop-at-preserved g c = record {
   room = omega (arith, c.make_step.ensures.room, c.loop-at.invariant.room);
 }
 
-pub cut-requires-after_bounds : goal.cut-requires-after_bounds
-cut-requires-after_bounds g c =
+pub cut-requires-clause-words : goal.cut-requires-clause-words
+cut-requires-clause-words g c =
     let l = c.loop-at.invariant.lead in
     let k : IsKeptBy (g.W.Meant.meaning c.args.work.now) c.loop-at.row.items l.hands =
     lead_keeps (g.W.Meant.meaning c.args.work.now) c.open_row.ensures.lawful c.args.words.items

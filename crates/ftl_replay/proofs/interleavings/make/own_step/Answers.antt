@@ -10,11 +10,11 @@ pub returns-clause-step : goal.returns-clause-step
 returns-clause-step g c = λ t. subst
     (λ h. IsMade (g.W.Meant.meaning c.args.work.now) c.args.event c.args.row.now.items c.args.hands.now.items
     c.next_place.new.row.items
-    (set c.args.hands.now.items h (Live c.in-Some-next_place.next))) (sym c.hand-hand.ensures)
+    (set c.args.hands.now.items h (Live c.in-Some-next_place.next))) (sym c.hand-hand.ensures.hand)
     (makes_own (g.W.Meant.meaning c.args.work.now) c.args.event c.args.row.now.items c.args.hands.now.items
     c.next_place.new.row.items
     c.in-Some.place c.in-Some-next_place.next c.requires.own
-    (subst (λ h. place_at c.args.hands.now.items h ≡ live c.in-Some.place) c.hand-hand.ensures
+    (subst (λ h. place_at c.args.hands.now.items h ≡ live c.in-Some.place) c.hand-hand.ensures.hand
     (subst (λ ps. place_at ps c.hand-hand.result ≡ live c.in-Some.place) c.as_slice.ensures.value
     c.in-Some.ensures.some))
     c.in-Some-next_place.ensures.step)

@@ -20,7 +20,7 @@ returns-then-index-ne0-clause-step g c =
     (λ p. StepsTo (g.W.Meant.meaning c.args.work.now) (Claim hand) c.args.row.now.items p c.args.row.now.items Idle)
     (sym c.in-Looked.is)
     (claims_taken (g.W.Meant.meaning c.args.work.now) c.args.row.now.items hand c.in-Looked.item
-    (subst (λ a. get_or c.args.row.now.items a 0 ≢ 0) c.state_at-at.ensures (λ z. omega arith)))
+    (subst (λ a. get_or c.args.row.now.items a 0 ≢ 0) c.state_at-at.ensures.word (λ z. omega arith)))
 
 pub returns-clause-step : goal.returns-clause-step
 returns-clause-step g c =
@@ -38,6 +38,6 @@ returns-clause-step g c =
     (subst
     (λ a. StepsTo (g.W.Meant.meaning c.args.work.now) (Claim hand) c.args.row.now.items (Looked c.in-Looked.item)
     (set c.args.row.now.items a 1)
-    (Working c.in-Looked.item 0 0)) (sym c.state_at-at.ensures)
+    (Working c.in-Looked.item 0 0)) (sym c.state_at-at.ensures.word)
     (claims_free (g.W.Meant.meaning c.args.work.now) c.args.row.now.items hand c.in-Looked.item
-    (subst (λ a. get_or c.args.row.now.items a 0 ≡ 0) c.state_at-at.ensures (omega arith))))
+    (subst (λ a. get_or c.args.row.now.items a 0 ≡ 0) c.state_at-at.ensures.word (omega arith))))

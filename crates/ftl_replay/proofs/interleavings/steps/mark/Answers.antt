@@ -14,6 +14,6 @@ returns-clause-step g c =
     (subst
     (λ a. StepsTo (g.W.Meant.meaning c.args.work.now) (Mark hand) c.args.row.now.items
     (Working c.in-Working.item c.in-Working.step c.in-Working.reads)
-    (set c.args.row.now.items a 2) (Filled c.in-Working.item)) (sym c.state_at.ensures)
+    (set c.args.row.now.items a 2) (Filled c.in-Working.item)) (sym c.state_at.ensures.word)
     (marks_item (g.W.Meant.meaning c.args.work.now) c.args.row.now.items hand c.in-Working.item c.in-Working.step
     c.in-Working.reads (omega arith)))

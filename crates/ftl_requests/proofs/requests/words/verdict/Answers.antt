@@ -6,6 +6,6 @@ use Rattle.ftl_requests.proofs.requests.words.verdict.Goals as goal
 pub returns : goal.returns
 returns c = record {
   comes =
-      answered_comes (obeyed command.Check c.args.bytes.now) c.in_ok-rules_told.field-0
-      c.in_ok-rules_told.ensures.outcome;
+      answered_comes (obeyed command.Check c.args.bytes.now) c.in_ok-rules_answered.field-0
+      c.in_ok-rules_answered.ensures.outcome;
 }

@@ -4,7 +4,7 @@ use Rattle.ftl_order.specs.faults.FaultLaws.{AreComputed}
 use Rattle.ftl_order.specs.faults.FirstFault.{first_fault}
 use Rattle.ftl_schedule.specs.stages.Stages.{stages_of}
 use Rattle.ftl_schedule.specs.declared.stages.types.Schedule.{Schedule}
-use Rattle.ftl_requests.proofs.sections.ToldSchedules.{same_schedule}
+use Rattle.ftl_requests.proofs.sections.ScheduleEnds.{same_schedule}
 use Rattle.ftl_requests.proofs.sections.written.verified.Goals as goal
 
 -- what is accepted is the schedule that was looked at

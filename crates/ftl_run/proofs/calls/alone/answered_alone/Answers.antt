@@ -9,6 +9,6 @@ returns-in_ok-ended-in-Solve c = record {
   answered =
       page_answered c.args.requested c.in_ok-decided.field-0 c.in-Solve.problem c.in_ok-ended-in-Solve.field-0
       c.in_ok-decided.was c.in-Solve.is
-      (if_ended (problem_stage c.in-Solve.problem) c.told_alone.result (Ok c.in_ok-ended-in-Solve.field-0) c.told_alone.ensures.outcome
+      (if_ended (problem_stage c.in-Solve.problem) c.solved_alone.result (Ok c.in_ok-ended-in-Solve.field-0) c.solved_alone.ensures.outcome
       c.in_ok-ended-in-Solve.ensures.end);
 }

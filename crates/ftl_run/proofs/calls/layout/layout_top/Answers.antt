@@ -1,53 +1,43 @@
 use Rattle.std.proofs.Common.{ap}
-use Rattle.ftl_edge.specs.Counts.{Rose, source_counts}
-use Rattle.ftl_answer.specs.headline.Headline.{texts}
-use Rattle.ftl_run.proofs.calls.Telling.{causes, no_read_fault, told}
+use Rattle.ftl_edge.specs.Counts.{source_counts}
+use Rattle.ftl_answer.specs.headline.Headline.{call_of, texts}
+use Rattle.ftl_run.proofs.calls.Matching.{causes, no_read_fault, matches}
 use Rattle.ftl_run.proofs.calls.layout.layout_top.Goals as goal
 
 pub returns-clause-answer : goal.returns-clause-answer
 returns-clause-answer g c =
-    let old = c.args.source.now in
-    let new = c.requested-requested.new.source in
-    told (texts c.args.words.now) (g.S.Source.remaining old) (g.S.Source.remaining new)
-    (source_counts (g.S.Source.calls old) (g.S.Source.taken old) (g.S.Source.fault_count old))
-    (source_counts (g.S.Source.calls new) (g.S.Source.taken new) (g.S.Source.fault_count new))
-    (g.K.Sink.written c.args.sink.now) (g.K.Sink.written c.written.new.sink)
-    (Rose (g.K.Sink.fault_count c.args.sink.now) (g.K.Sink.fault_count c.written.new.sink)) c.written.result.0
-    c.answers_have_statuses.ensures.status c.one_answer.ensures.one c.requested-requested.result c.answered_by_workers-told.result
-    c.requested-requested.ensures.asked c.requested-requested.ensures.end c.requested-requested.ensures.fault c.answered_by_workers-told.ensures.answered
-    c.written.ensures.written
+    let asked = c.requested-requested in
+    let done = c.answered_by_workers-decided in
+    matches (call_of g.S.Source.remaining g.S.Source.calls g.S.Source.taken g.S.Source.fault_count g.K.Sink.written
+    g.K.Sink.fault_count (texts c.args.words.now) c.written.result.0 c.args.source.now asked.new.source c.args.sink.now
+    c.written.new.sink) c.answers_have_statuses.ensures.status c.one_answer.ensures.one asked.result done.result
+    asked.ensures.asked asked.ensures.end asked.ensures.fault done.ensures.answered c.written.ensures.written
 
 pub returns-clause-faults : goal.returns-clause-faults
 returns-clause-faults g c =
-    let old = c.args.source.now in
-    let new = c.requested-requested.new.source in
-    causes (texts c.args.words.now) (g.S.Source.remaining old) (g.S.Source.remaining new)
-    (source_counts (g.S.Source.calls old) (g.S.Source.taken old) (g.S.Source.fault_count old))
-    (source_counts (g.S.Source.calls new) (g.S.Source.taken new) (g.S.Source.fault_count new))
-    (g.K.Sink.written c.args.sink.now) (g.K.Sink.written c.written.new.sink)
-    (Rose (g.K.Sink.fault_count c.args.sink.now) (g.K.Sink.fault_count c.written.new.sink)) c.written.result.0
-    c.answers_have_statuses.ensures.status c.one_answer.ensures.one c.requested-requested.result c.answered_by_workers-told.result
-    c.requested-requested.ensures.asked c.requested-requested.ensures.fault c.answered_by_workers-told.ensures.answered c.written.ensures.written
+    let asked = c.requested-requested in
+    let done = c.answered_by_workers-decided in
+    causes (call_of g.S.Source.remaining g.S.Source.calls g.S.Source.taken g.S.Source.fault_count g.K.Sink.written
+    g.K.Sink.fault_count (texts c.args.words.now) c.written.result.0 c.args.source.now asked.new.source c.args.sink.now
+    c.written.new.sink) c.answers_have_statuses.ensures.status c.one_answer.ensures.one asked.result done.result
+    asked.ensures.asked asked.ensures.fault done.ensures.answered c.written.ensures.written
 
 pub returns-clause-input : goal.returns-clause-input
 returns-clause-input g c =
-    let old = c.args.source.now in
-    let new = c.requested-requested.new.source in
+    let asked = c.requested-requested in
+    let done = c.answered_by_workers-decided in
     record {
       untouched =
           λ unread.
-          let same = c.requested-requested.ensures.untouched unread in (
+          let same = asked.ensures.untouched unread in (
             ap (λ s. g.S.Source.remaining s) same,
             ap (λ s. source_counts (g.S.Source.calls s) (g.S.Source.taken s) (g.S.Source.fault_count s)) same,
-            no_read_fault (texts c.args.words.now) (g.S.Source.remaining old) (g.S.Source.remaining new)
-                (source_counts (g.S.Source.calls old) (g.S.Source.taken old) (g.S.Source.fault_count old))
-                (source_counts (g.S.Source.calls new) (g.S.Source.taken new) (g.S.Source.fault_count new))
-                (g.K.Sink.written c.args.sink.now) (g.K.Sink.written c.written.new.sink)
-                (Rose (g.K.Sink.fault_count c.args.sink.now) (g.K.Sink.fault_count c.written.new.sink))
-                c.written.result.0 c.answers_have_statuses.ensures.status c.one_answer.ensures.one c.requested-requested.result
-                c.answered_by_workers-told.result c.requested-requested.ensures.asked (c.requested-requested.ensures.no_read unread)
-                c.answered_by_workers-told.ensures.answered c.written.ensures.written,
+            no_read_fault (call_of g.S.Source.remaining g.S.Source.calls g.S.Source.taken g.S.Source.fault_count
+                g.K.Sink.written g.K.Sink.fault_count (texts c.args.words.now) c.written.result.0 c.args.source.now
+                asked.new.source c.args.sink.now c.written.new.sink) c.answers_have_statuses.ensures.status
+                c.one_answer.ensures.one asked.result done.result asked.ensures.asked (asked.ensures.no_read unread)
+                done.ensures.answered c.written.ensures.written,
           );
-      at_most = c.requested-requested.ensures.at_most;
-      turns = c.requested-requested.ensures.turns;
+      at_most = asked.ensures.at_most;
+      turns = asked.ensures.turns;
     }

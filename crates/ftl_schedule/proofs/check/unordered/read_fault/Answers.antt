@@ -1,5 +1,5 @@
 use Rattle.std.proofs.Common.{◌≡◌, sym, ◌∙◌, ap, None, Some, if◌then◌else◌}
-use Rattle.ftl_order.specs.orders.Schedule.{spot_of}
+use Rattle.ftl_order.specs.orders.Schedule.{placing_of}
 use Rattle.ftl_schedule.specs.stages.Stages.{stages_of}
 use Rattle.ftl_order.specs.declared.dependencies.dep_read.DepRead.{DepRead}
 use Rattle.ftl_deps.specs.reads.Meant.{meant}
@@ -22,7 +22,7 @@ fault_of-requires-clause-writer c =
 
 pub returns-in-Some : goal.returns-in-Some
 returns-in-Some c =
-    let at = spot_of (stages_of c.args.placed.now) in
+    let at = placing_of (stages_of c.args.placed.now) in
     let g = meant c.args.checked.now in
     record {
       fault = c.fault_of.ensures.fault
@@ -35,5 +35,5 @@ returns-in-Some c =
 pub returns-in-None : goal.returns-in-None
 returns-in-None c = record {
   fault = sym (no_writer c.args.checked.now c.grammar.ensures.lawful c.args.rule c.requires.within c.args.deps.now c.requires.table c.args.place c.requires.place
-      (spot_of (stages_of c.args.placed.now)) (sym c.first_writer.ensures.writer ∙ c.in-None.is));
+      (placing_of (stages_of c.args.placed.now)) (sym c.first_writer.ensures.writer ∙ c.in-None.is));
 }

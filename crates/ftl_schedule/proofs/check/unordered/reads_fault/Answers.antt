@@ -1,6 +1,6 @@
 use Rattle.std.proofs.Common.{arith, ◌≡◌, ◌<◌, length, [], sym, ◌∙◌, None}
 use Rattle.std.proofs.lemmas.Grind.{common_steps}
-use Rattle.ftl_order.specs.orders.Schedule.{spot_of}
+use Rattle.ftl_order.specs.orders.Schedule.{placing_of}
 use Rattle.ftl_schedule.specs.stages.Stages.{stages_of}
 use Rattle.ftl_order.specs.dependencies.DepReads.{rule_reads}
 use Rattle.ftl_deps.specs.reads.Meant.{meant}
@@ -16,7 +16,7 @@ returns-in-Some c =
     let w = rule_at g c.args.rule in
     let within : c.loop-place.place < length (rule_reads g w) = grind (arith, common_steps) in
     record {
-      fault = sym (along_here (λ d. fault_by c.args.rule (unordered_writer g (spot_of (stages_of c.args.placed.now)) w d))
+      fault = sym (along_here (λ d. fault_by c.args.rule (unordered_writer g (placing_of (stages_of c.args.placed.now)) w d))
           (rule_reads g w) c.loop-place.place (read_at [] 0) within c.in-Some.fault
           (sym c.read_fault.ensures.fault ∙ c.in-Some.is))
           ∙ c.loop-place.invariant;
@@ -29,7 +29,7 @@ loop-place-preserved c =
     let w = rule_at g c.args.rule in
     let within : c.loop-place.place < length (rule_reads g w) = grind (arith, common_steps) in
     let none : c.read_fault.result ≡ None = grind (arith, common_steps) in
-    sym (along_later (λ d. fault_by c.args.rule (unordered_writer g (spot_of (stages_of c.args.placed.now)) w d))
+    sym (along_later (λ d. fault_by c.args.rule (unordered_writer g (placing_of (stages_of c.args.placed.now)) w d))
     (rule_reads g w) c.loop-place.place (read_at [] 0) within
     (sym c.read_fault.ensures.fault ∙ none))
     ∙ c.loop-place.invariant

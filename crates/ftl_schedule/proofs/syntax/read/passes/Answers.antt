@@ -6,16 +6,20 @@ use Rattle.ftl_schedule.specs.syntax.Reading as spec
 use Rattle.ftl_schedule.proofs.syntax.read.passes.Goals as goal
 
 pub returns-in_err-item : goal.returns-in_err-item
-returns-in_err-item c =
-    let l = c.loop-turn in
-    let e = turn push spec.more_pass _ l._turn l.found l.input c.loop-turn-test.true l.invariant in
-    first_of (search rules, grind (arith, common_steps))
+returns-in_err-item c = record {
+  reads =
+      let l = c.loop-turn in
+      let e = turn push spec.more_pass _ l._turn l.found l.input c.loop-turn-test.true l.invariant in
+      first_of (search rules, grind (arith, common_steps));
+}
 
 pub returns-in_default : goal.returns-in_default
-returns-in_default c =
-    let l = c.loop-turn in
-    let e = turn push spec.more_pass _ l._turn l.found l.input c.loop-turn-test.true l.invariant in
-    first_of (search rules, grind (arith, common_steps))
+returns-in_default c = record {
+  reads =
+      let l = c.loop-turn in
+      let e = turn push spec.more_pass _ l._turn l.found l.input c.loop-turn-test.true l.invariant in
+      first_of (search rules, grind (arith, common_steps));
+}
 
 pub loop-turn-preserved : goal.loop-turn-preserved
 loop-turn-preserved c =
@@ -24,7 +28,9 @@ loop-turn-preserved c =
     first_of (search rules, grind (arith, common_steps))
 
 pub returns : goal.returns
-returns c =
-    let l = c.loop-turn in
-    let e = no_turn push spec.more_pass _ l._turn l.found l.input c.loop-turn-test.false l.invariant in
-    first_of (search rules, grind (arith, common_steps))
+returns c = record {
+  reads =
+      let l = c.loop-turn in
+      let e = no_turn push spec.more_pass _ l._turn l.found l.input c.loop-turn-test.false l.invariant in
+      first_of (search rules, grind (arith, common_steps));
+}

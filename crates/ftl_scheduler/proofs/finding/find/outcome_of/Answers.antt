@@ -1,6 +1,6 @@
 use Rattle.std.proofs.Common.{sym, subst}
 use Rattle.ftl_deps.specs.reads.Meant.{meant}
-use Rattle.ftl_scheduler.specs.outcomes.NeedRows.{AreUsable}
+use Rattle.ftl_scheduler.specs.outcomes.ConstraintRows.{AreUsable}
 use Rattle.ftl_scheduler.proofs.finding.Targets.{lawful}
 use Rattle.ftl_scheduler.proofs.finding.find.outcome_of.Goals as goal
 

@@ -3,11 +3,11 @@ use Rattle.ftl_order.specs.orders.Ordered.{VisitPlace, visit_place}
 use Rattle.ftl_schedule.specs.stages.Stages.{kind_of}
 use Rattle.ftl_order.specs.dependencies.DepReads.{rule_reads}
 use Rattle.ftl_deps.specs.reads.Meant.{meant}
-use Rattle.ftl_schedule.specs.places.Standing.{place_told}
+use Rattle.ftl_schedule.specs.places.Standing.{visit_place_meant}
 use Rattle.ftl_schedule.specs.check.RuleAt.{read_at, rule_at}
 use Rattle.ftl_schedule.proofs.check.RuleCount.{place_in_row, row_in, rules_counted, writer_known}
-use Rattle.ftl_scheduler.specs.outcomes.Need.{need_of}
-use Rattle.ftl_scheduler.specs.finding.Entered.{AreOfSize, IsEntered, need_told}
+use Rattle.ftl_scheduler.specs.outcomes.Constraint.{constraint_of}
+use Rattle.ftl_scheduler.specs.finding.Entered.{AreOfSize, IsEntered, constraint_meant}
 use Rattle.ftl_scheduler.proofs.finding.Entering.{entered_more, entered_nothing}
 use Rattle.ftl_scheduler.proofs.finding.Targets.{first_found, rule_computed}
 use Rattle.ftl_scheduler.proofs.finding.tables.enter_read.Goals as goal
@@ -48,28 +48,28 @@ returns-in-Some c = record {
       let x = visit_place g (rule_at g c.in-Some.writer) in
       let y = visit_place g (rule_at g c.args.rule) in
       let d = read_at (rule_reads g (rule_at g c.args.rule)) c.args.place in
-      let asked : need_told c.need_of-need.result ≡ need_of kind d x y =
-      c.need_of-need.ensures.need
-      ∙ ap (λ r. need_of kind r (place_told c.standing-x.result) (place_told c.standing-y.result)) c.read_of-read.ensures.read
-      ∙ ap₂ (λ v w. need_of kind d v w) c.standing-x.ensures.place c.standing-y.ensures.place in
-      let put : IsEntered (need_of kind d x y) c.args.needs.now c.enter.new.needs x.attribute y.attribute =
-      subst (λ n. IsEntered n c.args.needs.now c.enter.new.needs x.attribute y.attribute) asked
-      (subst (λ (p : VisitPlace). IsEntered (need_told c.need_of-need.result) c.args.needs.now c.enter.new.needs p.attribute y.attribute)
+      let asked : constraint_meant c.constraint_of-constraint.result ≡ constraint_of kind d x y =
+      c.constraint_of-constraint.ensures.constraint
+      ∙ ap (λ r. constraint_of kind r (visit_place_meant c.standing-x.result) (visit_place_meant c.standing-y.result)) c.read_of-read.ensures.read
+      ∙ ap₂ (λ v w. constraint_of kind d v w) c.standing-x.ensures.place c.standing-y.ensures.place in
+      let put : IsEntered (constraint_of kind d x y) c.args.constraints.now c.enter.new.constraints x.attribute y.attribute =
+      subst (λ n. IsEntered n c.args.constraints.now c.enter.new.constraints x.attribute y.attribute) asked
+      (subst (λ (p : VisitPlace). IsEntered (constraint_meant c.constraint_of-constraint.result) c.args.constraints.now c.enter.new.constraints p.attribute y.attribute)
       c.standing-x.ensures.place
-      (subst (λ (p : VisitPlace). IsEntered (need_told c.need_of-need.result) c.args.needs.now c.enter.new.needs c.standing-x.result.attr p.attribute)
+      (subst (λ (p : VisitPlace). IsEntered (constraint_meant c.constraint_of-constraint.result) c.args.constraints.now c.enter.new.constraints c.standing-x.result.attr p.attribute)
       c.standing-y.ensures.place c.enter.ensures.entered)) in
-      entered_more g kind c.args.needs.now c.enter.new.needs c.args.rule c.args.place c.in-Some.writer c.requires.entered
+      entered_more g kind c.args.constraints.now c.enter.new.constraints c.args.rule c.args.place c.in-Some.writer c.requires.entered
       (subst (λ m. c.args.rule < m) (rules_counted c.args.checked.now c.grammar.ensures.lawful) c.requires.within)
       c.requires.place
       (first_found c.args.checked.now c.grammar.ensures.lawful c.args.rule c.requires.within c.args.deps.now c.requires.table c.args.place c.requires.place
       ∙ sym c.first_writer.ensures.writer ∙ c.in-Some.is)
-      (subst (AreOfSize c.enter.new.needs) c.attribute_count.ensures.count c.enter.ensures.sized) put;
+      (subst (AreOfSize c.enter.new.constraints) c.attribute_count.ensures.count c.enter.ensures.sized) put;
 }
 
 pub returns-in-None : goal.returns-in-None
 returns-in-None c = record {
   entered =
-      entered_nothing (meant c.args.checked.now) (kind_of c.args.kind) c.args.needs.now c.args.rule c.args.place c.requires.entered
+      entered_nothing (meant c.args.checked.now) (kind_of c.args.kind) c.args.constraints.now c.args.rule c.args.place c.requires.entered
       (first_found c.args.checked.now c.grammar.ensures.lawful c.args.rule c.requires.within c.args.deps.now c.requires.table c.args.place c.requires.place
       ∙ sym c.first_writer.ensures.writer ∙ c.in-None.is);
 }

@@ -11,7 +11,7 @@ returns c = record {
       let low = c.loop-place-test.false in
       let high = c.loop-place.auto.place-end in
       let count = c.read_count-count.ensures.count in
-      entered_rule (meant c.args.checked.now) (kind_of c.args.kind) c.loop-place.needs c.args.rule
-      (subst (AreEnteredTo (meant c.args.checked.now) (kind_of c.args.kind) c.loop-place.needs c.args.rule)
+      entered_rule (meant c.args.checked.now) (kind_of c.args.kind) c.loop-place.constraints c.args.rule
+      (subst (AreEnteredTo (meant c.args.checked.now) (kind_of c.args.kind) c.loop-place.constraints c.args.rule)
       (omega (arith, low, high, count)) c.loop-place.invariant);
 }

@@ -4,4 +4,4 @@ use Rattle.ftl_scheduler.specs.finding.Entered.{AreEnteredTo}
 use Rattle.ftl_scheduler.proofs.finding.tables.enter_reads.Given as goal
 
 abbrev pub invariant-loop-place : goal.invariant-loop-place
-invariant-loop-place l = AreEnteredTo (meant l.checked) (kind_of l.kind) l.needs l.rule l.place
+invariant-loop-place l = AreEnteredTo (meant l.checked) (kind_of l.kind) l.constraints l.rule l.place

@@ -1,7 +1,7 @@
 use Rattle.std.proofs.Common.{arith}
 use Rattle.ftl_order.specs.orders.Schedule.{bottomup, inorder, topdown}
 use Rattle.ftl_scheduler.proofs.outcomes.NextPass.{is_empty, not_empty, next_down, next_in_order, next_up}
-use Rattle.ftl_scheduler.proofs.outcomes.PickedLists.{picked_list}
+use Rattle.ftl_scheduler.proofs.outcomes.RowLists.{rows_give_list}
 use Rattle.ftl_scheduler.proofs.outcomes.next.next_pass.Goals as goal
 
 pub returns-then-len-clause-next : goal.returns-then-len-clause-next
@@ -9,9 +9,9 @@ returns-then-len-clause-next c g list law tables computed is_row =
     let t = c.args.tables.now in
     let all = c.args.all.now in
     let row = c.args.done.now in
-    let down = picked_list g topdown t.down all row list c.in_ok-down.down law tables.down computed is_row
-    c.in_ok-down.ensures.pick in
-    let up = picked_list g bottomup t.up all row list c.in_ok-up.up law tables.up computed is_row c.in_ok-up.ensures.pick in
+    let down = rows_give_list g topdown t.down all row list c.in_ok-down.down law tables.down computed is_row
+    c.in_ok-down.ensures.largest in
+    let up = rows_give_list g bottomup t.up all row list c.in_ok-up.up law tables.up computed is_row c.in_ok-up.ensures.largest in
     let less = c.if-len.true in
     let x = c.len.ensures in
     let y = c.len-2.ensures in
@@ -22,9 +22,9 @@ returns-then-not-is_empty-clause-next c g list law tables computed is_row =
     let t = c.args.tables.now in
     let all = c.args.all.now in
     let row = c.args.done.now in
-    let down = picked_list g topdown t.down all row list c.in_ok-down.down law tables.down computed is_row
-    c.in_ok-down.ensures.pick in
-    let up = picked_list g bottomup t.up all row list c.in_ok-up.up law tables.up computed is_row c.in_ok-up.ensures.pick in
+    let down = rows_give_list g topdown t.down all row list c.in_ok-down.down law tables.down computed is_row
+    c.in_ok-down.ensures.largest in
+    let up = rows_give_list g bottomup t.up all row list c.in_ok-up.up law tables.up computed is_row c.in_ok-up.ensures.largest in
     let few = c.if-len.false in
     let x = c.len.ensures in
     let y = c.len-2.ensures in
@@ -36,11 +36,11 @@ returns-clause-next c g list law tables computed is_row =
     let t = c.args.tables.now in
     let all = c.args.all.now in
     let row = c.args.done.now in
-    let down = picked_list g topdown t.down all row list c.in_ok-down.down law tables.down computed is_row
-    c.in_ok-down.ensures.pick in
-    let up = picked_list g bottomup t.up all row list c.in_ok-up.up law tables.up computed is_row c.in_ok-up.ensures.pick in
-    let in_order = picked_list g inorder t.in_order all row list c.in_ok-attrs.attrs law tables.in_order computed is_row
-    c.in_ok-attrs.ensures.pick in
+    let down = rows_give_list g topdown t.down all row list c.in_ok-down.down law tables.down computed is_row
+    c.in_ok-down.ensures.largest in
+    let up = rows_give_list g bottomup t.up all row list c.in_ok-up.up law tables.up computed is_row c.in_ok-up.ensures.largest in
+    let in_order = rows_give_list g inorder t.in_order all row list c.in_ok-attrs.attrs law tables.in_order computed is_row
+    c.in_ok-attrs.ensures.largest in
     let few = c.if-len.false in
     let x = c.len.ensures in
     let y = c.len-2.ensures in

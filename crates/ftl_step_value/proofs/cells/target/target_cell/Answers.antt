@@ -1,13 +1,13 @@
--- What is told of the rule is its name, and what the step computes is there.
+-- What is known of the rule is its name, and what the step computes is there.
 use Rattle.std.proofs.Common.{◌≡◌, ap, subst, sym, ◌∙◌}
 use Rattle.ftl_model.specs.layout.AttributeGrammar.{RuleName, for_child, for_self}
 use Rattle.ftl_model.specs.layout.Path.{node_at}
 use Rattle.ftl_model.specs.layout.Solves.{IsInstance}
 use Rattle.ftl_model.specs.layout.Table.{instance_number}
 use Rattle.ftl_deps.specs.reads.Meant.{meant}
-use Rattle.ftl_deps.specs.reads.Products.{told_child}
+use Rattle.ftl_deps.specs.reads.Products.{name_of_child}
 use Rattle.ftl_order.specs.steps.Steps.{rule_at, target_of_rule}
-use Rattle.ftl_step_value.proofs.cells.StepCells.{name_is, told_within}
+use Rattle.ftl_step_value.proofs.cells.StepCells.{name_is, info_within}
 use Rattle.ftl_step_value.proofs.cells.StepRules.{target_there}
 use Rattle.ftl_step_value.proofs.cells.target.target_cell.Goals as goal
 
@@ -15,7 +15,7 @@ pub rule-rule-requires : goal.rule-rule-requires
 rule-rule-requires c =
     record {
       within =
-          told_within c.args.tree.now c.checked-checked.result.now c.checked-checked.ensures.grammar
+          info_within c.args.tree.now c.checked-checked.result.now c.checked-checked.ensures.grammar
           c.grammar-lawful.ensures.lawful c.args.step.rule c.requires.step.rule;
     }
 
@@ -27,7 +27,7 @@ instance-requires-clause-attr c =
     let i = c.rule-rule.result in
     let name : rule_at g x.rule ≡ for_self i.class i.attr =
     name_is t c.checked-checked.result.now c.checked-checked.ensures.grammar c.grammar-lawful.ensures.lawful x.rule
-    c.requires.step.rule i c.rule-rule.ensures.info ∙ ap (told_child i.class i.attr) c.in-None.is in
+    c.requires.step.rule i c.rule-rule.ensures.info ∙ ap (name_of_child i.class i.attr) c.in-None.is in
     (subst (λ (w : RuleName). IsInstance g t.tree (target_of_rule (node_at t.tree x.node) w x.kid)) name
     (target_there g c.requires.sound.law t.tree c.node_count-nodes.ensures.is_tree x c.requires.step)).1
 
@@ -39,7 +39,7 @@ kid_cell-requires-clause-there c =
     let i = c.rule-rule.result in
     let name : rule_at g x.rule ≡ for_child i.class c.in-Some.child i.attr =
     name_is t c.checked-checked.result.now c.checked-checked.ensures.grammar c.grammar-lawful.ensures.lawful x.rule
-    c.requires.step.rule i c.rule-rule.ensures.info ∙ ap (told_child i.class i.attr) c.in-Some.is in
+    c.requires.step.rule i c.rule-rule.ensures.info ∙ ap (name_of_child i.class i.attr) c.in-Some.is in
     subst (λ (w : RuleName). IsInstance g t.tree (target_of_rule (node_at t.tree x.node) w x.kid)) name
     (target_there g c.requires.sound.law t.tree c.node_count-nodes.ensures.is_tree x c.requires.step)
 
@@ -51,7 +51,7 @@ returns-in-None c =
     let i = c.rule-rule.result in
     let name : rule_at g x.rule ≡ for_self i.class i.attr =
     name_is t c.checked-checked.result.now c.checked-checked.ensures.grammar c.grammar-lawful.ensures.lawful x.rule
-    c.requires.step.rule i c.rule-rule.ensures.info ∙ ap (told_child i.class i.attr) c.in-None.is in
+    c.requires.step.rule i c.rule-rule.ensures.info ∙ ap (name_of_child i.class i.attr) c.in-None.is in
     record {
       cell =
           c.instance.ensures.instance
@@ -66,7 +66,7 @@ returns-in-Some c =
     let i = c.rule-rule.result in
     let name : rule_at g x.rule ≡ for_child i.class c.in-Some.child i.attr =
     name_is t c.checked-checked.result.now c.checked-checked.ensures.grammar c.grammar-lawful.ensures.lawful x.rule
-    c.requires.step.rule i c.rule-rule.ensures.info ∙ ap (told_child i.class i.attr) c.in-Some.is in
+    c.requires.step.rule i c.rule-rule.ensures.info ∙ ap (name_of_child i.class i.attr) c.in-Some.is in
     record {
       cell =
           c.kid_cell.ensures.cell

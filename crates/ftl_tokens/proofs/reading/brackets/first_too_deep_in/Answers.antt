@@ -10,11 +10,11 @@ returns-then-saturating_sub-limit c = record {
   first =
       let many : c.args.limit < c.counted-opened.result - c.counted-closed.result = omega arith in
       too_deep-here _ _ c.args.limit c.args.scanned.now c.list-token-items.result.now c.list-token-items.ensures.list
-      c.loop-token.token-index _ _ _ c.loop-token.invariant c.loop-token-test.true _ _ c.counted-opened.ensures c.counted-closed.ensures many;
+      c.loop-token.token-index _ _ _ c.loop-token.invariant c.loop-token-test.true _ _ c.counted-opened.ensures.count c.counted-closed.ensures.count many;
 }
 
 pub loop-token-preserved : goal.loop-token-preserved
 loop-token-preserved c =
     let few : c.counted-opened.result - c.counted-closed.result ≤ c.args.limit = omega arith in
     counted-more _ _ c.args.limit c.args.scanned.now c.list-token-items.result.now c.list-token-items.ensures.list
-    c.loop-token.token-index _ _ _ c.loop-token.invariant c.loop-token-test.true _ _ c.counted-opened.ensures c.counted-closed.ensures few
+    c.loop-token.token-index _ _ _ c.loop-token.invariant c.loop-token-test.true _ _ c.counted-opened.ensures.count c.counted-closed.ensures.count few

@@ -7,12 +7,14 @@ use Rattle.ftl_tokens.proofs.scanner.piece.number_piece.Goals as goal
 
 -- the number ends before this byte
 pub returns-then-not-is_ascii_digit : goal.returns-then-not-is_ascii_digit
-returns-then-not-is_ascii_digit c =
-    let bytes = c.as_bytes-byte-items.result.now in
-    let stops = sym c.is_ascii_digit.ensures.value ∙ c.if-not-is_ascii_digit.true in
-    number_piece_by c.args.greatest c.args.text.now c.loop-at.number c.loop-at.at c.number_token.result c.utf8.text c.requires.number
-    (runs_through_byte_other c.loop-at.invariant.runs bytes c.as_bytes-byte-items.ensures.value digit_ascii c.loop-at-test.true stops)
-    c.loop-at.invariant.number c.number_token.ensures
+returns-then-not-is_ascii_digit c = record {
+  piece =
+      let bytes = c.as_bytes-byte-items.result.now in
+      let stops = sym c.is_ascii_digit.ensures.value ∙ c.if-not-is_ascii_digit.true in
+      number_piece_by c.args.greatest c.args.text.now c.loop-at.number c.loop-at.at c.number_token.result c.utf8.text c.requires.number
+      (runs_through_byte_other c.loop-at.invariant.runs bytes c.as_bytes-byte-items.ensures.value digit_ascii c.loop-at-test.true stops)
+      c.loop-at.invariant.number c.number_token.ensures.piece;
+}
 
 pub loop-at-preserved : goal.loop-at-preserved
 loop-at-preserved c =
@@ -29,11 +31,13 @@ loop-at-preserved c =
 
 -- no byte is left
 pub returns : goal.returns
-returns c =
-    let bytes = c.as_bytes-byte-items.result.now in
-    let same = c.as_bytes-byte-items.ensures.value in
-    let end : c.loop-at.at ≡ length c.args.text.now = omega (arith, c.loop-at-test.false, c.loop-at.auto.at-end, ap length same) in
-    number_piece_by c.args.greatest c.args.text.now c.loop-at.number (length c.args.text.now) c.number_token-2.result c.utf8.text c.requires.number
-    (runs_through_bytes_end c.loop-at.invariant.runs bytes same c.loop-at-test.false)
-    (c.loop-at.invariant.number ∙ ap (λ k. min (digits_value 10 (take k c.args.text.now)) (c.args.greatest + 1)) end)
-    c.number_token-2.ensures
+returns c = record {
+  piece =
+      let bytes = c.as_bytes-byte-items.result.now in
+      let same = c.as_bytes-byte-items.ensures.value in
+      let end : c.loop-at.at ≡ length c.args.text.now = omega (arith, c.loop-at-test.false, c.loop-at.auto.at-end, ap length same) in
+      number_piece_by c.args.greatest c.args.text.now c.loop-at.number (length c.args.text.now) c.number_token-2.result c.utf8.text c.requires.number
+      (runs_through_bytes_end c.loop-at.invariant.runs bytes same c.loop-at-test.false)
+      (c.loop-at.invariant.number ∙ ap (λ k. min (digits_value 10 (take k c.args.text.now)) (c.args.greatest + 1)) end)
+      c.number_token-2.ensures.piece;
+}

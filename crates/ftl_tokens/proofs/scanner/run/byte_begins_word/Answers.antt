@@ -11,4 +11,4 @@ begins byte = nat_lt byte 128 && (is_ascii_alphabetic byte || eqb byte 95)
 
 pub returns : goal.returns
 unfolding agree_below
-returns c = from_table CLASS 16 begins c.args.byte (omega arith) refl ∙ begins-ascii c.args.byte
+returns c = record { begins = from_table CLASS 16 begins c.args.byte (omega arith) refl ∙ begins-ascii c.args.byte }

@@ -14,8 +14,10 @@ scanned c =
 
 -- the greatest number of the call is none above that of all texts
 pub new-requires : goal.new-requires
-new-requires c =
-    are_tokens_of-wider c.args.greatest 140737488355327 (string_bytes c.args.text) 0 c.in_ok-list.list.items c.requires.limit (scanned c)
+new-requires c = record {
+  tokens =
+      are_tokens_of-wider c.args.greatest 140737488355327 (string_bytes c.args.text) 0 c.in_ok-list.list.items c.requires.limit (scanned c);
+}
 
 pub returns-clause-tokens : goal.returns-clause-tokens
 returns-clause-tokens c =

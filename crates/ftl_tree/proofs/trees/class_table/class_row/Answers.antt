@@ -8,7 +8,7 @@ use Rattle.ftl_grammar.specs.declared.syntax.rules.Class.{Class}
 use Rattle.ftl_grammar.specs.declared.syntax.rules.Grammar.{Grammar}
 use Rattle.ftl_grammar.specs.declared.syntax.rules.Interface.{Interface}
 use Rattle.ftl_meaning.specs.faults.Numbering.{interface_of, own_count, shared_count}
-use Rattle.ftl_meaning.proofs.lawful.Needs.{interface_known}
+use Rattle.ftl_meaning.proofs.lawful.RequiredRules.{interface_known}
 use Rattle.ftl_tree.specs.trees.OwnerRuns.{own_counts, shared_counts}
 use Rattle.ftl_tree.specs.rows.Rows.{sums_from}
 use Rattle.ftl_tree.proofs.rows.Starts.{length-sums_from}

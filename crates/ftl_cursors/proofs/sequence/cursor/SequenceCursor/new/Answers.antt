@@ -10,7 +10,7 @@ use Rattle.ftl_visit.specs.declared.visits.visit_op.VisitOp.{VisitOp}
 use Rattle.ftl_visit.specs.passes.VisitRows.{visits_of}
 use Rattle.ftl_cursors.specs.sequence.Places.{FitOps}
 use Rattle.ftl_cursors.specs.sequence.SequenceRest.{rest_of_ops}
-use Rattle.ftl_cursors.proofs.sequence.Near.{class_within, visit_fits, visit_in, visits_count}
+use Rattle.ftl_cursors.proofs.sequence.CursorMoves.{class_within, visit_fits, visit_in, visits_count}
 use Rattle.ftl_cursors.proofs.sequence.RestLemmas.{visit_left}
 use Rattle.ftl_cursors.proofs.sequence.cursor.SequenceCursor.new.Goals as goal
 

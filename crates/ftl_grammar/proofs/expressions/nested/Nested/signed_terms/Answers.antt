@@ -7,20 +7,24 @@ use Rattle.ftl_grammar.specs.syntax.SumReading as sums
 use Rattle.ftl_grammar.proofs.expressions.nested.Nested.signed_terms.Goals as goal
 
 pub returns-in_err-item : goal.returns-in_err-item
-returns-in_err-item g c =
-    let l = c.loop-turn in
-    let depth = c.args.self.now.depth in
-    let item = sums.signed (spec.expr depth) in
-    let e = turn push item _ l._turn l.found l.input c.loop-turn-test.true l.invariant in
-    first_of (search rules, grind (arith, common_steps))
+returns-in_err-item g c = record {
+  reads =
+      let l = c.loop-turn in
+      let depth = c.args.self.now.depth in
+      let item = sums.signed (spec.expr depth) in
+      let e = turn push item _ l._turn l.found l.input c.loop-turn-test.true l.invariant in
+      first_of (search rules, grind (arith, common_steps));
+}
 
 pub returns-in_default : goal.returns-in_default
-returns-in_default g c =
-    let l = c.loop-turn in
-    let depth = c.args.self.now.depth in
-    let item = sums.signed (spec.expr depth) in
-    let e = turn push item _ l._turn l.found l.input c.loop-turn-test.true l.invariant in
-    first_of (search rules, grind (arith, common_steps))
+returns-in_default g c = record {
+  reads =
+      let l = c.loop-turn in
+      let depth = c.args.self.now.depth in
+      let item = sums.signed (spec.expr depth) in
+      let e = turn push item _ l._turn l.found l.input c.loop-turn-test.true l.invariant in
+      first_of (search rules, grind (arith, common_steps));
+}
 
 pub loop-turn-preserved : goal.loop-turn-preserved
 loop-turn-preserved g c =
@@ -31,9 +35,11 @@ loop-turn-preserved g c =
     first_of (search rules, grind (arith, common_steps))
 
 pub returns : goal.returns
-returns g c =
-    let l = c.loop-turn in
-    let depth = c.args.self.now.depth in
-    let item = sums.signed (spec.expr depth) in
-    let e = no_turn push item _ l._turn l.found l.input c.loop-turn-test.false l.invariant in
-    first_of (search rules, grind (arith, common_steps))
+returns g c = record {
+  reads =
+      let l = c.loop-turn in
+      let depth = c.args.self.now.depth in
+      let item = sums.signed (spec.expr depth) in
+      let e = no_turn push item _ l._turn l.found l.input c.loop-turn-test.false l.invariant in
+      first_of (search rules, grind (arith, common_steps));
+}

@@ -50,7 +50,7 @@ invariant_of-result c =
       items = made.tree;
       targets = c.in_ok-targets.ensures.targets;
       copies = c.in_ok-copies.ensures.copies;
-      near = c.in_ok-near.ensures.parts;
+      neighbours = c.in_ok-neighbours.ensures.parts;
       rows = search rules;
       no_fault =
           ap (λ (x : CheckedGrammar). first_fault (meant x) (stages_of c.args.accepted.now) c.args.tree.now.tree)

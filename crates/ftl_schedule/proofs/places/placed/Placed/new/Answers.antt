@@ -12,7 +12,7 @@ pub fill-requires-clause-below : goal.fill-requires-clause-below
 fill-requires-clause-below c =
     let s = c.args.schedule in
     let these : all_entries s ≡ c.as_slice.result.now = grind (arith, common_steps) in
-    let count : c.args.attr_count ≡ length c.in_ok-spots.spots =
+    let count : c.args.attr_count ≡ length c.in_ok-places.places =
     grind (arith, common_steps, length-replicate) in
     subst (λ (n : ℕ). AreBelow n (attributes_of c.as_slice.result.now)) count
     (subst (λ (es : List Entry). AreBelow c.args.attr_count (attributes_of es)) these

@@ -6,5 +6,5 @@ use Rattle.ftl_tokens.proofs.reading.input.Input.new.Goals as goal
 
 pub invariant_of-result : goal.invariant_of-result
 invariant_of-result c =
-    subst (AreAtMost 2147483647) (sym (c.over.ensures ∙ ap symbols_of c.tokenized.ensures.tokenized))
+    subst (AreAtMost 2147483647) (sym (c.over.ensures.tokens ∙ ap symbols_of c.tokenized.ensures.tokenized))
     (at_most-symbols 2147483647 c.args.scanned.now.text 0 c.args.scanned.now.tokens c.tokenized.ensures.tokens)

@@ -7,5 +7,5 @@ use Rattle.ftl_tokens.proofs.reading.wide.WideInput.new.Goals as goal
 pub returns-clause-numbers : goal.returns-clause-numbers
 returns-clause-numbers c =
     let s = c.args.scanned.now in
-    subst (AreAtMost s.greatest) (sym (c.over.ensures ∙ ap symbols_of c.tokenized.ensures.tokenized))
+    subst (AreAtMost s.greatest) (sym (c.over.ensures.tokens ∙ ap symbols_of c.tokenized.ensures.tokenized))
     (at_most-symbols s.greatest s.tokenized.text 0 s.tokenized.tokens c.tokenized.ensures.tokens)

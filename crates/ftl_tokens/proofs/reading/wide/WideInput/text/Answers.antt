@@ -7,10 +7,12 @@ use Rattle.ftl_tokens.proofs.reading.wide.WideInput.text.Goals as goal
 pub slice-requires : goal.slice-requires
 slice-requires c = record {
   within =
-      within-some c.self.inside.scanned.now c.self.inside.at _ (ap next_kind c.self.view_is ∙ c.requires);
+      within-some c.self.inside.scanned.now c.self.inside.at _ (ap next_kind c.self.view_is ∙ c.requires.name);
 }
 
 pub returns : goal.returns
-returns c =
-    let here = text-there c.self.inside.scanned.now c.self.inside.at c.slice.result.now (ap next_kind c.self.view_is ∙ c.requires) c.slice.ensures.symbol in
-    sym c.self.view_is ∙ here ∙ ap (λ ts. name c.slice.result.now ∷ rest_of ts) c.self.view_is
+returns c = record {
+  text =
+      let here = text-there c.self.inside.scanned.now c.self.inside.at c.slice.result.now (ap next_kind c.self.view_is ∙ c.requires.name) c.slice.ensures.symbol in
+      sym c.self.view_is ∙ here ∙ ap (λ ts. name c.slice.result.now ∷ rest_of ts) c.self.view_is;
+}

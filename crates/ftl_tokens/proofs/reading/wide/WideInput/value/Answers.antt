@@ -7,7 +7,7 @@ use Rattle.ftl_tokens.proofs.reading.wide.WideInput.value.Goals as goal
 pub number-requires : goal.number-requires
 number-requires c = record {
   number =
-      token-there c.self.inside.scanned.now c.self.inside.at _ (ap next_kind c.self.view_is ∙ c.requires);
+      token-there c.self.inside.scanned.now c.self.inside.at _ (ap next_kind c.self.view_is ∙ c.requires.number);
 }
 
 pub returns-clause-value : goal.returns-clause-value

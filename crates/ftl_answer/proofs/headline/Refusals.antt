@@ -1,0 +1,177 @@
+-- What a stage ends with is one line that refuses. Whatever holds of each such line holds of each end.
+use Rattle.std.proofs.Common.{◌≡◌, inl, inr, refl, sym, subst, ℕ, Bool, true, false, List, length, Option, Some, None, Result, Ok, Err}
+use Rattle.std.specs.Prelude.{nat_lt, if◌then◌else◌}
+use Rattle.ftl_base.specs.Widths.{greatest_of_width}
+use Rattle.ftl_base.specs.declared.width.Width.{Width}
+use Rattle.ftl_page.specs.declared.commands.command.Command.{Command}
+use Rattle.ftl_deps.specs.reads.Meant.{meant}
+use Rattle.ftl_document.specs.reading.ReadTree.{ReadsTree}
+use Rattle.ftl_document.specs.declared.faults.fault.DocFault.TheVariants as document
+use Rattle.ftl_grammar.specs.reading.Read.{ReadsGrammar}
+use Rattle.ftl_grammar.specs.declared.reading.fault.SyntaxFault.TheVariants as syntax
+use Rattle.ftl_meaning.specs.faults.Checked.{CheckedGrammar}
+use Rattle.ftl_meaning.specs.faults.FirstFault as grammars
+use Rattle.ftl_page.specs.sections.Page.{page_of}
+use Rattle.ftl_page.specs.declared.sections.fault.PageFault.{PageFault}
+use Rattle.ftl_page.specs.declared.sections.fault.Section.{Section}
+use Rattle.ftl_page.specs.declared.sections.fault.Section.TheVariants as section
+use Rattle.ftl_page.specs.declared.sections.page.Need.{Need}
+use Rattle.ftl_page.specs.declared.sections.page.Page.{Page}
+use Rattle.ftl_limits.specs.faults.PlanFaults as plans
+use Rattle.ftl_answer.specs.refusals.DocumentLines.{document_line}
+use Rattle.ftl_answer.specs.refusals.GrammarLines.{grammar_line}
+use Rattle.ftl_answer.specs.refusals.PageLines.{page_line, too_long_line, words_line}
+use Rattle.ftl_answer.specs.refusals.PlanLines.{plan_line}
+use Rattle.ftl_answer.specs.refusals.ScheduleLines.{schedule_line, stuck_line, verify_line}
+use Rattle.ftl_answer.specs.refusals.TextLines.{syntax_line, token_line}
+use Rattle.ftl_order.specs.faults.FirstFault as orders
+use Rattle.ftl_schedule.specs.declared.names.fault.ScheduleFault.TheVariants as schedules
+use Rattle.ftl_schedule.specs.reading.Read.{Answers}
+use Rattle.ftl_schedule.specs.stages.Stages.{stages_of}
+use Rattle.ftl_schedule.specs.declared.stages.types.Schedule.{Schedule}
+use Rattle.ftl_grammar.specs.declared.syntax.rules.Grammar.{Grammar}
+use Rattle.ftl_tokens.specs.scanner.Scan.{scan}
+use Rattle.ftl_tokens.specs.scanner.Tokenized.{Tokenized}
+use Rattle.ftl_tokens.specs.declared.scanner.fault.TokenFault.{TokenFault}
+use Rattle.ftl_tokens.specs.declared.scanner.kind.Token.{Token}
+use Rattle.ftl_tree.specs.trees.CheckedTree.{CheckedTree}
+use Rattle.ftl_answer.specs.answers.Answer.{Answer, refused}
+use Rattle.ftl_answer.specs.answers.Answers.{command_in, with_rules}
+use Rattle.ftl_answer.specs.answers.Stages.{Outcome, Stage, Then, ResultStage, ends, hands_on, result_outcome, unless}
+use Rattle.ftl_answer.specs.answers.Texts.{checked_grammar, grammar, lawful_grammar, ordered_schedule}
+use Rattle.ftl_answer.specs.answers.Texts.{page, planned_tree, scanned_as, schedule, spelled_grammar, spelled_schedule}
+use Rattle.ftl_answer.specs.answers.Texts.{spelled_tree, status_of, tokenized, tokens, tree, wide}
+use Rattle.ftl_answer.specs.headline.Promises.{IsRefusalStatus}
+use Rattle.ftl_answer.proofs.answers.Ones.{end_is_no_value, same_end}
+
+-- the end, at an outcome of this type
+abbrev pub ended : (X : Type 0) → Answer → Outcome X
+ended X a = ends a
+
+pub of_words_status : IsRefusalStatus 2
+of_words_status = inl refl
+
+pub of_page_status : IsRefusalStatus 4
+of_page_status = inr (inl refl)
+
+pub of_grammar_status : IsRefusalStatus 5
+of_grammar_status = inr (inr (inl refl))
+
+pub of_schedule_status : IsRefusalStatus 6
+of_schedule_status = inr (inr (inr (inl refl)))
+
+pub of_document_status : IsRefusalStatus 7
+of_document_status = inr (inr (inr (inr refl)))
+
+module _ (Fine : Answer → Type 0) (line : (s : ℕ) → IsRefusalStatus s → (text : List ℕ) → Fine (refused s text)) where
+  pub same : (a b : Answer) → a ≡ b → Fine b → Fine a
+  same a b is fine = subst Fine (sym is) fine
+
+  pub two : {X Y : Type 0} (first : Stage X) (second : X → Stage Y)
+      → ((a : Answer) → first (ends a) → Fine a)
+      → ((x : X) → first (hands_on x) → (a : Answer) → second x (ends a) → Fine a)
+      → (a : Answer) → Then first second (ends a) → Fine a
+  two {Y = Y} first second one next a (inl p) = same a p.0 (same_end a p.0 p.2) (one p.0 p.1)
+  two first second one next a (inr p) = next p.0 p.1 a p.2
+
+  fault_ends : {X E : Type 0} (refusal : E → Answer) → ((e : E) → Fine (refusal e)) → (fault : Option E) (x : X) (a : Answer)
+      → ended X a ≡ unless refusal fault x → Fine a
+  fault_ends refusal each None x a is = absurd (end_is_no_value a x is)
+  fault_ends refusal each (Some e) x a is = same a (refusal e) (same_end a (refusal e) is) (each e)
+
+  pub result_ends : {X E : Type 0} (refusal : E → Answer) → ((e : E) → Fine (refusal e)) → (r : Result X E) (a : Answer)
+      → ended X a ≡ result_outcome refusal r → Fine a
+  result_ends refusal each (Ok x) a is = absurd (end_is_no_value a x is)
+  result_ends refusal each (Err e) a is = same a (refusal e) (same_end a (refusal e) is) (each e)
+
+  call_ends : {X E : Type 0} (memory : E) (refusal : E → Answer) (Results : Result X E → Type 0) → ((e : E) → Fine (refusal e))
+      → (a : Answer) → ResultStage memory refusal Results (ends a) → Fine a
+  call_ends memory refusal Results each a p = same a (refusal p.0) p.3 (each p.0)
+
+  -- ---- texts
+
+  page_by : (long : Bool) (r : Result Page PageFault) (a : Answer)
+      → ended Page a ≡ (if long then ends (refused 4 too_long_line) else result_outcome (λ fault. refused 4 (page_line fault)) r)
+      → Fine a
+  page_by true r a is =
+      same a (refused 4 too_long_line) (same_end a (refused 4 too_long_line) is) (line 4 of_page_status too_long_line)
+  page_by false r a is =
+      result_ends (λ fault. refused 4 (page_line fault)) (λ fault. line 4 of_page_status (page_line fault)) r a is
+
+  of_page : (need : Need) (bytes : List ℕ) (a : Answer) → page need bytes (ends a) → Fine a
+  of_page need bytes a is = page_by (nat_lt 67108864 (length bytes)) (page_of bytes need) a is
+
+  tokens_by : (which : Section) → IsRefusalStatus (status_of which) → (text : List ℕ)
+      → (r : Result (List Token) TokenFault) (a : Answer) → ended Tokenized a ≡ scanned_as which text r → Fine a
+  tokens_by which of_section text (Ok list) a is = absurd (end_is_no_value a (tokenized text list) is)
+  tokens_by which of_section text (Err fault) a is =
+      let refusal = refused (status_of which) (token_line which fault) in
+      same a refusal (same_end a refusal is) (line (status_of which) of_section (token_line which fault))
+
+  of_tokens : (which : Section) → IsRefusalStatus (status_of which) → (greatest : ℕ) (text : List ℕ) (a : Answer)
+      → tokens which greatest text (ends a) → Fine a
+  of_tokens which of_section greatest text a is = tokens_by which of_section text (scan greatest text) a is
+
+  of_grammar : (width : Width) (text : List ℕ) (a : Answer) → grammar width text (ends a) → Fine a
+  of_grammar width text =
+      two (tokens section.Grammar 2147483647 text) (λ scanned. Then (spelled_grammar scanned) (lawful_grammar width))
+      (of_tokens section.Grammar of_grammar_status 2147483647 text)
+      (λ scanned read.
+      two (spelled_grammar scanned) (lawful_grammar width)
+      (call_ends syntax.OutOfMemory (λ fault. refused 5 (syntax_line fault)) (ReadsGrammar scanned)
+      (λ fault. line 5 of_grammar_status (syntax_line fault)))
+      (λ (g : Grammar) spelled.
+      fault_ends (λ fault. refused 5 (grammar_line fault)) (λ fault. line 5 of_grammar_status (grammar_line fault))
+      (grammars.first_fault g) (checked_grammar width g)))
+
+  of_schedule : (c : CheckedGrammar) (text : Option (List ℕ)) (a : Answer) → schedule c text (ends a) → Fine a
+  of_schedule c None a p =
+      let refusal = stuck_line c.grammar p.0 in same a (refused 6 refusal) p.2 (line 6 of_schedule_status refusal)
+  of_schedule c (Some text) a p =
+      two (tokens section.Schedule 2147483647 text)
+      (λ scanned. Then (spelled_schedule c scanned) (ordered_schedule c))
+      (of_tokens section.Schedule of_schedule_status 2147483647 text)
+      (λ scanned read.
+      two (spelled_schedule c scanned) (ordered_schedule c)
+      (call_ends schedules.OutOfMemory (λ fault. refused 6 (schedule_line fault)) (Answers c.grammar scanned)
+      (λ fault. line 6 of_schedule_status (schedule_line fault)))
+      (λ (s : Schedule) spelled.
+      fault_ends (λ fault. refused 6 (verify_line c.grammar fault))
+      (λ fault. line 6 of_schedule_status (verify_line c.grammar fault)) (orders.first_fault (meant c) (stages_of s)) s))
+      a p
+
+  pub of_tree : (c : CheckedGrammar) (s : Schedule) (text : List ℕ) (a : Answer) → tree c s text (ends a) → Fine a
+  of_tree c s text =
+      two (tokens section.Document (greatest_of_width c.width) text)
+      (λ scanned. Then (spelled_tree c (wide (greatest_of_width c.width) scanned))
+      (λ (t : CheckedTree). planned_tree c s t.tree))
+      (of_tokens section.Document of_document_status (greatest_of_width c.width) text)
+      (λ scanned read.
+      two (spelled_tree c (wide (greatest_of_width c.width) scanned)) (λ (t : CheckedTree). planned_tree c s t.tree)
+      (call_ends document.OutOfMemory (λ fault. refused 7 (document_line c.grammar fault))
+      (ReadsTree c (wide (greatest_of_width c.width) scanned))
+      (λ fault. line 7 of_document_status (document_line c.grammar fault)))
+      (λ (t : CheckedTree) spelled.
+      fault_ends (λ fault. refused 7 (plan_line fault)) (λ fault. line 7 of_document_status (plan_line fault))
+      (plans.first_fault (meant c) (stages_of s) t.tree) t.tree))
+
+  -- a grammar and a schedule, and what goes on with them
+  pub of_rules : (need : Need) (bytes : List ℕ) (next : CheckedGrammar → Schedule → Page → Stage ⊥)
+      → ((c : CheckedGrammar) (s : Schedule) (p : Page) → page need bytes (hands_on p)
+      → grammar p.width p.grammar (hands_on c) → schedule c p.schedule (hands_on s)
+      → (a : Answer) → next c s p (ends a) → Fine a)
+      → (a : Answer) → with_rules need bytes next (ends a) → Fine a
+  of_rules need bytes next each =
+      two (page need bytes)
+      (λ p. Then (grammar p.width p.grammar) (λ c. Then (schedule c p.schedule) (λ s. next c s p)))
+      (of_page need bytes)
+      (λ p read.
+      two (grammar p.width p.grammar) (λ c. Then (schedule c p.schedule) (λ s. next c s p)) (of_grammar p.width p.grammar)
+      (λ c lawful.
+      two (schedule c p.schedule) (λ s. next c s p) (of_schedule c p.schedule)
+      (λ s ordered. each c s p read lawful ordered)))
+
+  pub of_words : (c : Option Command) (a : Answer) → ended Command a ≡ command_in c → Fine a
+  of_words None a is =
+      let refusal = refused 2 words_line in same a refusal (same_end a refusal is) (line 2 of_words_status words_line)
+  of_words (Some c) a is = absurd (end_is_no_value a c is)

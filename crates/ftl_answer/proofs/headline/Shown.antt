@@ -1,0 +1,202 @@
+-- What is accepted is shown, and every other answer is one line that refuses.
+use Rattle.std.proofs.Common.{◌≡◌, ◌⊎◌, inl, inr, refl, sym, ap, ℕ, ◌<◌, Bool, true, false, List, length, Option, Some, None, Result, Ok, Err}
+use Rattle.std.proofs.lemmas.Bool.{lt-ltb}
+use Rattle.std.specs.Prelude.{codes, if◌then◌else◌, nat_lt}
+use Rattle.ftl_boxes.specs.SamplePage.{sample_page_of}
+use Rattle.ftl_boxes.specs.declared.fault.SampleFault.{SampleFault}
+use Rattle.ftl_page.specs.commands.Commands.{command_of}
+use Rattle.ftl_page.specs.sections.Page.{page_of}
+use Rattle.ftl_page.specs.declared.sections.fault.PageFault.{PageFault}
+use Rattle.ftl_page.specs.declared.sections.page.Need.{Need}
+use Rattle.ftl_page.specs.declared.sections.page.Page.{Page}
+use Rattle.ftl_page.specs.declared.commands.command.Command.{Command}
+use Rattle.ftl_page.specs.declared.commands.command.Command.TheVariants as command
+use Rattle.ftl_page.specs.declared.workers.solving.Solving.{Solving}
+use Rattle.ftl_meaning.specs.faults.Checked.{CheckedGrammar}
+use Rattle.ftl_meaning.specs.grammars.GrammarOf.{names_of}
+use Rattle.ftl_deps.specs.reads.Meant.{meant}
+use Rattle.ftl_model.specs.layout.Boxes.{shows_overflow}
+use Rattle.ftl_model.specs.layout.Table.{value_in}
+use Rattle.ftl_model.specs.layout.Tree.{Forest}
+use Rattle.ftl_model.specs.layout.Values.{Value}
+use Rattle.ftl_schedule.specs.printing.WrittenOf.{written_of}
+use Rattle.ftl_schedule.specs.text.ScheduleText.{schedule_text}
+use Rattle.ftl_answer.specs.answers.Answer.{Answer, answer, refused}
+use Rattle.ftl_answer.specs.answers.Answers.{IsAnswer, boxes_of, command_in, document_text, obeyed, rules_alone}
+use Rattle.ftl_answer.specs.answers.Answers.{shown_answer, shown_by, solved, summary_of, whole_page}
+use Rattle.ftl_answer.specs.answers.Stages.{Is, Outcome, Then, ends, hands_on, result_outcome}
+use Rattle.ftl_answer.specs.answers.Texts.{page, tree}
+use Rattle.ftl_answer.specs.headline.Headline.{may_read, reads_page}
+use Rattle.ftl_answer.specs.headline.Promises.{IsRefusal, IsRefusalStatus, IsShown, IsTableShown, LongPagesAreRefused}
+use Rattle.ftl_answer.specs.headline.Promises.{OverflowHasAStatus, WordsAreRefused}
+use Rattle.ftl_answer.specs.refusals.PageLines.{page_line, too_long_line, words_line}
+use Rattle.ftl_answer.proofs.answers.Ones.{end_is_no_value, same_end, same_value}
+use Rattle.ftl_answer.proofs.headline.Refusals.{ended, of_rules, of_tree, of_words, of_words_status, result_ends, two}
+
+-- ---- what is accepted is shown
+
+table_is_shown : (text : CheckedGrammar → Forest → List Value → List ℕ) (bytes : List ℕ) (a : Answer)
+    → IsTableShown text bytes a → solved bytes text (ends a)
+table_is_shown text bytes a (c, t, values, x, solves, is) =
+    inr (
+      x.sections,
+      x.read,
+      inr (c, x.lawful, inr (x.order, x.ordered, inr (t, x.spelled, (values, solves, ap (ended ⊥) is)))),
+    )
+
+abbrev sample_outcome : Result (List ℕ) SampleFault → Outcome (List ℕ)
+sample_outcome r = result_outcome (λ fault. refused 2 words_line) r
+
+is_obeyed : (c : Command) (bytes : List ℕ) (a : Answer) → IsShown c bytes a → obeyed c bytes (ends a)
+is_obeyed (command.Run how) bytes a x = table_is_shown boxes_of bytes a x
+is_obeyed command.Check bytes a (c, s, x, is) =
+    inr (x.sections, x.read, inr (c, x.lawful, inr (s, x.ordered, ap (ended ⊥) is)))
+is_obeyed command.Schedule bytes a (c, s, x, is) =
+    inr (x.sections, x.read, inr (c, x.lawful, inr (s, x.ordered, ap (ended ⊥) is)))
+is_obeyed (command.Sample pieces name how) bytes a (text, is, x) =
+    inr (text, sym (ap sample_outcome is), table_is_shown (summary_of name) text a x)
+
+pub accepted_is_shown : (words : List (List ℕ)) (bytes : List ℕ) (c : Command) (a : Answer)
+    → command_of words ≡ Some c → IsShown c bytes a → IsAnswer words bytes a
+accepted_is_shown words bytes c a is x = inr (c, sym (ap command_in is), is_obeyed c bytes a x)
+
+-- ---- or refused
+
+-- what the sample's text came from
+text_of_sample : (r : Result (List ℕ) SampleFault) (text : List ℕ) → hands_on text ≡ sample_outcome r → r ≡ Ok text
+text_of_sample (Ok other) text is = ap (λ (t : List ℕ). Ok t) (sym (same_value text other is))
+text_of_sample (Err fault) text is = absurd (end_is_no_value (refused 2 words_line) text (sym is))
+
+-- the command that the words are, from the stage that finds it
+
+command_from : (o : Option Command) (c : Command) → hands_on c ≡ command_in o → o ≡ Some c
+command_from None c is = absurd (end_is_no_value (refused 2 words_line) c (sym is))
+command_from (Some other) c is = ap (λ (x : Command). Some x) (sym (same_value c other is))
+
+refusal : (s : ℕ) → IsRefusalStatus s → (text : List ℕ) → IsRefusal (refused s text)
+refusal s is text = (s, is, text, refl)
+
+module _ (text : CheckedGrammar → Forest → List Value → List ℕ) (bytes : List ℕ) where
+  abbrev Either : Answer → Type 0
+  Either a = IsTableShown text bytes a ⊎ IsRefusal a
+
+  either_line : (s : ℕ) → IsRefusalStatus s → (line : List ℕ) → Either (refused s line)
+  either_line s is line = inr (refusal s is line)
+
+  table_or_refused : (a : Answer) → solved bytes text (ends a) → Either a
+  table_or_refused =
+      of_rules Either either_line whole_page bytes (λ c s p. Then (tree c s (document_text p)) (shown_by text c))
+      (λ c s p read lawful ordered.
+      two Either either_line (tree c s (document_text p)) (shown_by text c)
+      (of_tree Either either_line c s (document_text p))
+      (λ t spelled a shows.
+      inl (
+        c,
+        t,
+        shows.0,
+        record { sections = p; read = read; lawful = lawful; order = s; ordered = ordered; spelled = spelled },
+        shows.1,
+        same_end a (shown_answer text c t shows.0) shows.2,
+      )))
+
+module _ (bytes : List ℕ) (how : Command) where
+  abbrev Shown : Answer → Type 0
+  Shown a = IsShown how bytes a ⊎ IsRefusal a
+
+  shown_line : (s : ℕ) → IsRefusalStatus s → (line : List ℕ) → Shown (refused s line)
+  shown_line s is line = inr (refusal s is line)
+
+sample_shown : (name : List ℕ) (pieces : ℕ) (how : Solving) (bytes text : List ℕ) (a : Answer)
+    → sample_page_of name pieces ≡ Ok text → IsTableShown (summary_of name) text a ⊎ IsRefusal a
+    → Shown bytes (command.Sample pieces name how) a
+sample_shown name pieces how bytes text a is (inl x) = inl (text, is, x)
+sample_shown name pieces how bytes text a is (inr refused) = inr refused
+
+shown_or_refused : (c : Command) (bytes : List ℕ) (a : Answer) → obeyed c bytes (ends a) → Shown bytes c a
+shown_or_refused (command.Run how) bytes = table_or_refused boxes_of bytes
+shown_or_refused command.Check bytes =
+    of_rules (Shown bytes command.Check) (shown_line bytes command.Check) rules_alone bytes
+    (λ c s p. Is (ends (answer 0 (codes "accepted\n"))))
+    (λ c s p read lawful ordered a is.
+    inl (
+      c,
+      s,
+      record { sections = p; read = read; lawful = lawful; ordered = ordered },
+      same_end a (answer 0 (codes "accepted\n")) is,
+    ))
+shown_or_refused command.Schedule bytes =
+    of_rules (Shown bytes command.Schedule) (shown_line bytes command.Schedule) rules_alone bytes
+    (λ c s p. Is (ends (answer 0 (schedule_text (written_of c.grammar s)))))
+    (λ c s p read lawful ordered a is.
+    inl (
+      c,
+      s,
+      record { sections = p; read = read; lawful = lawful; ordered = ordered },
+      same_end a (answer 0 (schedule_text (written_of c.grammar s))) is,
+    ))
+shown_or_refused (command.Sample pieces name how) bytes =
+    let Fine = Shown bytes (command.Sample pieces name how) in
+    let line = shown_line bytes (command.Sample pieces name how) in
+    two Fine line (Is (sample_outcome (sample_page_of name pieces))) (λ text. solved text (summary_of name))
+    (result_ends Fine line (λ fault. refused 2 words_line) (λ fault. line 2 of_words_status words_line)
+    (sample_page_of name pieces))
+    (λ text is a solves.
+    sample_shown name pieces how bytes text a (text_of_sample (sample_page_of name pieces) text is)
+    (table_or_refused (summary_of name) text a solves))
+
+module _ (words : List (List ℕ)) (bytes : List ℕ) where
+  abbrev Whole : Answer → Type 0
+  Whole a = ((c : Command) × (command_of words ≡ Some c) × IsShown c bytes a) ⊎ IsRefusal a
+
+  whole_line : (s : ℕ) → IsRefusalStatus s → (line : List ℕ) → Whole (refused s line)
+  whole_line s is line = inr (refusal s is line)
+
+  of_shown : (c : Command) (a : Answer) → command_of words ≡ Some c → Shown bytes c a → Whole a
+  of_shown c a is (inl shown) = inl (c, is, shown)
+  of_shown c a is (inr refused) = inr refused
+
+  pub or_refused : (a : Answer) → IsAnswer words bytes a → Whole a
+  or_refused =
+      two Whole whole_line (Is (command_in (command_of words))) (λ c. obeyed c bytes)
+      (of_words Whole whole_line (command_of words))
+      (λ c is a obeys. of_shown c a (command_from (command_of words) c is) (shown_or_refused c bytes a obeys))
+
+-- ---- what is refused, and the status of what is shown
+
+pub words_are_refused : WordsAreRefused
+words_are_refused words bytes none = inl (refused 2 words_line, sym (ap command_in none), refl)
+
+-- the outcome of a page of this length
+abbrev page_outcome : Bool → Result Page PageFault → Outcome Page
+page_outcome long r = if long then ends (refused 4 too_long_line) else result_outcome (λ fault. refused 4 (page_line fault)) r
+
+long_page : (need : Need) (bytes : List ℕ) → 67108864 < length bytes → page need bytes (ends (refused 4 too_long_line))
+long_page need bytes long = ap (λ b. page_outcome b (page_of bytes need)) (sym (lt-ltb 67108864 (length bytes) long))
+
+long_command : (c : Command) (bytes : List ℕ) → reads_page c ≡ true → 67108864 < length bytes
+    → obeyed c bytes (ends (refused 4 too_long_line))
+long_command (command.Run how) bytes reads long = inl (refused 4 too_long_line, long_page whole_page bytes long, refl)
+long_command command.Check bytes reads long = inl (refused 4 too_long_line, long_page rules_alone bytes long, refl)
+long_command command.Schedule bytes reads long = inl (refused 4 too_long_line, long_page rules_alone bytes long, refl)
+long_command (command.Sample pieces name how) bytes reads long = absurd cc
+
+long_by : (o : Option Command) (bytes : List ℕ) → may_read o ≡ true → 67108864 < length bytes
+    → Then (Is (command_in o)) (λ c. obeyed c bytes) (ends (refused 4 too_long_line))
+long_by None bytes reads long = absurd cc
+long_by (Some c) bytes reads long = inr (c, refl, long_command c bytes reads long)
+
+pub long_pages_are_refused : LongPagesAreRefused
+long_pages_are_refused words bytes reads long = long_by (command_of words) bytes reads long
+
+-- the status of a table that is shown
+abbrev status_by : Bool → ℕ
+status_by overflows = if overflows then 8 else 0
+
+shown_status : (overflows : Bool) → (overflows ≡ true → status_by overflows ≡ 8)
+    × (overflows ≡ false → status_by overflows ≡ 0)
+shown_status true = (λ e. refl, λ e. absurd cc)
+shown_status false = (λ e. absurd cc, λ e. refl)
+
+pub overflow_has_a_status : OverflowHasAStatus
+overflow_has_a_status text c t values =
+    shown_status (shows_overflow (names_of c.grammar) t (value_in (meant c) t values))

@@ -1,0 +1,221 @@
+-- What a call writes and reads, from the four promises of it.
+use Rattle.std.proofs.Common.{◌≡◌, ◌≢◌, ◌⊎◌, inl, inr, ⊎_elim, refl, sym, ◌∙◌, ap, subst, ℕ, ◌<◌, ◌≤◌, Bool, true, false}
+use Rattle.std.proofs.Common.{List, [], length, ◌++◌, Option, Some, None}
+use Rattle.std.specs.Prelude.{IfSome}
+use Rattle.ftl_deps.specs.reads.Meant.{meant}
+use Rattle.ftl_edge.specs.Counts.{RoseBy, raised}
+use Rattle.ftl_edge.specs.MemSink.{SinkState}
+use Rattle.ftl_edge.specs.MemSource.{SourceState}
+use Rattle.ftl_meaning.specs.faults.Checked.{CheckedGrammar}
+use Rattle.ftl_model.specs.layout.Table.{SolvesList}
+use Rattle.ftl_model.specs.layout.Tree.{Forest}
+use Rattle.ftl_model.specs.layout.Values.{Value}
+use Rattle.ftl_order.specs.orders.OneTable.{ExactlyOneList}
+use Rattle.ftl_page.specs.commands.Commands.{command_of}
+use Rattle.ftl_page.specs.declared.commands.command.Command.{Command}
+use Rattle.ftl_page.specs.declared.commands.command.Command.TheVariants as command
+use Rattle.ftl_page.specs.declared.workers.solving.Solving.{Solving}
+use Rattle.ftl_answer.specs.answers.Answer.{Answer, refused}
+use Rattle.ftl_answer.specs.answers.Answers.{IsAnswer, boxes_of, shown_answer}
+use Rattle.ftl_answer.specs.headline.Headline.{AreTold, Call, IsAccepted, MatchesAnswer, OfTheAnswer, OneTableOf, SinkFailed}
+use Rattle.ftl_answer.specs.headline.Headline.{bytes_answered, may_read, words_read}
+use Rattle.ftl_answer.specs.headline.Promises.{AreBytesOf, CompletesCommands, EndsAsAnswered, HasNoFaultOrWant, IsRefusal}
+use Rattle.ftl_answer.specs.headline.Promises.{IsShown, KeepsPromises, LeavesTheSource, ReadNoPage, ReadsAPage, ReadsThePage}
+use Rattle.ftl_answer.specs.headline.Promises.{ReadsWithinLimits, StatusMeansTheWholeText, StopsAtAReadFault}
+use Rattle.ftl_answer.specs.headline.Promises.{StopsWithoutMemory, WriteFaultsHaveCauses, Writes, WritesAFront}
+use Rattle.ftl_answer.specs.headline.Promises.{WritesSomeAnswer, WritesTheAnswer, WritesTheBoxes, WritesTheBoxesInMemory}
+use Rattle.ftl_answer.specs.headline.Promises.{in_memory}
+use Rattle.ftl_answer.specs.refusals.PageLines.{too_long_line}
+use Rattle.ftl_answer.proofs.answers.Commands.{has_one_answer}
+use Rattle.ftl_answer.proofs.headline.Bytes.{answer_same}
+use Rattle.ftl_answer.proofs.headline.Shown.{accepted_is_shown, or_refused}
+use Rattle.ftl_answer.proofs.headline.Statuses.{answer_status}
+
+-- how a call matches this answer to these bytes
+abbrev Matches : Call → (bytes : List ℕ) → Answer → Type 0
+Matches k =
+    MatchesAnswer k.status k.written_before k.written_after (words_read k.words) k.left_before k.left_after
+    k.counts_before k.counts_after (SinkFailed k)
+
+-- the bytes that were told are these, or the words read no page
+told_are : (k : Call) (bytes some : List ℕ) → AreBytesOf k bytes → words_read k.words ≡ true → AreTold k.left_before some
+    → some ≡ bytes
+told_are k bytes some (inl is) reads are = subst (λ t. AreTold t some) is are
+told_are k bytes some (inr unread) reads are = absurd cc
+
+-- The answer to the bytes that the source told is the one that the call matches. The bytes are these where the words read
+-- a page; where they read none, the answer is that to any bytes.
+matched_by : (k : Call) (bytes : List ℕ) (a : Answer) (reads : Bool) → words_read k.words ≡ reads
+    → OfTheAnswer k.words (bytes_answered reads k.left_before) (Matches k) → AreBytesOf k bytes → IsAnswer k.words bytes a
+    → (some : List ℕ) × (reads ≡ true → some ≡ bytes) × Matches k some a
+matched_by k bytes a true reads (some, are, (b, answers, matches)) is answered =
+    let same : some ≡ bytes = told_are k bytes some is reads are in
+    let one = (has_one_answer k.words bytes).any_two in (
+      some,
+      λ e. same,
+      subst (Matches k some) (one b a (subst (λ xs. IsAnswer k.words xs b) same answers) answered) matches,
+    )
+matched_by k bytes a false reads (some, are, (b, answers, matches)) is answered =
+    let one = (has_one_answer k.words bytes).any_two in (
+      some,
+      λ e. absurd cc,
+      subst (Matches k some) (one b a (answer_same k.words some bytes b reads answers) answered) matches,
+    )
+
+-- without a fault and want of memory the call ends as the answer that it matches
+writes_matched : (k : Call) (bytes : List ℕ) (a : Answer) → HasNoFaultOrWant k → Matches k bytes a → Writes k a
+writes_matched k bytes a fine matches =
+    let ends : k.status ≡ a.status =
+    ⊎_elim (λ e. e) (λ e. absurd (fine.no_want e)) (matches.no_excuse fine.no_write_fault fine.no_read_fault)
+    in (ends, matches.text ends)
+
+module _ (k : Call) (bytes : List ℕ) (a : Answer) (promised : KeepsPromises k) (is : AreBytesOf k bytes)
+    (answered : IsAnswer k.words bytes a) where
+  found : (some : List ℕ) × (words_read k.words ≡ true → some ≡ bytes) × Matches k some a
+  found = matched_by k bytes a (words_read k.words) refl promised.answer is answered
+
+  matches : Matches k found.0 a
+  matches = found.2
+
+-- ---- what is written
+
+pub writes_the_answer : WritesTheAnswer
+writes_the_answer k bytes a promised fine is answered =
+    let x = found k bytes a promised is answered in writes_matched k x.0 a fine x.2
+
+pub completes_commands : CompletesCommands
+completes_commands k bytes c a promised fine is named shown =
+    writes_the_answer k bytes a promised fine is (accepted_is_shown k.words bytes c a named shown)
+
+-- no answer has the status of a read fault
+no_three : (k : Call) (bytes : List ℕ) (a : Answer) → IsAnswer k.words bytes a → k.status ≡ a.status → k.status ≢ 3
+no_three k bytes a answers is e = (answer_status k.words bytes a answers).no_read_fault (sym is ∙ e)
+
+some_written : (k : Call) (reads : Bool) → words_read k.words ≡ reads → reads ≡ true → HasNoFaultOrWant k
+    → OfTheAnswer k.words (bytes_answered reads k.left_before) (Matches k)
+    → (bytes : List ℕ) × (a : Answer) × AreTold k.left_before bytes × IsAnswer k.words bytes a × Writes k a
+    × (a ≢ refused 4 too_long_line → RoseBy (length bytes) k.counts_before.taken k.counts_after.taken)
+some_written k true reads is fine (bytes, are, (a, answers, matches)) =
+    let written = writes_matched k bytes a fine matches in
+    let no_fault : k.status ≢ 3 = no_three k bytes a answers written.0 in (
+      bytes,
+      a,
+      are,
+      answers,
+      written,
+      matches.counted reads no_fault fine.no_want,
+    )
+some_written k false reads is fine x = absurd cc
+
+pub writes_some_answer : WritesSomeAnswer
+writes_some_answer k promised fine reads = some_written k (words_read k.words) refl reads fine promised.answer
+
+pub status_means_the_whole_text : StatusMeansTheWholeText
+status_means_the_whole_text k bytes a promised is answered = (matches k bytes a promised is answered).text
+
+pub ends_as_answered : EndsAsAnswered
+ends_as_answered k bytes a promised is answered = (matches k bytes a promised is answered).status
+
+pub writes_a_front : WritesAFront
+writes_a_front k bytes a promised is answered = (matches k bytes a promised is answered).front
+
+pub write_faults_have_causes : WriteFaultsHaveCauses
+write_faults_have_causes k promised = promised.faults.write
+
+-- words that read no page have no read fault
+fault_reads : (k : Call) → KeepsPromises k → k.status ≡ 3 → (reads : Bool) → words_read k.words ≡ reads → reads ≡ true
+fault_reads k promised fault true is = refl
+fault_reads k promised fault false is = absurd ((promised.input.untouched is).2 fault)
+
+pub stops_at_a_read_fault : StopsAtAReadFault
+stops_at_a_read_fault k promised fault =
+    (promised.faults.read fault, fault_reads k promised fault (words_read k.words) refl, promised.faults.nothing (inl fault))
+
+pub stops_without_memory : StopsWithoutMemory
+stops_without_memory k promised want = promised.faults.nothing (inr want)
+
+-- ---- what is read
+
+page_is_read : (c : Command) (o : Option Command) → o ≡ Some c → ReadsAPage c → may_read o ≡ true
+page_is_read (command.Run how) o is reads = ap may_read is
+page_is_read command.Check o is reads = ap may_read is
+page_is_read command.Schedule o is reads = ap may_read is
+page_is_read (command.Sample pieces name how) o is reads = absurd reads
+
+pub reads_the_page : ReadsThePage
+reads_the_page k bytes c a promised is answered named reads_one no_fault no_want =
+    let reads : words_read k.words ≡ true = page_is_read c (command_of k.words) named reads_one in
+    let x = found k bytes a promised (inl is) answered in
+    let same : x.0 ≡ bytes = x.1 reads in (
+      λ short. (
+        subst (λ t. IfSome t (λ _. k.left_after ≡ Some [])) is (x.2.to_its_end reads no_fault no_want short),
+        subst (λ xs. RoseBy (length xs) k.counts_before.taken k.counts_after.taken) same
+            (x.2.counted reads no_fault no_want short),
+      ),
+      λ long. x.2.over reads no_fault no_want (subst (λ xs. 67108864 < length xs) (sym same) long),
+    )
+
+no_page_is_read : (words : List (List ℕ)) → ReadNoPage words → words_read words ≡ false
+no_page_is_read words (inl none) = ap may_read none
+no_page_is_read words (inr (pieces, name, how, sample)) = ap may_read sample
+
+pub leaves_the_source : LeavesTheSource
+leaves_the_source k promised none = promised.input.untouched (no_page_is_read k.words none)
+
+pub reads_within_limits : ReadsWithinLimits
+reads_within_limits k promised = (promised.input.at_most, promised.input.turns)
+
+-- ---- the headline
+
+-- the command that some words are, where they are one
+abbrev command_or : Command → Option Command → Command
+command_or c None = c
+command_or c (Some other) = other
+
+module _ (k : Call) (bytes : List ℕ) (how : Solving) (promised : KeepsPromises k) (fine : HasNoFaultOrWant k)
+    (is : k.left_before ≡ Some bytes) (runs : command_of k.words ≡ Some (command.Run how)) where
+  one_table : (c : CheckedGrammar) (t : Forest) → IsAccepted bytes c t → ExactlyOneList (meant c) t
+  one_table c t x =
+      subst (λ o. OneTableOf o k.left_before) runs promised.one_table bytes
+      (subst (λ told. AreTold told bytes) (sym is) refl) c t x
+
+  boxes_written : (c : CheckedGrammar) (t : Forest) → IsAccepted bytes c t → (values : List Value)
+      → SolvesList (meant c) t values → Writes k (shown_answer boxes_of c t values)
+  boxes_written c t x values solves =
+      let a = shown_answer boxes_of c t values in
+      let shown : IsShown (command.Run how) bytes a = (c, t, values, x, solves, refl) in
+      writes_the_answer k bytes a promised fine (inl is)
+      (accepted_is_shown k.words bytes (command.Run how) a runs shown)
+
+  refusal_written : ((c : CheckedGrammar) (t : Forest) → IsAccepted bytes c t → ⊥) → (a : Answer)
+      → IsAnswer k.words bytes a
+      → ((c : Command) × (command_of k.words ≡ Some c) × IsShown c bytes a) ⊎ IsRefusal a
+      → (b : Answer) × IsRefusal b × IsAnswer k.words bytes b × Writes k b
+  refusal_written none a answers (inl (c, named, shown)) =
+      let same : c ≡ command.Run how = ap (command_or c) (sym named ∙ runs) in
+      let table = subst (λ x. IsShown x bytes a) same shown in absurd (none table.0 table.1 table.3)
+  refusal_written none a answers (inr refusal) =
+      (a, refusal, answers, writes_the_answer k bytes a promised fine (inl is) answers)
+
+  refused_otherwise : ((c : CheckedGrammar) (t : Forest) → IsAccepted bytes c t → ⊥)
+      → (a : Answer) × IsRefusal a × IsAnswer k.words bytes a × Writes k a
+  refused_otherwise none =
+      let a = (has_one_answer k.words bytes).some in
+      refusal_written none a.0 a.1 (or_refused k.words bytes a.0 a.1)
+
+pub writes_the_boxes : WritesTheBoxes
+writes_the_boxes k bytes how promised fine is runs = (
+  λ c t x. (
+    one_table k bytes how promised fine is runs c t x,
+    boxes_written k bytes how promised fine is runs c t x,
+  ),
+  refused_otherwise k bytes how promised fine is runs,
+)
+
+pub writes_the_boxes_in_memory : WritesTheBoxesInMemory
+writes_the_boxes_in_memory words status source source_after sink sink_after how promised fine runs =
+    let k = in_memory words status source source_after sink sink_after in (
+      λ c t x values solves. (boxes_written k source.left how promised fine refl runs c t x values solves).1,
+      λ none.
+          let x = refused_otherwise k source.left how promised fine refl runs none in (x.0, x.1, x.3.0, x.3.1),
+    )

@@ -1,0 +1,12 @@
+use Rattle.ftl_answer.proofs.headline.Shown.{accepted_is_shown, long_pages_are_refused, or_refused, overflow_has_a_status}
+use Rattle.ftl_answer.proofs.headline.Shown.{words_are_refused}
+use Rattle.ftl_answer.proofs.headline.promises.accepted_or_refused.Goals as goal
+
+pub returns : goal.returns
+returns c = record {
+  shown = accepted_is_shown;
+  refused = or_refused;
+  words = words_are_refused;
+  long = long_pages_are_refused;
+  overflow = overflow_has_a_status;
+}

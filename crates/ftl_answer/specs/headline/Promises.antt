@@ -1,0 +1,253 @@
+-- What follows from the four promises of a call: what it writes and how far it reads, by its words and its status.
+use Rattle.std.specs.Prelude.{◌≡◌, ◌≢◌, ◌⊎◌, ℕ, ◌+◌, ◌<◌, ◌≤◌, true, false, List, [], length, ◌++◌, Option, Some, None, Ok, codes}
+use Rattle.std.specs.Io.KnownBytes.{Appends}
+use Rattle.ftl_boxes.specs.SamplePage.{sample_page_of}
+use Rattle.ftl_deps.specs.reads.Meant.{meant}
+use Rattle.ftl_edge.specs.Counts.{RoseBy, raised}
+use Rattle.ftl_edge.specs.MemSink.{SinkState}
+use Rattle.ftl_edge.specs.MemSource.{SourceState}
+use Rattle.ftl_edge.specs.Sink.{AppendsFront}
+use Rattle.ftl_meaning.specs.faults.Checked.{CheckedGrammar}
+use Rattle.ftl_meaning.specs.grammars.GrammarOf.{names_of}
+use Rattle.ftl_model.specs.layout.Boxes.{shows_overflow}
+use Rattle.ftl_model.specs.layout.Table.{SolvesList, value_in}
+use Rattle.ftl_model.specs.layout.Tree.{Forest}
+use Rattle.ftl_model.specs.layout.Values.{Value}
+use Rattle.ftl_order.specs.orders.OneTable.{ExactlyOneList}
+use Rattle.ftl_page.specs.commands.Commands.{command_of}
+use Rattle.ftl_page.specs.declared.commands.command.Command.{Command}
+use Rattle.ftl_page.specs.declared.commands.command.Command.TheVariants as command
+use Rattle.ftl_page.specs.declared.sections.page.Page.{Page}
+use Rattle.ftl_page.specs.declared.workers.solving.Solving.{Solving}
+use Rattle.ftl_schedule.specs.declared.stages.types.Schedule.{Schedule}
+use Rattle.ftl_schedule.specs.printing.WrittenOf.{written_of}
+use Rattle.ftl_schedule.specs.text.ScheduleText.{schedule_text}
+use Rattle.ftl_answer.specs.answers.Answer.{Answer, answer, refused}
+use Rattle.ftl_answer.specs.answers.Answers.{IsAnswer, boxes_of, rules_alone, shown_answer, summary_of}
+use Rattle.ftl_answer.specs.answers.Stages.{hands_on}
+use Rattle.ftl_answer.specs.answers.Texts.{grammar, page, schedule}
+use Rattle.ftl_answer.specs.headline.Headline.{AreTold, Call, GivesTheAnswer, HasCauses, HasTheTable, IsAccepted, ReadsSoFar}
+use Rattle.ftl_answer.specs.headline.Headline.{SinkFailed, SourceFailed, call_of, words_read}
+use Rattle.ftl_answer.specs.refusals.PageLines.{too_long_line, words_line}
+
+-- ---- accepted pages, and refusals
+
+-- the grammar and the schedule of the page are accepted, with this grammar and this schedule
+pub record AreRulesAccepted (bytes : List ℕ) (c : CheckedGrammar) (s : Schedule) : Type 0 where
+  pub sections : Page
+  pub read : page rules_alone bytes (hands_on sections)
+  pub lawful : grammar sections.width sections.grammar (hands_on c)
+  pub ordered : schedule c sections.schedule (hands_on s)
+
+-- the page is accepted, and the answer shows, by this text, a list that solves its tree
+abbrev pub IsTableShown : (CheckedGrammar → Forest → List Value → List ℕ) → (bytes : List ℕ) → Answer → Type 0
+IsTableShown text bytes a =
+    (c : CheckedGrammar) × (t : Forest) × (values : List Value) × IsAccepted bytes c t × SolvesList (meant c) t values
+    × (a ≡ shown_answer text c t values)
+
+-- what the command needs of the page is accepted, and this is what it shows of it
+abbrev pub IsShown : Command → (bytes : List ℕ) → Answer → Type 0
+IsShown (command.Run how) bytes a = IsTableShown boxes_of bytes a
+IsShown command.Check bytes a =
+    (c : CheckedGrammar) × (s : Schedule) × AreRulesAccepted bytes c s × (a ≡ answer 0 (codes "accepted\n"))
+IsShown command.Schedule bytes a =
+    (c : CheckedGrammar) × (s : Schedule) × AreRulesAccepted bytes c s
+    × (a ≡ answer 0 (schedule_text (written_of c.grammar s)))
+IsShown (command.Sample pieces name how) bytes a =
+    (text : List ℕ) × (sample_page_of name pieces ≡ Ok text) × IsTableShown (summary_of name) text a
+
+-- the statuses of refusals: of words, of a page, of a grammar, of a schedule, of a document
+abbrev pub IsRefusalStatus : (status : ℕ) → Type 0
+IsRefusalStatus s = (s ≡ 2) ⊎ ((s ≡ 4) ⊎ ((s ≡ 5) ⊎ ((s ≡ 6) ⊎ (s ≡ 7))))
+
+-- one line that refuses
+abbrev pub IsRefusal : Answer → Type 0
+IsRefusal a = (status : ℕ) × IsRefusalStatus status × (line : List ℕ) × (a ≡ refused status line)
+
+-- ---- the answer
+
+-- what is accepted is shown
+abbrev pub AcceptedIsShown : Type 0
+AcceptedIsShown =
+    (words : List (List ℕ)) (bytes : List ℕ) (c : Command) (a : Answer)
+    → command_of words ≡ Some c → IsShown c bytes a → IsAnswer words bytes a
+
+-- every other answer is a refusal
+abbrev pub OrRefused : Type 0
+OrRefused =
+    (words : List (List ℕ)) (bytes : List ℕ) (a : Answer) → IsAnswer words bytes a
+    → ((c : Command) × (command_of words ≡ Some c) × IsShown c bytes a) ⊎ IsRefusal a
+
+-- words that are no command are refused
+abbrev pub WordsAreRefused : Type 0
+WordsAreRefused =
+    (words : List (List ℕ)) (bytes : List ℕ) → command_of words ≡ None → IsAnswer words bytes (refused 2 words_line)
+
+-- a page of more than 67108864 bytes is refused, where the words read one
+abbrev pub LongPagesAreRefused : Type 0
+LongPagesAreRefused =
+    (words : List (List ℕ)) (bytes : List ℕ) → words_read words ≡ true → 67108864 < length bytes
+    → IsAnswer words bytes (refused 4 too_long_line)
+
+-- a table that is shown ends with 8 where a shown value is Overflow, and with 0 where none is
+abbrev pub OverflowHasAStatus : Type 0
+OverflowHasAStatus =
+    (text : CheckedGrammar → Forest → List Value → List ℕ) (c : CheckedGrammar) (t : Forest) (values : List Value)
+    → (shows_overflow (names_of c.grammar) t (value_in (meant c) t values) ≡ true
+    → (shown_answer text c t values).status ≡ 8)
+    × (shows_overflow (names_of c.grammar) t (value_in (meant c) t values) ≡ false
+    → (shown_answer text c t values).status ≡ 0)
+
+-- ---- calls
+
+-- the call does what is promised of it
+pub record KeepsPromises (k : Call) : Type 0 where
+  pub answer : GivesTheAnswer k
+  pub faults : HasCauses k
+  pub one_table : HasTheTable k
+  pub input : ReadsSoFar k
+
+-- Neither the source nor the sink failed in the call, and memory did not run out. No call is without a fault by this
+-- whose count of faults had come to its type's end before.
+pub record HasNoFaultOrWant (k : Call) : Type 0 where
+  pub no_write_fault : SinkFailed k → ⊥
+  pub no_read_fault : SourceFailed k → ⊥
+  pub no_want : k.status ≢ 9
+
+-- these are the bytes that the source had left, or the words read no page and any bytes will do
+abbrev pub AreBytesOf : Call → List ℕ → Type 0
+AreBytesOf k bytes = (k.left_before ≡ Some bytes) ⊎ (words_read k.words ≡ false)
+
+-- the call ends with the status of the answer, and appended its whole text
+abbrev pub Writes : Call → Answer → Type 0
+Writes k a = (k.status ≡ a.status) × Appends k.written_before k.written_after a.text
+
+-- without a fault and want of memory the answer to the words and to the bytes of the source is written
+abbrev pub WritesTheAnswer : Type 0
+WritesTheAnswer =
+    (k : Call) (bytes : List ℕ) (a : Answer) → KeepsPromises k → HasNoFaultOrWant k → AreBytesOf k bytes
+    → IsAnswer k.words bytes a → Writes k a
+
+-- so a command is completed whose sections are accepted: what it shows is written
+abbrev pub CompletesCommands : Type 0
+CompletesCommands =
+    (k : Call) (bytes : List ℕ) (c : Command) (a : Answer) → KeepsPromises k → HasNoFaultOrWant k → AreBytesOf k bytes
+    → command_of k.words ≡ Some c → IsShown c bytes a → Writes k a
+
+-- of a source that doesn't tell its bytes there are some of which the same holds, as many as were taken
+abbrev pub WritesSomeAnswer : Type 0
+WritesSomeAnswer =
+    (k : Call) → KeepsPromises k → HasNoFaultOrWant k → words_read k.words ≡ true
+    → (bytes : List ℕ) × (a : Answer) × AreTold k.left_before bytes × IsAnswer k.words bytes a × Writes k a
+    × (a ≢ refused 4 too_long_line → RoseBy (length bytes) k.counts_before.taken k.counts_after.taken)
+
+-- The headline. Of a call of `run` without a fault and want of memory: where the page is accepted, exactly one table
+-- solves its tree, and that table's boxes are written; otherwise one line that refuses.
+abbrev pub WritesTheBoxes : Type 0
+WritesTheBoxes =
+    (k : Call) (bytes : List ℕ) (how : Solving) → KeepsPromises k → HasNoFaultOrWant k → k.left_before ≡ Some bytes
+    → command_of k.words ≡ Some (command.Run how)
+    → ((c : CheckedGrammar) (t : Forest) → IsAccepted bytes c t
+    → ExactlyOneList (meant c) t
+    × ((values : List Value) → SolvesList (meant c) t values → Writes k (shown_answer boxes_of c t values)))
+    × (((c : CheckedGrammar) (t : Forest) → IsAccepted bytes c t → ⊥)
+    → (a : Answer) × IsRefusal a × IsAnswer k.words bytes a × Writes k a)
+
+-- with the status of the answer its whole text was appended, whatever failed
+abbrev pub StatusMeansTheWholeText : Type 0
+StatusMeansTheWholeText =
+    (k : Call) (bytes : List ℕ) (a : Answer) → KeepsPromises k → AreBytesOf k bytes → IsAnswer k.words bytes a
+    → k.status ≡ a.status → Appends k.written_before k.written_after a.text
+
+-- the status is the answer's, or that of a write fault, a read fault or want of memory
+abbrev pub EndsAsAnswered : Type 0
+EndsAsAnswered =
+    (k : Call) (bytes : List ℕ) (a : Answer) → KeepsPromises k → AreBytesOf k bytes → IsAnswer k.words bytes a
+    → (k.status ≡ a.status) ⊎ ((k.status ≡ 1) ⊎ ((k.status ≡ 3) ⊎ (k.status ≡ 9)))
+
+-- with a write fault a front of the answer's text was appended
+abbrev pub WritesAFront : Type 0
+WritesAFront =
+    (k : Call) (bytes : List ℕ) (a : Answer) → KeepsPromises k → AreBytesOf k bytes → IsAnswer k.words bytes a
+    → k.status ≡ 1 → AppendsFront k.written_before k.written_after a.text
+
+-- a write fault comes of a sink that failed
+abbrev pub WriteFaultsHaveCauses : Type 0
+WriteFaultsHaveCauses = (k : Call) → KeepsPromises k → k.status ≡ 1 → SinkFailed k
+
+-- a read fault comes of a source that failed, and of words that read a page, and nothing was written
+abbrev pub StopsAtAReadFault : Type 0
+StopsAtAReadFault =
+    (k : Call) → KeepsPromises k → k.status ≡ 3
+    → SourceFailed k × (words_read k.words ≡ true) × (k.written_after ≡ k.written_before)
+
+-- where memory ran out, nothing was written
+abbrev pub StopsWithoutMemory : Type 0
+StopsWithoutMemory = (k : Call) → KeepsPromises k → k.status ≡ 9 → k.written_after ≡ k.written_before
+
+-- ---- how far the source is read
+
+-- this command reads a page
+abbrev pub ReadsAPage : Command → Type 0
+ReadsAPage (command.Run how) = Unit {0}
+ReadsAPage command.Check = Unit {0}
+ReadsAPage command.Schedule = Unit {0}
+ReadsAPage (command.Sample pieces name how) = ⊥
+
+-- Words that read a page read the whole source, unless it is too long, a read failed or memory ran out. Of a longer page
+-- than may be, at least as many bytes as may be and one more were taken.
+abbrev pub ReadsThePage : Type 0
+ReadsThePage =
+    (k : Call) (bytes : List ℕ) (c : Command) (a : Answer) → KeepsPromises k → k.left_before ≡ Some bytes
+    → IsAnswer k.words bytes a → command_of k.words ≡ Some c → ReadsAPage c → k.status ≢ 3 → k.status ≢ 9
+    → (a ≢ refused 4 too_long_line
+    → (k.left_after ≡ Some []) × RoseBy (length bytes) k.counts_before.taken k.counts_after.taken)
+    × (67108864 < length bytes → raised k.counts_before.taken 67108865 ≤ k.counts_after.taken)
+
+-- these words read no page: they are no command, or ask for a sample
+abbrev pub ReadNoPage : List (List ℕ) → Type 0
+ReadNoPage words =
+    (command_of words ≡ None)
+    ⊎ ((pieces : ℕ) × (name : List ℕ) × (how : Solving) × (command_of words ≡ Some (command.Sample pieces name how)))
+
+-- they leave the source alone
+abbrev pub LeavesTheSource : Type 0
+LeavesTheSource =
+    (k : Call) → KeepsPromises k → ReadNoPage k.words
+    → (k.left_after ≡ k.left_before) × (k.counts_after ≡ k.counts_before) × (k.status ≢ 3)
+
+-- whatever the words are, at most so many bytes are taken, in at most so many calls
+abbrev pub ReadsWithinLimits : Type 0
+ReadsWithinLimits =
+    (k : Call) → KeepsPromises k
+    → (k.counts_after.taken ≤ k.counts_before.taken + 67108865)
+    × (k.counts_after.calls ≤ k.counts_before.calls + 67108866)
+
+-- ---- tables
+
+-- whatever is called, exactly one list of values solves the tree of a page that is accepted
+abbrev pub OneTableOfEachPage : Type 0
+OneTableOfEachPage =
+    (bytes : List ℕ) (c : CheckedGrammar) (t : Forest) → IsAccepted bytes c t → ExactlyOneList (meant c) t
+
+-- ---- pages in memory
+
+-- the call with this source and this sink in memory, before and after
+abbrev pub in_memory : (words : List (List ℕ)) → (status : ℕ) → (source source_after : SourceState)
+    → (sink sink_after : SinkState) → Call
+in_memory words status source source_after sink sink_after =
+    call_of (λ (s : SourceState). Some s.left) (λ (s : SourceState). s.calls) (λ (s : SourceState). s.taken)
+    (λ (s : SourceState). s.fault_count) (λ (s : SinkState). Some s.written) (λ (s : SinkState). s.fault_count) words
+    status source source_after sink sink_after
+
+-- the headline of pages in memory, by what their source and their sink hold
+abbrev pub WritesTheBoxesInMemory : Type 0
+WritesTheBoxesInMemory =
+    (words : List (List ℕ)) (status : ℕ) (source source_after : SourceState) (sink sink_after : SinkState) (how : Solving)
+    → KeepsPromises (in_memory words status source source_after sink sink_after)
+    → HasNoFaultOrWant (in_memory words status source source_after sink sink_after)
+    → command_of words ≡ Some (command.Run how)
+    → ((c : CheckedGrammar) (t : Forest) → IsAccepted source.left c t → (values : List Value)
+    → SolvesList (meant c) t values → sink_after.written ≡ sink.written ++ boxes_of c t values)
+    × (((c : CheckedGrammar) (t : Forest) → IsAccepted source.left c t → ⊥)
+    → (a : Answer) × IsRefusal a × (status ≡ a.status) × (sink_after.written ≡ sink.written ++ a.text))

@@ -1,0 +1,50 @@
+//! Laws of the four promises of a call.
+
+ghost use Rattle.ftl_answer.specs.headline.Promises.{AcceptedIsShown, CompletesCommands};
+ghost use Rattle.ftl_answer.specs.headline.Promises.{EndsAsAnswered, LeavesTheSource};
+ghost use Rattle.ftl_answer.specs.headline.Promises.{LongPagesAreRefused, OneTableOfEachPage};
+ghost use Rattle.ftl_answer.specs.headline.Promises.{OrRefused, OverflowHasAStatus, ReadsThePage};
+ghost use Rattle.ftl_answer.specs.headline.Promises.{ReadsWithinLimits, StatusMeansTheWholeText};
+ghost use Rattle.ftl_answer.specs.headline.Promises.{StopsAtAReadFault, StopsWithoutMemory};
+ghost use Rattle.ftl_answer.specs.headline.Promises.{WordsAreRefused, WriteFaultsHaveCauses};
+ghost use Rattle.ftl_answer.specs.headline.Promises.{WritesAFront, WritesSomeAnswer};
+ghost use Rattle.ftl_answer.specs.headline.Promises.{WritesTheAnswer, WritesTheBoxes};
+ghost use Rattle.ftl_answer.specs.headline.Promises.{WritesTheBoxesInMemory};
+
+/// A law: what the words ask for of a page that is accepted is the answer, and every other answer
+/// is one line that refuses.
+pub fn accepted_or_refused()
+    ensures shown { AcceptedIsShown }
+    ensures refused { OrRefused }
+    ensures words { WordsAreRefused }
+    ensures long { LongPagesAreRefused }
+    ensures overflow { OverflowHasAStatus }
+{}
+
+/// A law, the headline: a call of `run` without a fault and want of memory writes the boxes of the
+/// one table that solves an accepted page, and one line that refuses of any other.
+pub fn the_headline()
+    ensures boxes { WritesTheBoxes }
+    ensures memory { WritesTheBoxesInMemory }
+    ensures table { OneTableOfEachPage }
+{}
+
+/// A law: what a call writes, with which status, with a fault and without.
+pub fn what_is_written()
+    ensures answer { WritesTheAnswer }
+    ensures completed { CompletesCommands }
+    ensures some { WritesSomeAnswer }
+    ensures status { EndsAsAnswered }
+    ensures text { StatusMeansTheWholeText }
+    ensures front { WritesAFront }
+    ensures write_fault { WriteFaultsHaveCauses }
+    ensures read_fault { StopsAtAReadFault }
+    ensures want { StopsWithoutMemory }
+{}
+
+/// A law: how far a call reads its source.
+pub fn what_is_read()
+    ensures page { ReadsThePage }
+    ensures alone { LeavesTheSource }
+    ensures limits { ReadsWithinLimits }
+{}

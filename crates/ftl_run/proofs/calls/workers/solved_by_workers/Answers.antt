@@ -1,0 +1,11 @@
+use Rattle.ftl_run.proofs.calls.Leading.{rules_end, solved_rules}
+use Rattle.ftl_run.proofs.calls.workers.solved_by_workers.Goals as goal
+
+pub returns-in-Ok : goal.returns-in-Ok
+returns-in-Ok g c = record {
+  outcome =
+      solved_rules c.args.problem c.in-Ok.rules c.solved_rules.result c.in-Ok.ensures.outcome c.solved_rules.ensures.outcome;
+}
+
+pub returns : goal.returns
+returns g c = record { outcome = rules_end c.args.problem c.in-Err.end c.in-Err.ensures.outcome }

@@ -1,7 +1,0 @@
-use Rattle.ftl_schedule.specs.stages.Stages.{kind_of}
-use Rattle.ftl_deps.specs.reads.Meant.{meant}
-use Rattle.ftl_scheduler.specs.finding.Entered.{AreEnteredTo}
-use Rattle.ftl_scheduler.proofs.finding.tables.needs_of_kind.Given as goal
-
-abbrev pub invariant-loop-rule : goal.invariant-loop-rule
-invariant-loop-rule l = AreEnteredTo (meant l.checked) (kind_of l.kind) l.needs l.rule 0

@@ -1,7 +1,0 @@
-use Rattle.std.proofs.Common.{◌≡◌, map, take}
-use Rattle.ftl_deps.specs.reads.Meant.{meant}
-use Rattle.ftl_step_value.specs.neighbours.NearParts.{near_named}
-use Rattle.ftl_step_value.proofs.neighbours.parts.near_parts.Given as goal
-
-abbrev pub invariant-loop-rule : goal.invariant-loop-rule
-invariant-loop-rule l = l.parts.items ≡ map (near_named (meant l.checked)) (take l.rule (meant l.checked).rules)
