@@ -8,14 +8,15 @@ the first and the last phase; with shared cells opening and closing these and de
 So of a stage by ranges the time of workers is only what they do of it. A stage of one item is computed on plain words
 by either. Of several runs the quickest counts, stage by stage.
 
-usage: bench/cell_steps.py [WORKERS [PROGRAM]]     2 workers, and crates/ftl_layout/out/ftl_layout if left out
+usage: bench/cell_steps.py [WORKERS [PROGRAM]]     2 workers, and the proved program, which ./prove builds, if left out
 """
 import os
 import sys
 import tempfile
 
-from parts import GRAMMARS, PARTS, TOP
+from parts import GRAMMARS, PARTS
 from plain_layout import sample
+from program import program_at
 from stops import addresses, timed_calls
 
 PIECES = 200_000
@@ -47,9 +48,7 @@ def quickest(program, page, workers, functions, processors=None, more=()):
 
 def main():
     workers = int(sys.argv[1]) if len(sys.argv) > 1 else 2
-    program = sys.argv[2] if len(sys.argv) > 2 else os.path.join(TOP, "crates/ftl_layout/out/ftl_layout")
-    if not os.path.exists(program):
-        sys.exit(f"{program} is not built: run ./layout once")
+    program = program_at(2)
     functions = addresses(program, FUNCTIONS)
     one = {min(os.sched_getaffinity(0))}
     heads = ["alone", "in turns", "ratio", "at once", "ratio", "beside"]

@@ -5,14 +5,11 @@ bytes of the text, the milliseconds of processor time of a `check` that ends wit
 checking the grammar), of the rest of a whole `check` (the table of reads, reading the schedule and verifying it), and the
 nanoseconds of the rest for each read.
 
-usage: bench/checks.py [PROGRAM]     PROGRAM is crates/ftl_layout/out/ftl_layout if left out
+usage: bench/checks.py [PROGRAM]     PROGRAM is the proved one, which ./prove builds, if left out
 """
-import os
-import sys
-
+from program import program_at
 from timing import processor_seconds
 
-TOP = os.path.dirname(os.path.dirname(os.path.abspath(__file__)))
 RUNS = 3
 CLASSES = 128
 OWN = 15
@@ -64,9 +61,7 @@ def deep(children, rules_read):
 
 
 def main():
-    program = sys.argv[1] if len(sys.argv) > 1 else os.path.join(TOP, "crates/ftl_layout/out/ftl_layout")
-    if not os.path.exists(program):
-        sys.exit(f"{program} is not built: run ./layout once")
+    program = program_at(1)
     print(f"{'grammar':24} {'rules':>7} {'reads':>9} {'bytes':>9} {'grammar':>8} {'rest':>8} {'ns/read':>8}")
     grammars = [("wide, 32 reads a rule", wide(32), 32), ("wide, 256 reads a rule", wide(256), 256),
                 ("16 children, 1 read", deep(16, 1), 1), ("16 children, 50 reads", deep(16, 50), 50)]

@@ -2,17 +2,16 @@
 """Lays out columns of words, flat and nested, of growing size, and prints nodes per second, peak memory
 and the growth from size to size.
 
-usage: bench/columns.py [PROGRAM]     PROGRAM is crates/ftl_layout/out/ftl_layout if left out
+usage: bench/columns.py [PROGRAM]     PROGRAM is the proved one, which ./prove builds, if left out
 """
-import os
 import subprocess
 import sys
 import tempfile
 import time
 
 import large_pages  # noqa: F401, for what it sets
+from program import program_at
 
-TOP = os.path.dirname(os.path.dirname(os.path.abspath(__file__)))
 HEADING = "%page 1\n%grammar stack\n%schedule auto\n%document\n"
 SIZES = [10_000, 100_000, 1_000_000]
 
@@ -60,9 +59,7 @@ def run(program, page):
 
 
 def main():
-    program = sys.argv[1] if len(sys.argv) > 1 else os.path.join(TOP, "crates/ftl_layout/out/ftl_layout")
-    if not os.path.exists(program):
-        sys.exit(f"{program} is not built: run ./layout once")
+    program = program_at(1)
     print(f"{'document':8} {'nodes':>9} {'seconds':>9} {'nodes/s':>12} {'peak MiB':>9} {'bytes/byte':>10} {'growth':>7}")
     for name, make in (("flat", flat), ("nested", nested)):
         before = None

@@ -1,14 +1,16 @@
 #!/usr/bin/env python3
 """Runs the pages of `pages/` and holds what is printed against the lines that stand in each page as comments, and the
-status against what these lines say.
+status against what these lines say. Then the same of four pages that are too long to stand there.
 
-usage: bench/example_pages.py [PROGRAM]     PROGRAM is crates/ftl_layout/out/ftl_layout if left out
+usage: bench/example_pages.py [PROGRAM]     PROGRAM is the proved one, which ./prove builds, if left out
 """
 import glob
 import os
 import re
 import subprocess
 import sys
+
+from program import program_at
 
 TOP = os.path.dirname(os.path.dirname(os.path.abspath(__file__)))
 
@@ -23,20 +25,50 @@ def status_of(told):
     return 8 if "=overflow" in told else 0
 
 
-def main():
-    program = sys.argv[1] if len(sys.argv) > 1 else f"{TOP}/crates/ftl_layout/out/ftl_layout"
-    pages = sorted(glob.glob(f"{TOP}/pages/**/*.page", recursive=True))
-    differ = 0
-    for page in pages:
+def example_pages():
+    """The pages of the folder, each with its name and the lines that it is to print."""
+    for page in sorted(glob.glob(f"{TOP}/pages/**/*.page", recursive=True)):
         with open(page, "rb") as it:
             text = it.read()
-        wanted = "".join(re.findall(r"^# ((?:\d+ |refused ).*\n)", text.decode(), re.M))
-        run = subprocess.run([program, "run"], input=text, stdout=subprocess.PIPE)
-        told = run.stdout.decode()
-        if told != wanted or run.returncode != status_of(wanted):
-            differ += 1
-            print(f"{os.path.relpath(page, TOP)}: status {run.returncode}, printed is\n{told}and wanted\n{wanted}")
-    print(f"{len(pages)} pages, {differ} differ")
+        wanted = "".join(re.findall(r"^# ((?:\d+ |refused ).*\n)", text.decode(errors="replace"), re.M))
+        yield os.path.relpath(page, TOP), text, wanted
+
+
+def page_of(grammar, kids, kid):
+    return f"%page 1\n%grammar\n{grammar}\n%schedule auto\n%document\nC {{ kids = [\n{kid * kids}] }}\n".encode()
+
+
+def long_pages():
+    """A page longer than 64 MiB, and documents one past the limits on nodes, instances and reads of a stage."""
+    yield "too long", b"%page 1\n" + b"#" * ((1 << 26) - 7), "refused page: too long\n"
+    bare = "root R; interface R { } interface K { } class C : R { kids : [K]; } class L : K { }"
+    yield "too many nodes", page_of(bare, 1 << 20, "L{}\n"), f"refused document: too many nodes: {(1 << 20) + 1}\n"
+    names = [f"a{k}" for k in range(64)]
+    rules = " ".join(f"self.{name} := 1; self.b{name} := 2;" for name in names)
+    wide = f"root R; interface R {{ }} interface K {{ syn {', '.join(names)}; }} class C : R {{ kids : [K]; }}\n"
+    wide += f"class L : K {{ local {', '.join('b' + name for name in names)}; {rules} }}"
+    count = (1 << 25) // 128 + 1
+    yield "too many instances", page_of(wide, count, "L{}\n"), f"refused document: too many instances: {count * 128}\n"
+    sums = " + ".join(["self.i"] * 200)
+    reads = "root R; interface R { } interface K { input i; syn s; } class C : R { kids : [K]; }\n"
+    reads += f"class L : K {{ self.s := {sums}; }}"
+    wanted = "refused document: too many reads in stage 1: 67109000\n"
+    yield "too many reads", page_of(reads, 335545, "L{i=1}\n"), wanted
+
+
+def main():
+    program = program_at(1)
+    pages = 0
+    differ = 0
+    for makes in (example_pages, long_pages):
+        for name, text, wanted in makes():
+            run = subprocess.run([program, "run"], input=text, stdout=subprocess.PIPE)
+            told = run.stdout.decode()
+            pages += 1
+            if told != wanted or run.returncode != status_of(wanted):
+                differ += 1
+                print(f"{name}: status {run.returncode}, printed is\n{told}and wanted\n{wanted}")
+    print(f"{pages} pages, {differ} differ")
     sys.exit(differ > 0)
 
 

@@ -4,14 +4,11 @@ terms, whose attribute nothing declares. Prints nanoseconds of processor time pe
 of tokens, at a last byte that begins none, and of what a whole run takes beyond it (reading the grammar and finding its
 fault), peak memory, and the growth of the time from size to size.
 
-usage: bench/grammars.py [PROGRAM]     PROGRAM is crates/ftl_layout/out/ftl_layout if left out
+usage: bench/grammars.py [PROGRAM]     PROGRAM is the proved one, which ./prove builds, if left out
 """
-import os
-import sys
-
 from pages import Run
+from program import program_at
 
-TOP = os.path.dirname(os.path.dirname(os.path.abspath(__file__)))
 SIZES = [1 << 20, 1 << 23, (1 << 26) - 64]
 
 
@@ -34,9 +31,7 @@ def least(program, text, end):
 
 
 def main():
-    program = sys.argv[1] if len(sys.argv) > 1 else os.path.join(TOP, "crates/ftl_layout/out/ftl_layout")
-    if not os.path.exists(program):
-        sys.exit(f"{program} is not built: run ./layout once")
+    program = program_at(1)
     print(f"{'text':8} {'bytes':>9} {'scan ns/byte':>13} {'rest ns/byte':>13} {'peak MiB':>9} {'growth':>7}")
     for name, make in (("classes", classes), ("terms", terms)):
         before = None

@@ -4,14 +4,13 @@ milliseconds of processor time alone, and by 2 and 4 workers on ranges of the ce
 and that run on all; and the nanoseconds that an item takes beside its step. Beside that stands finding the phases of
 the items. Of several runs the quickest counts.
 
-usage: bench/items.py [PROGRAM]     PROGRAM is crates/ftl_layout/out/ftl_layout if left out
+usage: bench/items.py [PROGRAM]     PROGRAM is the proved one, which ./prove builds, if left out
 """
 import os
-import sys
 import tempfile
 
 from cell_steps import FUNCTIONS, quickest
-from parts import TOP
+from program import program_at
 from stops import addresses
 
 ITEMS = 1_000_000
@@ -26,9 +25,7 @@ class One : Dot { self.x := 1; }
 
 
 def main():
-    program = sys.argv[1] if len(sys.argv) > 1 else os.path.join(TOP, "crates/ftl_layout/out/ftl_layout")
-    if not os.path.exists(program):
-        sys.exit(f"{program} is not built: run ./layout once")
+    program = program_at(1)
     functions = addresses(program, FUNCTIONS)
     with tempfile.NamedTemporaryFile("w") as page:
         page.write(GRAMMAR + "All { dots = [ " + "One {} " * (ITEMS - 1) + "] }\n")

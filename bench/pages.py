@@ -8,16 +8,15 @@ milliseconds that pass by 1, 2 and 4 workers, and their milliseconds of processo
 The time of reading a document is that of a run on the same page without its last input, which is refused as soon as
 all of it was read, less that of `check`.
 
-usage: bench/pages.py [PROGRAM]     PROGRAM is crates/ftl_layout/out/ftl_layout if left out
+usage: bench/pages.py [PROGRAM]     PROGRAM is the proved one, which ./prove builds, if left out
 """
-import os
 import subprocess
 import sys
 
 import large_pages  # noqa: F401, for what it sets
 from plain_layout import GRAMMARS, sample
+from program import program_at
 
-TOP = os.path.dirname(os.path.dirname(os.path.abspath(__file__)))
 SIZES = [20_000, 200_000]
 WORKERS = [1, 2, 4]
 RUNS = 5
@@ -89,9 +88,7 @@ def by_workers(program, grammar):
 
 
 def main():
-    program = sys.argv[1] if len(sys.argv) > 1 else os.path.join(TOP, "crates/ftl_layout/out/ftl_layout")
-    if not os.path.exists(program):
-        sys.exit(f"{program} is not built: run ./layout once")
+    program = program_at(1)
     print(f"{'grammar':8} {'pieces':>7} {'whole':>8} {'check':>8} {'read':>8} {'rest':>8} {'peak MB':>8} {'growth':>7}")
     for grammar in GRAMMARS:
         parts(program, grammar)

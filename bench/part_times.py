@@ -6,15 +6,14 @@ and of each part, the ratios of solving to reading and of the plan to solving, a
 smaller page to the larger. Of several runs the least time of each part counts. bench/parts.py counts the instructions
 of the same parts, which no other work on the machine moves.
 
-usage: bench/part_times.py [PROGRAM]     PROGRAM is crates/ftl_layout/out/ftl_layout if left out
+usage: bench/part_times.py [PROGRAM]     PROGRAM is the proved one, which ./prove builds, if left out
 """
 import collections
-import os
-import sys
 import tempfile
 
-from parts import GRAMMARS, PARTS, SIZES, TOP
+from parts import GRAMMARS, PARTS, SIZES
 from plain_layout import sample
+from program import program_at
 from stops import addresses, timed_calls
 
 RUNS = 9
@@ -32,9 +31,7 @@ def times_of(program, page, functions):
 
 
 def main():
-    program = sys.argv[1] if len(sys.argv) > 1 else os.path.join(TOP, "crates/ftl_layout/out/ftl_layout")
-    if not os.path.exists(program):
-        sys.exit(f"{program} is not built: run ./layout once")
+    program = program_at(1)
     functions = addresses(program, TIMED)
     heads = " ".join(f"{it:>8}" for it in SHOWN)
     print(f"{'grammar':8} {'pieces':>7} {heads} {'solve/read':>10} {'plan/solve':>10} {'growth':>7}")

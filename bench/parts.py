@@ -4,7 +4,7 @@ pieces of four shipped grammars: reading the document (its tokens and its tree),
 the boxes. Prints millions of instructions, the ratios of solving to reading and of the plan to solving, and the growth
 of solving from the smaller page to the larger. Instructions are the same from run to run, whatever else the machine does.
 
-usage: bench/parts.py [PROGRAM]     PROGRAM is crates/ftl_layout/out/ftl_layout if left out
+usage: bench/parts.py [PROGRAM]     PROGRAM is the proved one, which ./prove builds, if left out
 """
 import os
 import re
@@ -13,8 +13,8 @@ import sys
 import tempfile
 
 from plain_layout import sample
+from program import program_at
 
-TOP = os.path.dirname(os.path.dirname(os.path.abspath(__file__)))
 GRAMMARS = ["flow", "stack", "table", "float"]
 SIZES = [20_000, 200_000]
 PARTS = {
@@ -48,9 +48,7 @@ def counted(program, page):
 
 
 def main():
-    program = sys.argv[1] if len(sys.argv) > 1 else os.path.join(TOP, "crates/ftl_layout/out/ftl_layout")
-    if not os.path.exists(program):
-        sys.exit(f"{program} is not built: run ./layout once")
+    program = program_at(1)
     heads = " ".join(f"{it:>8}" for it in ["whole", *PARTS])
     print(f"{'grammar':8} {'pieces':>7} {heads} {'solve/read':>10} {'plan/solve':>10} {'growth':>7}")
     for grammar in GRAMMARS:

@@ -2,7 +2,7 @@
 """Refuses each allocation in turn: for N from 1 on, the Nth call by which the program asks for memory gets none, until
 a run makes fewer calls. Each such run has to end with status 9 and nothing written, or as the run with ample memory.
 
-usage: bench/refused_memory.py [PROGRAM]     PROGRAM is crates/ftl_layout/out/ftl_layout if left out
+usage: bench/refused_memory.py [PROGRAM]     PROGRAM is the proved one, which ./prove builds, if left out
 
 It needs Linux with glibc, and a C compiler as $CC or cc, for what stands between the program and malloc. `rt try
 --fail-alloc N` does the same for one N on a checked build, which it makes anew each time.
@@ -12,7 +12,8 @@ import subprocess
 import sys
 import tempfile
 
-TOP = os.path.dirname(os.path.dirname(os.path.abspath(__file__)))
+from program import program_at
+
 
 # Counts the calls that come from the program's own code; a byte on the descriptor says that one was refused.
 BETWEEN = r"""
@@ -123,9 +124,7 @@ def refuse_each(library, command, text):
 
 
 def main():
-    program = sys.argv[1] if len(sys.argv) > 1 else os.path.join(TOP, "crates/ftl_layout/out/ftl_layout")
-    if not os.path.exists(program):
-        sys.exit(f"{program} is not built: run ./layout once")
+    program = program_at(1)
     failed = False
     with tempfile.TemporaryDirectory() as folder:
         library = built(folder)

@@ -3,14 +3,11 @@
 and of as many passes as attributes. Prints the milliseconds of processor time that `check` takes for it (the table of
 reads counted, reading and checking the grammar left out), and the growth from size to size.
 
-usage: bench/schedules.py [PROGRAM]     PROGRAM is crates/ftl_layout/out/ftl_layout if left out
+usage: bench/schedules.py [PROGRAM]     PROGRAM is the proved one, which ./prove builds, if left out
 """
-import os
-import sys
-
+from program import program_at
 from timing import processor_seconds
 
-TOP = os.path.dirname(os.path.dirname(os.path.abspath(__file__)))
 RUNS = 5
 HELD = 64  # attributes of an interface
 
@@ -59,9 +56,7 @@ def run(program, text):
 
 
 def main():
-    program = sys.argv[1] if len(sys.argv) > 1 else os.path.join(TOP, "crates/ftl_layout/out/ftl_layout")
-    if not os.path.exists(program):
-        sys.exit(f"{program} is not built: run ./layout once")
+    program = program_at(1)
     print(f"{'grammar':32} {'attributes':>10} {'ms':>9} {'growth':>7}")
     grammars = [("one pass, 1 read beside", lambda n: one_pass(n, 1)), ("one pass, 63 reads beside", lambda n: one_pass(n, 63)),
                 ("as many passes as attributes", one_each)]

@@ -5,16 +5,16 @@ beside it how many times as long as one run alone four such runs take that are m
 hardly more than 1, and where it is more, four workers can't be four times as fast. The least of several runs counts,
 which are made in turns.
 
-usage: bench/solve_times.py [RUNS [PROGRAM]]     15 runs, and crates/ftl_layout/out/ftl_layout if left out
+usage: bench/solve_times.py [RUNS [PROGRAM]]     15 runs, and the proved program, which ./prove builds, if left out
 """
-import os
 import subprocess
 import sys
 import tempfile
 import time
 
-from parts import GRAMMARS, PARTS, TOP
+from parts import GRAMMARS, PARTS
 from plain_layout import sample
+from program import program_at
 from stops import Stopped, addresses, timed_calls
 
 PIECES = 200_000
@@ -45,9 +45,7 @@ def runs_at_once(program, page, count):
 
 def main():
     turns = int(sys.argv[1]) if len(sys.argv) > 1 else 15
-    program = sys.argv[2] if len(sys.argv) > 2 else os.path.join(TOP, "crates/ftl_layout/out/ftl_layout")
-    if not os.path.exists(program):
-        sys.exit(f"{program} is not built: run ./layout once")
+    program = program_at(2)
     functions = addresses(program, FUNCTIONS)
     heads = [f"{workers} workers" for workers in WORKERS] + [f"ratio of {workers}" for workers in WORKERS[1:]]
     print(f"{'grammar':8} " + " ".join(f"{head:>10}" for head in heads) + f" {f'{AT_ONCE} at once':>10}")

@@ -4,14 +4,11 @@ another, and of one rule that is a sum of more and more numbers. Prints the mill
 takes for a document of one node beyond `check` (compiling the rules, and running each once), nanoseconds for each read
 or number, and the growth of these from size to size.
 
-usage: bench/visits.py [PROGRAM]     PROGRAM is crates/ftl_layout/out/ftl_layout if left out
+usage: bench/visits.py [PROGRAM]     PROGRAM is the proved one, which ./prove builds, if left out
 """
-import os
-import sys
-
+from program import program_at
 from timing import processor_seconds
 
-TOP = os.path.dirname(os.path.dirname(os.path.abspath(__file__)))
 RUNS = 5
 
 
@@ -37,9 +34,7 @@ def run_seconds(program, page):
 
 
 def main():
-    program = sys.argv[1] if len(sys.argv) > 1 else os.path.join(TOP, "crates/ftl_layout/out/ftl_layout")
-    if not os.path.exists(program):
-        sys.exit(f"{program} is not built: run ./layout once")
+    program = program_at(1)
     print(f"{'rules':24} {'size':>10} {'ms':>9} {'ns':>8} {'growth':>7}")
     grammars = [("256 reads, 64 brackets", wide, "C0 { i = 1 }", (63, 630, 6300), 256),
                 ("a sum of numbers", sums, "C { }", (10_000, 100_000, 1_000_000, 10_000_000), 1)]
