@@ -43,7 +43,7 @@ pub(crate) fn agrees<W: Solved>(
     event: Event,
     answer: Answer,
 ) -> bool {
-    match before.hands.get(event.hand() as usize) {
+    match before.hands.as_slice().get(event.hand() as usize) {
         Some(ReplayPlace::Live(place)) => agrees_at(work, before, after, event, *place, answer),
         _ => false,
     }
@@ -60,10 +60,10 @@ fn agrees_at<W: Solved>(
 ) -> bool {
     match (event, place, answer) {
         (Event::Look { item, .. }, _, Answer::Looked(look)) => {
-            before.counters.get(item as usize) == Some(&held(look))
+            before.counters.as_slice().get(item as usize) == Some(&held(look))
         }
         (Event::Claim { .. }, HandPlace::Looked { item }, Answer::Claimed(claim)) => {
-            before.states.get(item as usize) == Some(&found(claim))
+            before.states.as_slice().get(item as usize) == Some(&found(claim))
         }
         (Event::Read { .. }, HandPlace::Working { item, step, reads }, Answer::Value(val)) => {
             read_cell(work, item, step, reads).is_some_and(|cell| holds(before, cell, val))
@@ -72,7 +72,7 @@ fn agrees_at<W: Solved>(
             is_filled(work, after, item, step)
         }
         (Event::Mark { .. }, HandPlace::Working { item, .. }, Answer::Done) => {
-            after.states.get(item as usize) == Some(&2)
+            after.states.as_slice().get(item as usize) == Some(&2)
         }
         (Event::Deliver { .. }, _, Answer::Delivered(deliver)) => is_sent(before, after, deliver),
         (Event::Left { .. }, _, Answer::Left(left)) => left == before.end,
@@ -115,7 +115,7 @@ fn read_cell<W: Work>(work: &W, item: u32, step: u32, reads: u32) -> Option<u32>
 }
 
 fn holds(state: &Replayed, cell: u32, val: Val) -> bool {
-    match state.cells.get(cell as usize) {
+    match state.cells.as_slice().get(cell as usize) {
         Some(word) => val_of(*word) == Some(val),
         None => false,
     }
@@ -137,8 +137,8 @@ fn is_sent(before: &Replayed, after: &Replayed, deliver: Deliver) -> bool {
         Deliver::Finished => before.end.checked_sub(1) == Some(after.end),
         Deliver::Sent { next, last } => {
             match (
-                before.counters.get(next as usize),
-                after.counters.get(next as usize),
+                before.counters.as_slice().get(next as usize),
+                after.counters.as_slice().get(next as usize),
             ) {
                 (Some(count), Some(left)) => {
                     count.checked_sub(1) == Some(*left) && last == (*left == 0)

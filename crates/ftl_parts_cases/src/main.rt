@@ -4,6 +4,7 @@
 //! - `rows`, `matrix`: bits. See `src/bits.rt`.
 //! - `flags`, `pools`: pools of items that are ready. See `src/pools.rt`.
 //! - `calls`: calls on the cells of the diamond, and their replay. See `src/calls.rt`.
+//! - `lists`: the lists of a replayed state. See `src/lists.rt`.
 //! - `walks WORK`: calls that are drawn, and their replay. See `src/walks.rt`.
 //! - `runs WORK`: whole works, by hands in turns and by threads. See `src/runs.rt`.
 //!
@@ -14,6 +15,7 @@ mod agree;
 mod bits;
 mod calls;
 mod hands;
+mod lists;
 mod meeting;
 mod pools;
 mod printing;
@@ -54,8 +56,13 @@ fn answers<R: Threads + Wait + Sync>(
         "rows" => bits::write_rows(&mut out, body)?,
         "matrix" => bits::write_matrix(alloc, &mut out, rest, body)?,
         "flags" => pools::write_flags(alloc, &mut out, rest, body)?,
-        "pools" => pools::write_pools(rt, alloc, &mut out)?,
+        "pools" => {
+            pools::write_flag_pool(rt, alloc, &mut out)?;
+            pools::write_two_holds(rt, alloc, &mut out)?;
+            pools::write_three_holds(rt, alloc, &mut out)?;
+        }
         "calls" => calls::write_calls(alloc, &mut out, body)?,
+        "lists" => lists::write_lists(alloc, &mut out)?,
         "walks" => works::write_walks(alloc, &mut out, rest, body)?,
         "runs" => works::write_runs(rt, alloc, &mut out, rest, body)?,
         _ => out.push_str("no such case\n")?,

@@ -30,21 +30,12 @@ fn write_flag(out: &mut String, row: &mut FlagRow, line: &str) -> Result<(), All
     }
 }
 
-/// What is taken from a pool of flags by one hold, and from one of deques by two holds, after items
-/// 3 and 1 were put.
-pub(crate) fn write_pools<R: Wait>(
+/// What the one hold of a pool of flags takes, after items 3 and 1 were put.
+pub(crate) fn write_flag_pool<R: Wait>(
     rt: &R,
     alloc: Global,
     out: &mut String,
 ) -> Result<(), AllocError> {
-    let (holds, taken) = taken_of_flags(rt, alloc)?;
-    writeln!(out, "{holds} hold: {taken:?}")?;
-    let (holds, taken) = taken_of_deques(rt, alloc)?;
-    writeln!(out, "{holds} holds: {taken:?}")
-}
-
-/// The number of holds, and what the one takes.
-fn taken_of_flags<R: Wait>(rt: &R, alloc: Global) -> Result<(usize, [Option<u32>; 3]), AllocError> {
     let (pool, mut holds) = FlagPool::new(alloc, 1, 4)?;
     let count = holds.len();
     let hold = &mut holds[0];
@@ -55,14 +46,16 @@ fn taken_of_flags<R: Wait>(rt: &R, alloc: Global) -> Result<(usize, [Option<u32>
         pool.take(rt, hold),
         pool.take(rt, hold),
     ];
-    Ok((count, taken))
+    writeln!(out, "{count} hold: {taken:?}")
 }
 
-/// The number of holds, and what the second takes, then the first, which put, then the second.
-fn taken_of_deques<R: Wait>(
+/// What the second of two holds of a pool of deques takes, then the first, through which items 3
+/// and 1 were put, then the second.
+pub(crate) fn write_two_holds<R: Wait>(
     rt: &R,
     alloc: Global,
-) -> Result<(usize, [Option<u32>; 3]), AllocError> {
+    out: &mut String,
+) -> Result<(), AllocError> {
     let (pool, mut holds) = StealPool::new(alloc, 2, 4)?;
     pool.put(rt, &mut holds[0], 3);
     pool.put(rt, &mut holds[0], 1);
@@ -71,5 +64,29 @@ fn taken_of_deques<R: Wait>(
         pool.take(rt, &mut holds[0]),
         pool.take(rt, &mut holds[1]),
     ];
-    Ok((holds.len(), taken))
+    writeln!(out, "{} holds: {taken:?}", holds.len())
+}
+
+/// What each of three holds takes, if it alone does, after items 5, 4 and 0 were put, one through
+/// each: from its own deque first, and then from those of the next holds.
+pub(crate) fn write_three_holds<R: Wait>(
+    rt: &R,
+    alloc: Global,
+    out: &mut String,
+) -> Result<(), AllocError> {
+    for taker in 0..3 {
+        let (pool, mut holds) = StealPool::new(alloc, 3, 6)?;
+        pool.put(rt, &mut holds[0], 5);
+        pool.put(rt, &mut holds[1], 4);
+        pool.put(rt, &mut holds[2], 0);
+        let hold = &mut holds[taker];
+        let taken = [
+            pool.take(rt, hold),
+            pool.take(rt, hold),
+            pool.take(rt, hold),
+            pool.take(rt, hold),
+        ];
+        writeln!(out, "3 holds, all by hold {taker}: {taken:?}")?;
+    }
+    Ok(())
 }

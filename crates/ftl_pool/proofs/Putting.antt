@@ -9,7 +9,7 @@ use Rattle.std.proofs.lemmas.Map.Keys.{IsDistinct-push}
 use Rattle.std.proofs.lemmas.Map.Steps.{length-le_from_distinct_below}
 use Rattle.std.specs.Cmp.{nat_eq_equiv}
 use Rattle.ftl_pool.specs.Count.{Counted, PoolModel, after_put}
-use Rattle.ftl_pool.specs.Pool.{HoldModel, StealHoldModel, IsHoldOf, IsFreshHoldOf, IsFreshStealHoldOf, HasDeques, IsNew, ArePut}
+use Rattle.ftl_pool.specs.Pool.{HoldModel, StealHoldModel, IsHoldOf, IsFreshHoldOf, IsFreshStealHoldOf, StealsFromNone, IsNew, ArePut}
 
 -- distinct items of the pool are no more than it has
 pub few_put : (state : Counted) (puts : List ℕ) → ArePut state puts → state.puts ≤ state.items
@@ -75,14 +75,11 @@ puts_well pool hold now item same made below new are =
     }
 
 -- a hold of deques that has put and taken nothing
-pub is_fresh : (pool : PoolModel) (steal : StealHoldModel) → IsFreshHoldOf pool steal.hold → steal.taken ≡ [] ∷ []
-    → IsFreshStealHoldOf pool steal
-is_fresh pool steal fresh e = record {
+pub is_fresh : (pool : PoolModel) (steal : StealHoldModel) → IsFreshHoldOf pool steal.hold → StealsFromNone steal
+    → steal.taken ≡ [] ∷ [] → IsFreshStealHoldOf pool steal
+is_fresh pool steal fresh none e = record {
   hold = fresh;
+  each = omega (arith, ap length e, ap length none);
   taken = subst (All (λ items. items ≡ [])) (sym e)
       (All-push (λ (items : List ℕ). items ≡ []) [] [] (All-nil (λ (items : List ℕ). items ≡ [])) refl);
 }
-
--- its own deque is the only one that it has
-pub one_deque : (steal : StealHoldModel) → steal.taken ≡ [] ∷ [] → HasDeques 1 steal
-one_deque steal e = ap length e

@@ -2,14 +2,19 @@
 use Rattle.std.proofs.Common.{◌≡◌, ℕ, suc, ◌≤◌, List, [], ◌∷◌, ◌++◌, map, length, get_or, set, subst, refl, sym, ap, ◌∙◌, arith}
 use Rattle.std.proofs.lemmas.List.{get_or-set_same, get_or-set_other, get_or-map, map-set, append_assoc, append-nil, length-map, length-set}
 use Rattle.std.proofs.lemmas.List.Elements.{All-nil, All-push}
+use Rattle.std.proofs.Math.Seq.{map-set_same}
 use Rattle.std.specs.Prelude.{Option, Some, None}
 use mathlib.Core.Logic.{dite}
 use native.Mathlib.Decide.{ℕ_discrete}
-use Rattle.ftl_pool.specs.Deque.{PassModel, new_pass, TakesItem, OnePassTakes, TakesFromOne, TakesOutside, AllTakeOutside}
+use Rattle.ftl_pool.specs.Deque.{DequeName, ThiefModel, TakesItem, OneThiefTakes, TakesFromOne, TakesOutside, AllTakeOutside}
 
 -- what was taken by each of these thieves
-abbrev pub by_thieves : List PassModel → List (List ℕ)
-by_thieves = map (λ w. w.taken)
+abbrev pub by_thieves : List ThiefModel → List (List ℕ)
+by_thieves = map (λ t. t.pass.taken)
+
+-- which deques these thieves take from
+abbrev pub names_of : List ThiefModel → List DequeName
+names_of = map (λ t. t.deque)
 
 -- the first deque gave an item
 pub own_takes : (own next : List ℕ) (others : List (List ℕ)) (item : ℕ) → TakesItem own (Some item) next
@@ -17,18 +22,28 @@ pub own_takes : (own next : List ℕ) (others : List (List ℕ)) (item : ℕ) �
 own_takes own next others item e = (0, omega arith, ap (λ (x : List ℕ). x ∷ others) e)
 
 -- the first gave none, and the others are looked at
-pub thieves_take : (own next : List ℕ) (thieves after : List PassModel) (answer : Option ℕ) → next ≡ own
-    → OnePassTakes thieves answer after → TakesFromOne (own ∷ by_thieves thieves) answer (next ∷ by_thieves after)
+pub thieves_take : (own next : List ℕ) (thieves after : List ThiefModel) (answer : Option ℕ) → next ≡ own
+    → OneThiefTakes thieves answer after → TakesFromOne (own ∷ by_thieves thieves) answer (next ∷ by_thieves after)
 thieves_take own next thieves after None same e = λ i. same i ∷ by_thieves (e i)
 thieves_take own next thieves after (Some item) same takes =
     let at : ℕ = takes.0 in
-    let pass : PassModel = takes.2 in
-    let taken : pass.taken ≡ get_or (by_thieves thieves) at [] ++ item ∷ [] =
-    ap (λ (p : PassModel). p.taken) takes.3
-    ∙ ap (λ (x : List ℕ). x ++ item ∷ []) (sym (get_or-map (λ (w : PassModel). w.taken) thieves at new_pass [] takes.1)) in
+    let thief : ThiefModel = takes.1 in
+    let taken : thief.pass.taken ≡ get_or (by_thieves thieves) at [] ++ item ∷ [] =
+    ap (λ p. p.taken) takes.3.1
+    ∙ ap (λ (x : List ℕ). x ++ item ∷ [])
+    (sym (get_or-map (λ (t : ThiefModel). t.pass.taken) thieves at thief [] takes.2)) in
     let all : by_thieves after ≡ set (by_thieves thieves) at (get_or (by_thieves thieves) at [] ++ item ∷ []) =
-    ap by_thieves takes.4 ∙ map-set (λ (w : PassModel). w.taken) thieves at pass ∙ ap (set (by_thieves thieves) at) taken in
-    (suc at, omega (arith, takes.1, length-map thieves (λ (w : PassModel). w.taken)), λ i. same i ∷ all i)
+    ap by_thieves takes.4 ∙ map-set (λ (t : ThiefModel). t.pass.taken) thieves at thief
+    ∙ ap (set (by_thieves thieves) at) taken in
+    (suc at, omega (arith, takes.2, length-map thieves (λ (t : ThiefModel). t.pass.taken)), λ i. same i ∷ all i)
+
+-- each takes from the deque that it took from before
+pub thieves_stay : (thieves after : List ThiefModel) (answer : Option ℕ) → OneThiefTakes thieves answer after
+    → names_of after ≡ names_of thieves
+thieves_stay thieves after None e = ap names_of e
+thieves_stay thieves after (Some item) takes =
+    ap names_of takes.4
+    ∙ map-set_same (λ (t : ThiefModel). t.deque) thieves takes.0 takes.1 takes.1 takes.3.0
 
 -- nothing was skipped yet
 pub none_outside : (items : ℕ) (taken : List (List ℕ)) → AllTakeOutside items taken taken

@@ -8,6 +8,10 @@ pub record PassModel : Type 0 where
   pub put : List ℕ
   pub taken : List ℕ
 
+-- which deque it is, as its handles tell
+abbrev pub DequeName : Type 0
+DequeName = ℕ × ℕ
+
 -- a pass that did nothing
 abbrev pub new_pass : PassModel
 new_pass = record { put = []; taken = [] }
@@ -29,27 +33,37 @@ puts_effect v items w = w ≡ record { put = v.put ++ items; taken = v.taken }
 abbrev pub takes_effect : PassModel → List ℕ → PassModel → Type 0
 takes_effect v items w = w ≡ record { put = v.put; taken = v.taken ++ items }
 
--- the owner's end of a deque: its pass, and for how many items there is room
+-- the owner's end of a deque: which deque, its pass, and for how many items there is room
 pub record OwnModel : Type 0 where
+  pub deque : DequeName
   pub put : List ℕ
   pub taken : List ℕ
   pub room : ℕ
+
+-- a thief: which deque it takes from, and its pass
+pub record ThiefModel : Type 0 where
+  pub deque : DequeName
+  pub pass : PassModel
+
+-- a thief of a deque that has taken nothing
+abbrev pub new_thief : DequeName → ThiefModel
+new_thief deque = record { deque = deque; pass = new_pass }
 
 -- an item joined what was taken, or nothing was taken
 abbrev pub TakesItem : List ℕ → Option ℕ → List ℕ → Type 0
 TakesItem taken None next = next ≡ taken
 TakesItem taken (Some item) next = next ≡ taken ++ item ∷ []
 
--- a pass takes an item, or nothing
-abbrev pub PassTakes : PassModel → Option ℕ → PassModel → Type 0
-PassTakes pass None next = next ≡ pass
-PassTakes pass (Some item) next = takes_effect pass (item ∷ []) next
+-- a thief takes an item from its deque, or nothing
+abbrev pub ThiefTakes : ThiefModel → Option ℕ → ThiefModel → Type 0
+ThiefTakes thief None next = next ≡ thief
+ThiefTakes thief (Some item) next = (next.deque ≡ thief.deque) × takes_effect thief.pass (item ∷ []) next.pass
 
--- one of these passes takes an item, or none does
-abbrev pub OnePassTakes : List PassModel → Option ℕ → List PassModel → Type 0
-OnePassTakes passes None next = next ≡ passes
-OnePassTakes passes (Some item) next = (at : ℕ) × (at < length passes) × (pass : PassModel)
-    × takes_effect (slice_index_or passes at new_pass) (item ∷ []) pass × (next ≡ slice_set passes at pass)
+-- one of these thieves takes an item, or none does
+abbrev pub OneThiefTakes : List ThiefModel → Option ℕ → List ThiefModel → Type 0
+OneThiefTakes thieves None next = next ≡ thieves
+OneThiefTakes thieves (Some item) next = (at : ℕ) × (thief : ThiefModel) × (at < length thieves)
+    × ThiefTakes (slice_index_or thieves at thief) (Some item) thief × (next ≡ slice_set thieves at thief)
 
 -- an item was taken from one of these deques, or nothing from any
 abbrev pub TakesFromOne : List (List ℕ) → Option ℕ → List (List ℕ) → Type 0

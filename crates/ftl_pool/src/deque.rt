@@ -1,6 +1,6 @@
 // A deque of items under its rule: its owner's end, and the thieves of other holds.
 ghost use Rattle.std.specs.Prelude.{◌≡◌, ◌+◌, ◌<◌, ◌≤◌, [], ◌∷◌, ◌++◌, length, IfOk};
-ghost use Rattle.ftl_pool.specs.Deque.{TakesItem, PassTakes, OnePassTakes, new_pass};
+ghost use Rattle.ftl_pool.specs.Deque.{TakesItem, ThiefTakes, OneThiefTakes, new_thief};
 
 use crossbeam_deque::protocol::{Outcome, Protocol};
 use crossbeam_deque::{Pass, Steal, Stealer, Worker};
@@ -58,12 +58,13 @@ pub(crate) struct Own {
 impl Model for Own {
     ghost use Rattle.std.specs.Prelude.{◌≡◌, ◌≤◌, length};
     ghost use Rattle.crossbeam_deque.specs.Handles.{worker_view, worker_flavor};
-    ghost use Rattle.crossbeam_deque.specs.Handles.{worker_capacity, worker_index};
+    ghost use Rattle.crossbeam_deque.specs.Handles.{worker_capacity, worker_deque, worker_index};
     ghost use Rattle.ftl_pool.specs.Deque.{OwnModel};
 
     ghost Value = { OwnModel };
 
     ghost view = { λ o. record {
+      deque = (worker_deque o.deque).0;
       put = (worker_view o.deque).put;
       taken = (worker_view o.deque).taken;
       room = o.room;
@@ -76,7 +77,12 @@ impl Model for Own {
 impl Own {
     /// An empty deque, with room for all that is ever put.
     pub(crate) fn new(alloc: Global, room: u32) -> Result<Own, AllocError>
-        ensures empty { IfOk result (λ o. o ≡ record { put = []; taken = []; room = room }) }
+        ensures empty { IfOk result (λ o. o ≡ record {
+          deque = o.deque;
+          put = [];
+          taken = [];
+          room = room;
+        }) }
     {
         let deque = Worker::fifo_as(alloc, room as usize)?;
         Ok(Own {
@@ -95,6 +101,7 @@ impl Own {
 
     pub(crate) fn push(&mut self, item: u32)
         requires has_room { length self.old.put < self.old.room }
+        ensures deque { self.new.deque ≡ self.old.deque }
         ensures put { self.new.put ≡ self.old.put ++ item ∷ [] }
         ensures taken { self.new.taken ≡ self.old.taken }
         ensures room { self.new.room ≡ self.old.room }
@@ -107,6 +114,7 @@ impl Own {
 
     /// Takes the first item.
     pub(crate) fn pop(&mut self) -> Option<u32>
+        ensures deque { self.new.deque ≡ self.old.deque }
         ensures put { self.new.put ≡ self.old.put }
         ensures taken { TakesItem self.old.taken result self.new.taken }
         ensures room { self.new.room ≡ self.old.room }
@@ -116,7 +124,7 @@ impl Own {
 
     /// A thief of this deque, for another hold.
     pub(crate) fn thief(&self) -> Result<Thief, AllocError>
-        ensures new { IfOk result (λ t. t ≡ new_pass) }
+        ensures new { IfOk result (λ t. t ≡ new_thief self.now.deque) }
     {
         let stealer = self.deque.stealer()?;
         let pass = stealer.pass();
@@ -134,11 +142,14 @@ pub(crate) struct Thief {
 impl Model for Thief {
     ghost use Rattle.crossbeam_deque.specs.Handles.{IsPassOf, stealer_deque};
     ghost use Rattle.crossbeam_deque.specs.Handles.{view as pass_view};
-    ghost use Rattle.ftl_pool.specs.Deque.{PassModel};
+    ghost use Rattle.ftl_pool.specs.Deque.{ThiefModel};
 
-    ghost Value = { PassModel };
+    ghost Value = { ThiefModel };
 
-    ghost view = { λ t. pass_view t.pass };
+    ghost view = { λ t. record {
+      deque = (stealer_deque t.stealer).0;
+      pass = pass_view t.pass;
+    } };
 
     ghost invariant = { λ t. IsPassOf (stealer_deque t.stealer) t.pass };
 }
@@ -146,7 +157,7 @@ impl Model for Thief {
 impl Thief {
     /// Takes the first item of the deque, or none where it found none or another took it.
     pub(crate) fn steal(&mut self) -> Option<u32>
-        ensures taken { PassTakes self.old result self.new }
+        ensures taken { ThiefTakes self.old result self.new }
     {
         match self.stealer.steal_as::<Takes>(&mut self.pass) {
             Steal::Success(item) => Some(item),
@@ -157,7 +168,7 @@ impl Thief {
 
 /// Looks once into each deque.
 pub(crate) fn steal_once(thieves: &mut Vec<Thief>) -> Option<u32>
-    ensures taken { OnePassTakes thieves.old.items result thieves.new.items }
+    ensures taken { OneThiefTakes thieves.old.items result thieves.new.items }
 {
     for at in 0..thieves.len() {
         if let Some(item) = thieves[at].steal() {

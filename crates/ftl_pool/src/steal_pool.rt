@@ -1,10 +1,11 @@
 ghost use Rattle.std.specs.Prelude.{◌≡◌, ◌+◌, ◌<◌, ◌≤◌, [], ◌∷◌, ◌++◌, vec_len};
-ghost use Rattle.std.specs.Prelude.{slice_index_or, slice_set};
+ghost use Rattle.std.specs.Prelude.{slice_index_or, slice_range, slice_set};
 ghost use Rattle.std.specs.Prelude.{IfOk, IfSome, IfNone, OnOk, OnErr, None};
 ghost use Rattle.std.specs.List.{All};
 ghost use Rattle.ftl_pool.specs.Count.{IsTallyOf, Takes, first_hold, after_put};
 ghost use Rattle.ftl_pool.specs.Pool.{IsHoldOf, IsNew, IsFreshStealHoldOf};
-ghost use Rattle.ftl_pool.specs.Pool.{HasDeques, deque_counts};
+ghost use Rattle.ftl_pool.specs.Pool.{HasDeques, KeepsDeques, StealFromOthers, StealsFromNone};
+ghost use Rattle.ftl_pool.specs.Pool.{own_deques, stolen_deques};
 ghost use Rattle.ftl_pool.specs.Deque.{TakesFromOne, Joins};
 
 use crate::count::{Count, Tally};
@@ -50,7 +51,9 @@ impl Model for StealHold {
 
     ghost view = { λ h. record {
       hold = record { table = h.tally.table; state = h.tally.state; puts = h.own.put };
-      taken = h.own.taken ∷ map (λ t. t.taken) h.thieves.items;
+      own = h.own.deque;
+      others = map (λ t. t.deque) h.thieves.items;
+      taken = h.own.taken ∷ map (λ t. t.pass.taken) h.thieves.items;
     } };
 
     ghost invariant = { λ h. ArePut h.tally.state h.own.put
@@ -70,6 +73,7 @@ impl StealPool {
         ensures holds { IfOk result (λ r. vec_len r.1 ≡ workers) }
         ensures fresh { IfOk result (λ r. All (IsFreshStealHoldOf r.0) r.1.items) }
         ensures deques { IfOk result (λ r. All (HasDeques workers) r.1.items) }
+        ensures others { IfOk result (λ r. StealFromOthers r.1.items) }
     {
         let (count, tally) = Count::new(alloc, items)?;
         let mut holds = make_holds(alloc, &count, tally, workers, items)?;
@@ -95,6 +99,7 @@ impl ReadyPool for StealPool {
 
         // Nothing is taken.
         ensures stays { hold.new.taken ≡ hold.old.taken }
+        ensures deques { KeepsDeques hold.old hold.new }
     {
         hold.own.push(item);
         self.count.add(&mut hold.tally, hold.own.count());
@@ -111,6 +116,7 @@ impl ReadyPool for StealPool {
         ensures joins { IfSome result
             (λ item. Joins self.now.items hold.old.taken item hold.new.taken) }
         ensures stays { IfNone result (hold.new.taken ≡ hold.old.taken) }
+        ensures deques { KeepsDeques hold.old hold.new }
     {
         if self.count.take(rt, &mut hold.tally) {
             Some(hold.find(rt, self.items))
@@ -128,6 +134,7 @@ impl StealHold {
         ensures table { IfOk result (λ h. h.hold.table ≡ tally.table) }
         ensures state { IfOk result (λ h. h.hold.state ≡ tally.state) }
         ensures puts { IfOk result (λ h. h.hold.puts ≡ []) }
+        ensures others { IfOk result StealsFromNone }
         ensures taken { IfOk result (λ h. h.taken ≡ [] ∷ []) }
     {
         let own = Own::new(alloc, items)?;
@@ -142,8 +149,10 @@ impl StealHold {
     /// Adds a thief of another deque.
     fn add_thief(&mut self, thief: Thief) -> Result<(), AllocError>
         ensures hold { self.new.hold ≡ self.old.hold }
-        ensures taken { OnOk result (self.new.taken ≡ self.old.taken ++ thief.taken ∷ []) }
-        ensures stays { OnErr result (self.new.taken ≡ self.old.taken) }
+        ensures own { self.new.own ≡ self.old.own }
+        ensures others { OnOk result (self.new.others ≡ self.old.others ++ thief.deque ∷ []) }
+        ensures taken { OnOk result (self.new.taken ≡ self.old.taken ++ thief.pass.taken ∷ []) }
+        ensures stays { OnErr result (self.new ≡ self.old) }
     {
         self.thieves.push(thief)?;
         Ok(())
@@ -152,6 +161,7 @@ impl StealHold {
     /// Looks once into each deque, the own one first.
     fn find_once(&mut self) -> Option<u32>
         ensures hold { self.new.hold ≡ self.old.hold }
+        ensures deques { KeepsDeques self.old self.new }
         ensures taken { TakesFromOne self.old.taken result self.new.taken }
     {
         if let Some(item) = self.own.pop() {
@@ -165,6 +175,7 @@ impl StealHold {
     fn find<R: Wait>(&mut self, rt: &R, items: u32) -> u32
         ensures item { result < items }
         ensures hold { self.new.hold ≡ self.old.hold }
+        ensures deques { KeepsDeques self.old self.new }
         ensures joins { Joins items self.old.taken result self.new.taken }
     {
         for _ in rt.forever() {
@@ -196,7 +207,7 @@ fn make_holds(
     requires few { workers ≤ 64 }
     ensures holds { IfOk result (λ holds. vec_len holds ≡ workers) }
     ensures fresh { IfOk result (λ holds. All (IsFreshStealHoldOf count.now) holds.items) }
-    ensures deques { IfOk result (λ holds. All (HasDeques 1) holds.items) }
+    ensures others { IfOk result (λ holds. All StealsFromNone holds.items) }
 {
     let thieves = workers as usize - 1;
     let mut holds = Vec::with_capacity(alloc, workers as usize)?;
@@ -208,7 +219,7 @@ fn make_holds(
     Ok(holds)
 }
 
-#[tactic(auto, using(crate::proofs::Putting::is_fresh, crate::proofs::Putting::one_deque))]
+#[tactic(auto, using(crate::proofs::Putting::is_fresh))]
 /// A hold through which nothing was put or taken.
 fn make_hold(
     alloc: Global,
@@ -224,7 +235,7 @@ fn make_hold(
     requires loads { tally.state.loads ≡ 0 }
     requires last { tally.state.last ≡ None }
     ensures fresh { IfOk result (IsFreshStealHoldOf _count.now) }
-    ensures deques { IfOk result (HasDeques 1) }
+    ensures others { IfOk result StealsFromNone }
 {
     let hold = StealHold::new(alloc, tally, items, thieves)?;
     Ok(hold)
@@ -233,16 +244,42 @@ fn make_hold(
 /// Gives each hold a thief of each other deque, beginning with that of the next worker.
 fn add_thieves(count: &Count, holds: &mut Vec<StealHold>) -> Result<(), AllocError>
     requires fresh { All (IsFreshStealHoldOf count.now) holds.old.items }
-    requires deques { All (HasDeques 1) holds.old.items }
+    requires others { All StealsFromNone holds.old.items }
     ensures holds { vec_len holds.new ≡ vec_len holds.old }
     ensures fresh { All (IsFreshStealHoldOf count.now) holds.new.items }
     ensures deques { OnOk result (All (HasDeques (vec_len holds.new)) holds.new.items) }
+    ensures others { OnOk result (StealFromOthers holds.new.items) }
 {
     let workers = holds.len();
     for worker in 0..workers {
-        for step in 1..workers {
-            add_thief_of(count, holds, worker, (worker + step) % workers)?;
-        }
+        add_thieves_between(count, holds, worker, worker + 1, workers)?;
+        add_thieves_between(count, holds, worker, 0, worker)?;
+    }
+    Ok(())
+}
+
+/// Gives one hold a thief of the deque of each hold from the first number to below the second.
+fn add_thieves_between(
+    count: &Count,
+    holds: &mut Vec<StealHold>,
+    worker: usize,
+    first: usize,
+    end: usize,
+) -> Result<(), AllocError>
+    requires fresh { All (IsFreshStealHoldOf count.now) holds.old.items }
+    requires worker { worker < vec_len holds.old }
+    requires first { first ≤ end }
+    requires end { end ≤ vec_len holds.old }
+    ensures holds { vec_len holds.new ≡ vec_len holds.old }
+    ensures fresh { All (IsFreshStealHoldOf count.now) holds.new.items }
+    ensures own { own_deques holds.new.items ≡ own_deques holds.old.items }
+    ensures others { OnOk result (stolen_deques holds.new.items
+        ≡ slice_set (stolen_deques holds.old.items) worker
+        (slice_index_or (stolen_deques holds.old.items) worker []
+        ++ slice_range (own_deques holds.old.items) first end)) }
+{
+    for other in first..end {
+        add_thief_of(count, holds, worker, other)?;
     }
     Ok(())
 }
@@ -259,9 +296,11 @@ fn add_thief_of(
     requires other { other < vec_len holds.old }
     ensures holds { vec_len holds.new ≡ vec_len holds.old }
     ensures fresh { All (IsFreshStealHoldOf _count.now) holds.new.items }
-    ensures deques { OnOk result (deque_counts holds.new.items
-        ≡ slice_set (deque_counts holds.old.items) worker
-        (slice_index_or (deque_counts holds.old.items) worker 0 + 1)) }
+    ensures own { own_deques holds.new.items ≡ own_deques holds.old.items }
+    ensures others { OnOk result (stolen_deques holds.new.items
+        ≡ slice_set (stolen_deques holds.old.items) worker
+        (slice_index_or (stolen_deques holds.old.items) worker []
+        ++ slice_range (own_deques holds.old.items) other (other + 1))) }
 {
     let thief = holds[other].own.thief()?;
     holds[worker].add_thief(thief)?;

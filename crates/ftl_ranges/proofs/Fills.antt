@@ -1,5 +1,5 @@
 -- Items of a phase that are filled in order.
-use Rattle.std.proofs.Common.{◌≡◌, ◌≢◌, ℕ, ◌+◌, ◌<◌, ◌⊎◌, inl, inr, ⊎_elim, List, length, get_or, set, subst, refl, sym, ap, ◌∙◌, arith}
+use Rattle.std.proofs.Common.{◌≡◌, ◌≢◌, ◌↔◌, ℕ, ◌+◌, ◌<◌, ◌⊎◌, inl, inr, ⊎_elim, List, length, get_or, set, subst, refl, sym, ap, ◌∙◌, arith}
 use Rattle.std.proofs.lemmas.List.{get_or-set_same, get_or-set_other, length-set}
 use mathlib.Core.Logic.{dite}
 use native.Mathlib.Decide.{ℕ_discrete}
@@ -8,6 +8,7 @@ use Rattle.ftl_model.specs.layout.Values.{Value, IsValue, word_of_value}
 use Rattle.ftl_cells.specs.shared.Work.{Meaning, IsStepOfItem, IsOwn, IsHandedOn, cell_total, kind_at, step_total, target_of, read_total, read_of, solution_at, solved_word}
 use Rattle.ftl_cells.specs.declared.shared.kind.CellKind.TheVariants.{Given, Target, Later}
 use Rattle.ftl_steal.specs.Alone.{IsBefore}
+use Rattle.ftl_steal.proofs.Filling.{before_next, before_item}
 use Rattle.ftl_cells.specs.work_phases.Phases.{ComesBefore, phase_at}
 use Rattle.ftl_cells.specs.declared.work_phases.phase.Phase.{Phase}
 use Rattle.ftl_cells.specs.declared.work_phases.phase.Phases.{Phases}
@@ -100,18 +101,31 @@ fills_on m t x words first i j d n f phase st at is =
             (λ e. absurd (ne (λ q. target_of m (z.0 q) (e q))))
             (λ other. inl (y.0, inr (z.0, omega (arith, z.1))))) y.1)
             (λ y. inr y) b)));
+        rest = λ k l step none.
+            let other : target_of m k l ≢ target_of m i j = λ e.
+            let one = law.target_once k l i j step st e in
+            none (inl (subst (λ n. phase_at t n ≡ x) (sym one.0) phase, inr (one.0, omega (arith, one.1)))) in
+            old (target_of m k l) 0 other (f.made.rest k l step (λ b. none (⊎_elim
+            (λ (y : (phase_at t k ≡ x) × IsBefore k l i j). inl (y.0, before_next k l i j y.1))
+            (λ y. inr y) b)));
       };
     }
 
--- the same words, when more steps are made
-pub made_more : (m : Meaning) (less more : (k l : ℕ) → Type 0) (words : List ℕ) (first : ℕ)
-    → ((k l : ℕ) → IsStepOfItem m k l → more k l → less k l) → HoldMade m less words first
-    → HoldMade m more words first
-made_more m less more words first each h = record {
+-- the same words, where the same steps are made
+pub made_same : (m : Meaning) (is_made are_made : (k l : ℕ) → Type 0) (words : List ℕ) (first : ℕ)
+    → ((k l : ℕ) → IsStepOfItem m k l → are_made k l ↔ is_made k l) → HoldMade m is_made words first
+    → HoldMade m are_made words first
+made_same m is_made are_made words first each h = record {
   given = h.given;
   later = h.later;
-  filled = λ k l st b. h.filled k l st (each k l st b);
+  filled = λ k l st b. h.filled k l st ((each k l st).0 b);
+  rest = λ k l st none. h.rest k l st (λ b. none ((each k l st).1 b));
 }
+
+-- what is made before a step of this item is made before the next item
+made_item : (t : Phases) (x : Phase) (i j k l : ℕ) → IsMade t x i j k l → IsMade t x (i + 1) 0 k l
+made_item t x i j k l b = ⊎_elim
+    (λ (y : (phase_at t k ≡ x) × IsBefore k l i j). inl (y.0, before_item k l i j y.1)) (λ y. inr y) b
 
 -- the next item, once each step of this one is made
 pub goes_on : (m : Meaning) (t : Phases) (x : Phase) (words : List ℕ) (first i : ℕ)
@@ -121,16 +135,19 @@ goes_on m t x words first i f = record {
   taken = f.taken;
   targets = f.targets;
   reads = f.reads;
-  made = made_more m (IsMade t x i (step_total m i)) (IsMade t x (i + 1) 0) words first
-      (λ k l st b. ⊎_elim
-      (λ (y : (phase_at t k ≡ x) × IsBefore k l (i + 1) 0). inl (
-        y.0,
-        ⊎_elim
-            (λ (z : k < i + 1). dite (ℕ_discrete k i)
-            (λ e. inr (e, subst (λ q. l < step_total m q) e st.step)) (λ ne. inl (omega arith)))
-            (λ (z : (k ≡ i + 1) × (l < 0)). absurd (omega (arith, z.1))) y.1,
-      ))
-      (λ y. inr y) b) f.made;
+  made = made_same m (IsMade t x i (step_total m i)) (IsMade t x (i + 1) 0) words first
+      (λ k l st. (
+        (λ b. ⊎_elim
+            (λ (y : (phase_at t k ≡ x) × IsBefore k l (i + 1) 0). inl (
+              y.0,
+              ⊎_elim
+                  (λ (z : k < i + 1). dite (ℕ_discrete k i)
+                  (λ e. inr (e, subst (λ q. l < step_total m q) e st.step)) (λ ne. inl (omega arith)))
+                  (λ (z : (k ≡ i + 1) × (l < 0)). absurd (omega (arith, z.1))) y.1,
+            ))
+            (λ y. inr y) b),
+        made_item t x i (step_total m i) k l,
+      )) f.made;
 }
 
 -- an item of another phase is not this one's to fill
@@ -141,14 +158,17 @@ passes_by m t x words first i f other = record {
   taken = f.taken;
   targets = f.targets;
   reads = f.reads;
-  made = made_more m (IsMade t x i 0) (IsMade t x (i + 1) 0) words first
-      (λ k l st b. ⊎_elim
-      (λ (y : (phase_at t k ≡ x) × IsBefore k l (i + 1) 0). inl (
-        y.0,
-        ⊎_elim
-            (λ (z : k < i + 1). dite (ℕ_discrete k i)
-            (λ e. absurd (other (subst (λ q. phase_at t q ≡ x) e y.0))) (λ ne. inl (omega arith)))
-            (λ (z : (k ≡ i + 1) × (l < 0)). absurd (omega (arith, z.1))) y.1,
-      ))
-      (λ y. inr y) b) f.made;
+  made = made_same m (IsMade t x i 0) (IsMade t x (i + 1) 0) words first
+      (λ k l st. (
+        (λ b. ⊎_elim
+            (λ (y : (phase_at t k ≡ x) × IsBefore k l (i + 1) 0). inl (
+              y.0,
+              ⊎_elim
+                  (λ (z : k < i + 1). dite (ℕ_discrete k i)
+                  (λ e. absurd (other (subst (λ q. phase_at t q ≡ x) e y.0))) (λ ne. inl (omega arith)))
+                  (λ (z : (k ≡ i + 1) × (l < 0)). absurd (omega (arith, z.1))) y.1,
+            ))
+            (λ y. inr y) b),
+        made_item t x i 0 k l,
+      )) f.made;
 }

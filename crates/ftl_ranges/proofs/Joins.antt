@@ -15,7 +15,7 @@ use Rattle.std.specs.List.{All}
 use Rattle.crossbeam_utils.specs.declared.cache_padded.CachePadded.{CachePadded}
 use Rattle.ftl_ranges.specs.Workers.{AreFilled, CanFill, HasRoom}
 use Rattle.ftl_ranges.specs.declared.buffers.Buffers.{Buffers}
-use Rattle.ftl_ranges.proofs.Fills.{made_more}
+use Rattle.ftl_ranges.proofs.Fills.{made_same}
 
 -- ---- phases in their order
 
@@ -84,31 +84,43 @@ begins m t words law can first = on_all m t First words law can first.count (rec
   filled = λ k l st made. absurd (⊎_elim
       (λ (x : (phase_at t k ≡ First) × IsBefore k l 0 0). none_before k l x.1)
       (λ x. none_first (phase_at t k) x) made);
+  rest = λ k l st _. let c = target_of m k l in
+      whole_holds words c 0 (first.each c (law.target_in_range k l st)
+      ∙ ap (λ q. first_word_of q (solved_word m c)) (law.target_kind k l st));
 })
 
 -- after the first phase
 pub first_made : (m : Meaning) (t : Phases) (words : List ℕ) → IsFilledIn m t First words 0 (item_total m) 0
     → HoldMade m (IsOfFirst t) words 0
 first_made m t words f =
-    made_more m (IsMade t First (item_total m) 0) (IsOfFirst t) words 0
-    (λ k l st is. inl (is, inl st.item)) f.made
+    made_same m (IsMade t First (item_total m) 0) (IsOfFirst t) words 0
+    (λ k l st. (
+      (λ is. inl (is, inl st.item)),
+      (λ b. ⊎_elim (λ (x : (phase_at t k ≡ First) × IsBefore k l (item_total m) 0). x.0)
+          (λ x. absurd (none_first (phase_at t k) x)) b),
+    )) f.made
 
 -- before the last phase
 pub last_begins : (m : Meaning) (t : Phases) (words : List ℕ) → IsLawfulWork m → CanTake m t
     → length words ≡ cell_total m → HoldMade m (IsOfFirstOrRanges t 0 t.ranges) words 0
     → IsFilledIn m t Last words 0 0 0
 last_begins m t words law can count made =
-    on_all m t Last words law can count (made_more m (IsOfFirstOrRanges t 0 t.ranges) (IsMade t Last 0 0) words 0
-    (λ k l st b. ⊎_elim
-    (λ (x : (phase_at t k ≡ Last) × IsBefore k l 0 0). absurd (none_before k l x.1))
-    (λ x.
-    let by : (y : Phase) → phase_at t k ≡ y → ComesBefore y Last → IsOfFirstOrRanges t 0 t.ranges k l = elim [
-      | First ↦ λ is before. inl is
-      | Range b ↦ λ is before.
-          inr (record { range = b; low = omega arith; high = omega (arith, can.known k b is); is = is })
-      | Last ↦ λ is before. absurd before
-    ] in
-    by (phase_at t k) refl x) b)
+    on_all m t Last words law can count (made_same m (IsOfFirstOrRanges t 0 t.ranges) (IsMade t Last 0 0) words 0
+    (λ k l st. (
+      (λ b. ⊎_elim
+          (λ (x : (phase_at t k ≡ Last) × IsBefore k l 0 0). absurd (none_before k l x.1))
+          (λ x.
+          let by : (y : Phase) → phase_at t k ≡ y → ComesBefore y Last → IsOfFirstOrRanges t 0 t.ranges k l = elim [
+            | First ↦ λ is before. inl is
+            | Range b ↦ λ is before.
+                inr (record { range = b; low = omega arith; high = omega (arith, can.known k b is); is = is })
+            | Last ↦ λ is before. absurd before
+          ] in
+          by (phase_at t k) refl x) b),
+      (λ b. inr (⊎_elim
+          (λ (is : phase_at t k ≡ First). subst (λ y. ComesBefore y Last) (sym is) tt)
+          (λ (y : IsOfRanges t 0 t.ranges k). subst (λ z. ComesBefore z Last) (sym y.is) tt) b)),
+    ))
     made)
 
 -- after the last phase
@@ -153,28 +165,40 @@ module _ (m : Meaning) (t : Phases) where
         let low = near.0 in
         let high = near.1 in
         (omega (arith, low, at), omega (arith, high, at, law.read_in_range i j r st here, count));
-    made = made_more m (IsOfFirst t) (IsMade t (Range b) 0 0) words first
-        (λ k l st x. ⊎_elim
-        (λ (y : (phase_at t k ≡ Range b) × IsBefore k l 0 0). absurd (none_before k l y.1))
-        (λ y. first_alone (phase_at t k) b y) x) made;
+    made = made_same m (IsOfFirst t) (IsMade t (Range b) 0 0) words first
+        (λ k l st. (
+          (λ x. ⊎_elim
+              (λ (y : (phase_at t k ≡ Range b) × IsBefore k l 0 0). absurd (none_before k l y.1))
+              (λ y. first_alone (phase_at t k) b y) x),
+          (λ is. inr (subst (λ y. ComesBefore y (Range b)) (sym is) tt)),
+        )) made;
   }
 
   pub range_made : (words : List ℕ) (b first : ℕ) → IsFilledIn m t (Range b) words first (item_total m) 0
       → HoldMade m (IsOfFirstOrRanges t b 1) words first
   range_made words b first f =
-      made_more m (IsMade t (Range b) (item_total m) 0) (IsOfFirstOrRanges t b 1) words first
-      (λ k l st x. ⊎_elim
-      (λ (is : phase_at t k ≡ First). inr (subst (λ y. ComesBefore y (Range b)) (sym is) tt))
-      (λ (y : IsOfRanges t b 1 k).
-      let same : y.range ≡ b = omega (arith, y.low, y.high) in
-      inl (y.is ∙ ap (λ (n : ℕ). Range n) same, inl st.item)) x) f.made
+      made_same m (IsMade t (Range b) (item_total m) 0) (IsOfFirstOrRanges t b 1) words first
+      (λ k l st. (
+        (λ x. ⊎_elim
+            (λ (is : phase_at t k ≡ First). inr (subst (λ y. ComesBefore y (Range b)) (sym is) tt))
+            (λ (y : IsOfRanges t b 1 k).
+            let same : y.range ≡ b = omega (arith, y.low, y.high) in
+            inl (y.is ∙ ap (λ (n : ℕ). Range n) same, inl st.item)) x),
+        (λ x. ⊎_elim
+            (λ (y : (phase_at t k ≡ Range b) × IsBefore k l (item_total m) 0).
+            inr (record { range = b; low = omega arith; high = omega arith; is = y.0 }))
+            (λ y. inl (first_alone (phase_at t k) b y)) x),
+      )) f.made
 
   -- no range
   pub none_made : (words : List ℕ) (b first : ℕ) → HoldMade m (IsOfFirst t) words first
       → HoldMade m (IsOfFirstOrRanges t b 0) words first
   none_made words b first h =
-      made_more m (IsOfFirst t) (IsOfFirstOrRanges t b 0) words first
-      (λ k l st x. ⊎_elim (λ is. is) (λ (y : IsOfRanges t b 0 k). absurd (omega (arith, y.low, y.high))) x) h
+      made_same m (IsOfFirst t) (IsOfFirstOrRanges t b 0) words first
+      (λ k l st. (
+        (λ x. ⊎_elim (λ is. is) (λ (y : IsOfRanges t b 0 k). absurd (omega (arith, y.low, y.high))) x),
+        (λ is. inl is),
+      )) h
 
   -- ---- several ranges
 
@@ -198,6 +222,7 @@ module _ (m : Meaning) (t : Phases) where
         given = λ c l k. of c (solved_word m c) (h.given c l k);
         later = λ c l k. of c 0 (h.later c l k);
         filled = λ k l st b. of (target_of m k l) (solved_word m (target_of m k l)) (h.filled k l st b);
+        rest = λ k l st none. of (target_of m k l) 0 (h.rest k l st none);
       }
 
   pub made_right : (is_made : (k l : ℕ) → Type 0) (xs ys : List ℕ) (first : ℕ) → HoldMade m is_made (xs ++ ys) first
@@ -209,6 +234,7 @@ module _ (m : Meaning) (t : Phases) where
         given = λ c l k. of c (solved_word m c) (h.given c l k);
         later = λ c l k. of c 0 (h.later c l k);
         filled = λ k l st b. of (target_of m k l) (solved_word m (target_of m k l)) (h.filled k l st b);
+        rest = λ k l st none. of (target_of m k l) 0 (h.rest k l st none);
       }
 
   pub made_both : (xs ys : List ℕ) (first b n p : ℕ) → IsLawfulWork m → CanTake m t → first ≡ from b
@@ -242,6 +268,13 @@ module _ (m : Meaning) (t : Phases) where
         (right.filled k l st
         (inr (record { range = y.range; low = more; high = omega (arith, y.high); is = y.is }))))
         (below_or y.range (b + n))) x;
+    rest = λ k l st none. holds_both xs ys first (target_of m k l) 0
+        (left.rest k l st (λ x. none (⊎_elim (λ (is : phase_at t k ≡ First). inl is)
+        (λ (y : IsOfRanges t b n k).
+        inr (record { range = y.range; low = y.low; high = omega (arith, y.high); is = y.is })) x)))
+        (right.rest k l st (λ x. none (⊎_elim (λ (is : phase_at t k ≡ First). inl is)
+        (λ (y : IsOfRanges t (b + n) p k).
+        inr (record { range = y.range; low = omega (arith, y.low); high = omega (arith, y.high); is = y.is })) x)));
   }
 
   -- where the words of so many ranges end, of those of several

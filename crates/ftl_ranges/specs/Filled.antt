@@ -18,12 +18,14 @@ abbrev pub Holds : (words : List ℕ) (first cell word : ℕ) → Type 0
 Holds words first c w = (d : ℕ) → c ≡ first + d → d < length words → slice_index words d ≡ w
 
 -- The words of the cells from a first one on: each that is among them is the solution's where the cell is Given or the
--- target of a step that is made, and 0 where it is Later.
+-- target of a step that is made, and 0, so that the cell is empty, where it is Later or the target of a step that isn't:
+-- so each step finds its target empty, and none is made twice.
 pub record HoldMade (m : Meaning) (is_made : (item step : ℕ) → Type 0) (words : List ℕ) (first : ℕ) : Type 0 where
   pub given : (c : ℕ) → c < cell_total m → kind_at m c ≡ Given → Holds words first c (solved_word m c)
   pub later : (c : ℕ) → c < cell_total m → kind_at m c ≡ Later → Holds words first c 0
   pub filled : (k l : ℕ) → IsStepOfItem m k l → is_made k l
       → Holds words first (target_of m k l) (solved_word m (target_of m k l))
+  pub rest : (k l : ℕ) → IsStepOfItem m k l → (is_made k l → ⊥) → Holds words first (target_of m k l) 0
 
 -- the step's phase is before this one, or it is the same and the step comes before this step of an item
 abbrev pub IsMade : Phases → Phase → (item step k l : ℕ) → Type 0

@@ -11,4 +11,4 @@ pub mod example_works;
 pub mod interleavings;
 
 pub use example_works::{Chain, EightAlone, Example, Ladder, Lent, Solved, Star};
-pub use interleavings::{Event, ReplayFault, ReplayPlace, Replayed, replay};
+pub use interleavings::{Event, PlaceList, ReplayFault, ReplayPlace, Replayed, WordList, replay};

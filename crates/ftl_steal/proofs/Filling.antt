@@ -11,7 +11,7 @@ use Rattle.ftl_cells.specs.shared.Work.{Meaning, ItemMeaning, no_item, IsLawfulW
 use Rattle.ftl_cells.specs.shared.State.{AreFirst, AreLast, first_word_of, last_word_of}
 use Rattle.ftl_cells.specs.declared.shared.kind.CellKind.{CellKind}
 use Rattle.ftl_cells.specs.declared.shared.kind.CellKind.TheVariants.{Given, Target, Later}
-use Rattle.ftl_steal.specs.Alone.{IsFilledTo}
+use Rattle.ftl_steal.specs.Alone.{IsBefore, IsFilledTo}
 
 -- an item that has a step is one of the work's
 pub has_step : (m : Meaning) (i j : ℕ) → j < step_total m i → IsStepOfItem m i j
@@ -25,6 +25,15 @@ has_step m i j b = record {
   step = b;
 }
 
+-- a step before this one is before the next one too
+pub before_next : (k l i j : ℕ) → IsBefore k l i j → IsBefore k l i (j + 1)
+before_next k l i j b = ⊎_elim (λ (x : k < i). inl x)
+    (λ (x : (k ≡ i) × (l < j)). inr (x.0, omega (arith, x.1))) b
+
+-- a step of an item is before each step of the next one
+pub before_item : (k l i j : ℕ) → IsBefore k l i j → IsBefore k l (i + 1) 0
+before_item k l i j b = inl (⊎_elim (λ (x : k < i). omega (arith, x)) (λ (x : (k ≡ i) × (l < j)). omega (arith, x.0)) b)
+
 -- before the first step
 pub begins : (m : Meaning) (words : List ℕ) → IsLawfulWork m → AreFirst m words → IsFilledTo m words 0 0
 begins m words law first = record {
@@ -34,6 +43,8 @@ begins m words law first = record {
   later = λ c l kind. first.each c l ∙ ap (λ q. first_word_of q (solved_word m c)) kind;
   filled = λ k l st b. ⊎_elim (λ (x : k < 0). absurd (omega arith))
       (λ (x : (k ≡ 0) × (l < 0)). absurd (omega (arith, x.1))) b;
+  rest = λ k l st _. let c = target_of m k l in
+      first.each c (law.target_in_range k l st) ∙ ap (λ q. first_word_of q (solved_word m c)) (law.target_kind k l st);
 }
 
 -- each cell that a step reads holds the solution's word
@@ -90,6 +101,11 @@ fills_on m words i j n f st is =
           (λ (x : (k ≡ i) × (l < j + 1)). dite (ℕ_discrete l j)
           (λ e. absurd (ne (λ y. target_of m (x.0 y) (e y))))
           (λ other. inr (x.0, omega (arith, x.1)))) b));
+      rest = λ k l step none.
+          let other : target_of m k l ≢ at = λ e.
+          let one = law.target_once k l i j step st e in
+          none (inr (one.0, omega (arith, one.1))) in
+          old (target_of m k l) other ∙ f.rest k l step (λ b. none (before_next k l i j b));
     }
 
 -- the next item, once each step of this one is made
@@ -104,6 +120,7 @@ goes_on m words i f = record {
       (λ (x : k < i + 1). dite (ℕ_discrete k i)
       (λ e. inr (e, subst (λ y. l < step_total m y) e st.step)) (λ ne. inl (omega arith)))
       (λ (x : (k ≡ i + 1) × (l < 0)). absurd (omega (arith, x.1))) b);
+  rest = λ k l st none. f.rest k l st (λ b. none (before_item k l i (step_total m i) b));
 }
 
 -- after the last item

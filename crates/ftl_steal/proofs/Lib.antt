@@ -1,3 +1,4 @@
 pub mod Filling
-pub mod Dealing
+pub mod Rounds
 pub mod Totals
+pub mod Members

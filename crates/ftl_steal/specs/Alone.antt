@@ -8,7 +8,8 @@ abbrev pub IsBefore : ℕ → ℕ → ℕ → ℕ → Type 0
 IsBefore k l item step = (k < item) ⊎ ((k ≡ item) × (l < step))
 
 -- the work is lawful, there is a word for each cell, and the cells hold the solution's words where they are Given or
--- the target of a step before this one, and 0 where they are Later
+-- the target of a step before this one, and are empty, with 0, where they are Later or the target of this step or of one
+-- after it: so each step finds its target empty, and none is made twice
 pub record IsFilledTo (m : Meaning) (words : List ℕ) (item step : ℕ) : Type 0 where
   pub lawful : IsLawfulWork m
   pub count : length words ≡ cell_total m
@@ -16,3 +17,4 @@ pub record IsFilledTo (m : Meaning) (words : List ℕ) (item step : ℕ) : Type 
   pub later : (c : ℕ) → c < cell_total m → kind_at m c ≡ Later → slice_index words c ≡ 0
   pub filled : (k l : ℕ) → IsStepOfItem m k l → IsBefore k l item step
       → slice_index words (target_of m k l) ≡ solved_word m (target_of m k l)
+  pub rest : (k l : ℕ) → IsStepOfItem m k l → (IsBefore k l item step → ⊥) → slice_index words (target_of m k l) ≡ 0

@@ -1,5 +1,5 @@
 -- What each worker of a stage has, before, while and after it works.
-use Rattle.std.specs.Prelude.{◌≡◌, ℕ, zero, suc, ◌+◌, ◌<◌, ◌≤◌, List, [], ◌++◌, length, cond, eqb}
+use Rattle.std.specs.Prelude.{◌≡◌, ℕ, ◌+◌, ◌<◌, ◌≤◌, List, ◌++◌, length, map, slice_index_or}
 use Rattle.std.specs.List.{All, sum_by}
 use Rattle.std.specs.Vec.{vec_capacity}
 use Rattle.atomic_table.specs.Seated.{TableId}
@@ -8,7 +8,7 @@ use Rattle.ftl_cells.specs.shared.State.{live, HandState}
 use Rattle.ftl_cells.specs.shared.Calls.{IsMadeBy}
 use Rattle.ftl_cells.specs.declared.shared.place.HandPlace.TheVariants.{Idle, Ended}
 use Rattle.ftl_pool.specs.Count.{PoolModel}
-use Rattle.ftl_pool.specs.Pool.{IsHoldOf}
+use Rattle.ftl_pool.specs.Pool.{StealHoldModel, IsHoldOf}
 use Rattle.ftl_steal.specs.declared.member.Member.{Member}
 use Rattle.crossbeam_utils.specs.Padded.{padded_value}
 use Rattle.crossbeam_utils.specs.declared.cache_padded.CachePadded.{CachePadded}
@@ -31,15 +31,6 @@ pub record IsMember (m : Meaning) (table : TableId) (pool : PoolModel) (worker :
 abbrev pub steps_made : HandState → ℕ
 steps_made hand = hand.count + hand.taken
 
--- how many of the items below this number wait for none
-abbrev pub free_below : Meaning → ℕ → ℕ
-free_below m zero = 0
-free_below m (suc item) = free_below m item + cond (eqb (pred_total m item) 0) 1 0
-
--- how many items these workers put
-abbrev pub put_total : List (CachePadded Member) → ℕ
-put_total workers = sum_by (λ (w : CachePadded Member). length (padded_value w).hold.hold.puts) workers
-
 -- how many steps the hands of these workers made
 abbrev pub step_total : List (CachePadded Member) → ℕ
 step_total workers = sum_by (λ (w : CachePadded Member). steps_made (padded_value w).hand.state) workers
@@ -49,13 +40,14 @@ pub record IsIdleMember (m : Meaning) (table : TableId) (pool : PoolModel) (work
   pub is : IsMember m table pool (padded_value worker)
   pub idle : (padded_value worker).hand.state.place ≡ live Idle
 
--- it has not worked yet, and the items that were dealt to it are below this number
-pub record IsDealtBelow (m : Meaning) (table : TableId) (pool : PoolModel) (item : ℕ) (worker : CachePadded Member)
-    : Type 0 where
-  pub is : IsMember m table pool (padded_value worker)
-  pub idle : (padded_value worker).hand.state.place ≡ live Idle
-  pub none : (padded_value worker).hand.state.released ≡ []
-  pub below : All (λ x. x < item) (padded_value worker).hold.hold.puts
+-- the holds of these workers
+abbrev pub holds_of : List (CachePadded Member) → List StealHoldModel
+holds_of workers = map (λ (w : CachePadded Member). (padded_value w).hold) workers
+
+-- each has its place as number
+abbrev pub AreNumbered : List (CachePadded Member) → Type 0
+AreNumbered workers = (k : ℕ) (w : CachePadded Member) → k < length workers
+    → (padded_value (slice_index_or workers k w)).number ≡ k
 
 -- its hand is one of these cells, made a step at least, and found the end
 pub record IsEndedMember (m : Meaning) (table : TableId) (worker : CachePadded Member) : Type 0 where

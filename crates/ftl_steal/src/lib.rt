@@ -5,9 +5,11 @@
 #![tactic(auto)]
 
 mod alone;
+mod dealing;
 mod member;
 mod stage;
 mod worker;
 
 pub use alone::{PlainFiller, run_alone};
+pub use dealing::deal;
 pub use stage::run_stage;

@@ -2,22 +2,23 @@
 ghost use Rattle.std.specs.Prelude.{◌≡◌, ◌<◌, ◌≤◌, ◌+◌, ◌*◌, [], ◌∷◌, ◌++◌, min, max};
 ghost use Rattle.std.specs.Prelude.{length, vec_capacity, vec_len, IfOk, OnOk};
 ghost use Rattle.std.specs.List.{All};
-ghost use Rattle.ftl_cells.specs.shared.Work.{item_total, pred_total};
+ghost use Rattle.ftl_cells.specs.shared.Work.{item_total};
 ghost use Rattle.ftl_cells.specs.shared.State.{live};
 ghost use Rattle.ftl_cells.specs.shared.Calls.{IsMadeBy};
 ghost use Rattle.ftl_cells.specs.declared.shared.place.HandPlace.TheVariants.{Idle, Ended};
-ghost use Rattle.ftl_pool.specs.Pool.{IsFreshStealHoldOf};
 ghost use Rattle.crossbeam_utils.specs.Padded.{padded_value};
-ghost use Rattle.ftl_steal.specs.Workers.{IsIdleMember, IsDealtBelow, IsEndedMember};
-ghost use Rattle.ftl_steal.specs.Workers.{steps_made, free_below, put_total, step_total};
+ghost use Rattle.ftl_steal.specs.Dealing.{AreDealt, HasFreeBelow, free_items, puts_of};
+ghost use Rattle.ftl_steal.specs.Workers.{IsIdleMember, IsEndedMember, AreNumbered};
+ghost use Rattle.ftl_steal.specs.Workers.{holds_of, steps_made, step_total};
 
+use crate::dealing::deal;
 use crate::member::Member;
 use crate::worker::work;
 use crossbeam_utils::CachePadded;
 use ftl_base::{CodeStack, Val};
 use ftl_cells::{Cells, Hand, Work};
 use ftl_edge::Gate;
-use ftl_pool::{ReadyPool, StealHold, StealPool};
+use ftl_pool::{StealHold, StealPool};
 use std::alloc::{AllocError, Global};
 use std::sync::Wait;
 use std::thread::{Threads, for_each_mut};
@@ -48,52 +49,45 @@ pub fn run_stage<R: Threads + Wait + Sync, W: Work, G: Gate>(
 {
     let items = cells.work().items();
     let workers = workers.min(items.max(1));
-    let (pool, holds) = StealPool::new(alloc, workers, items)?;
+    let (pool, mut holds) = StealPool::new(alloc, workers, items)?;
+    deal(rt, cells.work(), &pool, &mut holds);
     let mut members = gather(alloc, cells, &pool, &mut hand, holds, workers)?;
-    deal_all(rt, cells, &pool, &mut members);
     run_all(rt, cells, &pool, gate, members.as_mut_slice());
     Ok(give_up_all(cells, members, hand))
 }
 
-/// A worker for each hold, each with a hand of its own.
+/// A worker for each hold, in the same order, each with a hand of its own.
 fn gather<W: Work>(
     alloc: Global,
     cells: &Cells<W>,
     pool: &StealPool,
     hand: &mut Hand,
-    mut holds: Vec<StealHold>,
+    holds: Vec<StealHold>,
     workers: u32,
 ) -> Result<Vec<CachePadded<Member>>, AllocError>
     requires made { IsMadeBy (W.meaning cells.now.1) cells.now.0 hand.old }
     requires idle { hand.old.state.place ≡ live Idle }
     requires count { vec_len holds ≡ workers }
-    requires fresh { All (IsFreshStealHoldOf pool.now) holds.items }
+    requires free { All (HasFreeBelow (W.meaning cells.now.1) pool.now
+        (item_total (W.meaning cells.now.1))) holds.items }
     ensures made { IsMadeBy (W.meaning cells.now.1) cells.now.0 hand.new }
     ensures idle { hand.new.state.place ≡ live Idle }
     ensures steps { OnOk result (steps_made hand.new.state ≡ steps_made hand.old.state + workers) }
     ensures count { IfOk result (λ members. vec_len members ≡ workers) }
-    ensures dealt { IfOk result
-        (λ members. All (IsDealtBelow (W.meaning cells.now.1) cells.now.0 pool.now 0)
+    ensures members { IfOk result
+        (λ members. All (IsIdleMember (W.meaning cells.now.1) cells.now.0 pool.now)
         members.items) }
+    ensures numbers { IfOk result (λ members. AreNumbered members.items) }
+    ensures holds { IfOk result (λ members. holds_of members.items ≡ holds.items) }
 {
     let mut members = Vec::with_capacity(alloc, workers as usize)?;
+    let mut holds = holds.into_iter();
     for number in 0..workers {
-        let hold = next_hold(pool, &mut holds);
+        let hold = holds.next().unwrap();
         let member = equip(alloc, cells, pool, hand, hold, number)?;
         members.push(member)?;
     }
     Ok(members)
-}
-
-/// The next hold of a list, taken off.
-fn next_hold(_pool: &StealPool, holds: &mut Vec<StealHold>) -> StealHold
-    requires some { 0 < vec_len holds.old }
-    requires fresh { All (IsFreshStealHoldOf _pool.now) holds.old.items }
-    ensures fresh { IsFreshStealHoldOf _pool.now result }
-    ensures count { vec_len holds.new + 1 ≡ vec_len holds.old }
-    ensures rest { All (IsFreshStealHoldOf _pool.now) holds.new.items }
-{
-    holds.pop().unwrap()
 }
 
 /// A worker with a hand of its own, a hold and buffers.
@@ -107,12 +101,14 @@ fn equip<W: Work>(
 ) -> Result<CachePadded<Member>, AllocError>
     requires made { IsMadeBy (W.meaning cells.now.1) cells.now.0 hand.old }
     requires idle { hand.old.state.place ≡ live Idle }
-    requires fresh { IsFreshStealHoldOf _pool.now hold }
+    requires free { HasFreeBelow (W.meaning cells.now.1) _pool.now
+        (item_total (W.meaning cells.now.1)) hold }
     ensures made { IsMadeBy (W.meaning cells.now.1) cells.now.0 hand.new }
     ensures idle { hand.new.state.place ≡ live Idle }
     ensures steps { OnOk result (steps_made hand.new.state ≡ steps_made hand.old.state + 1) }
-    ensures dealt { IfOk result
-        (IsDealtBelow (W.meaning cells.now.1) cells.now.0 _pool.now 0) }
+    ensures member { IfOk result (IsIdleMember (W.meaning cells.now.1) cells.now.0 _pool.now) }
+    ensures number { IfOk result (λ w. (padded_value w).number ≡ number) }
+    ensures hold { IfOk result (λ w. (padded_value w).hold ≡ hold) }
 {
     let reads = read_buffer(alloc, cells)?;
     let stack = CodeStack::new(alloc, cells.work().max_stack())?;
@@ -132,94 +128,6 @@ fn read_buffer<W: Work>(alloc: Global, cells: &Cells<W>) -> Result<Vec<Val>, All
     Vec::with_capacity(alloc, cells.work().max_reads() as usize)
 }
 
-/// Deals the items that wait for none, in order, as many of all items to one worker as to the next,
-/// so that what a worker writes lies side by side.
-fn deal_all<R: Wait, W: Work>(
-    rt: &R,
-    cells: &Cells<W>,
-    pool: &StealPool,
-    members: &mut Vec<CachePadded<Member>>,
-)
-    requires items { pool.now.items ≡ item_total (W.meaning cells.now.1) }
-    requires some { 0 < vec_len members.old }
-    requires dealt { All (IsDealtBelow (W.meaning cells.now.1) cells.now.0 pool.now 0)
-        members.old.items }
-    ensures count { vec_len members.new ≡ vec_len members.old }
-    ensures once { put_total members.new.items
-        ≡ free_below (W.meaning cells.now.1) (item_total (W.meaning cells.now.1)) }
-    ensures idle { All (IsIdleMember (W.meaning cells.now.1) cells.now.0 pool.now)
-        members.new.items }
-{
-    let items = cells.work().items();
-    let share = items as usize / members.len() + 1;
-    let mut worker = 0;
-    for item in 0..items {
-        deal_next(rt, cells, pool, members, worker, item);
-        worker = next_turn(worker, members.len(), item as usize % share + 1 == share);
-    }
-}
-
-/// Whose turn is next, the first worker's after the last one's.
-fn next_turn(worker: usize, workers: usize, done: bool) -> usize
-    requires worker { worker < workers }
-    ensures worker { result < workers }
-{
-    if !done {
-        worker
-    } else if worker + 1 < workers {
-        worker + 1
-    } else {
-        0
-    }
-}
-
-/// Deals an item to this worker if it waits for none.
-fn deal_next<R: Wait, W: Work>(
-    rt: &R,
-    cells: &Cells<W>,
-    pool: &StealPool,
-    members: &mut Vec<CachePadded<Member>>,
-    worker: usize,
-    item: u32,
-)
-    requires items { pool.now.items ≡ item_total (W.meaning cells.now.1) }
-    requires item { item < item_total (W.meaning cells.now.1) }
-    requires worker { worker < vec_len members.old }
-    requires dealt { All (IsDealtBelow (W.meaning cells.now.1) cells.now.0 pool.now item)
-        members.old.items }
-    ensures count { vec_len members.new ≡ vec_len members.old }
-    ensures once { put_total members.new.items + free_below (W.meaning cells.now.1) item
-        ≡ put_total members.old.items + free_below (W.meaning cells.now.1) (item + 1) }
-    ensures dealt { All (IsDealtBelow (W.meaning cells.now.1) cells.now.0 pool.now (item + 1))
-        members.new.items }
-{
-    if cells.work().pred_count(item) != 0 {
-        return;
-    }
-    deal(rt, cells, pool, &mut members[worker], item);
-}
-
-/// Deals one item to one worker.
-fn deal<R: Wait, W: Work>(
-    rt: &R,
-    cells: &Cells<W>,
-    pool: &StealPool,
-    member: &mut CachePadded<Member>,
-    item: u32,
-)
-    requires items { pool.now.items ≡ item_total (W.meaning cells.now.1) }
-    requires item { item < item_total (W.meaning cells.now.1) }
-    requires free { pred_total (W.meaning cells.now.1) item ≡ 0 }
-    requires dealt { IsDealtBelow (W.meaning cells.now.1) cells.now.0 pool.now item member.old }
-    ensures dealt { IsDealtBelow (W.meaning cells.now.1) cells.now.0 pool.now (item + 1)
-        member.new }
-    ensures once { length (padded_value member.new).hold.hold.puts
-        ≡ length (padded_value member.old).hold.hold.puts + 1 }
-{
-    let member: &mut Member = member;
-    pool.put(rt, &mut member.hold, item);
-}
-
 /// Runs all workers, each in a thread of its own where one can be made.
 fn run_all<R: Threads + Wait + Sync, W: Work, G: Gate>(
     rt: &R,
@@ -232,6 +140,11 @@ fn run_all<R: Threads + Wait + Sync, W: Work, G: Gate>(
     requires some { 0 < length members.old }
     requires idle { All (IsIdleMember (W.meaning cells.now.1) cells.now.0 pool.now)
         members.old }
+
+    // What each starts with, by its number.
+    requires numbers { AreNumbered members.old }
+    requires rounds { AreDealt (free_items (W.meaning cells.now.1))
+        (puts_of (holds_of members.old)) }
     ensures count { length members.new ≡ length members.old }
     ensures ended { All (IsEndedMember (W.meaning cells.now.1) cells.now.0) members.new }
 {

@@ -2,7 +2,7 @@ use Rattle.std.proofs.Common.{List, ap, subst, sym, ◌∙◌, arith}
 use Rattle.std.specs.List.{All}
 use Rattle.std.proofs.lemmas.List.Elements.{All-push}
 use Rattle.ftl_pool.specs.Count.{Counted}
-use Rattle.ftl_pool.specs.Pool.{StealHoldModel, IsFreshStealHoldOf, HasDeques}
+use Rattle.ftl_pool.specs.Pool.{StealHoldModel, IsFreshStealHoldOf, StealsFromNone}
 use Rattle.ftl_pool.proofs.steal_pool.make_holds.Goals as goal
 
 -- one more hold is made
@@ -26,9 +26,9 @@ loop-preserved c =
       holds = omega (arith, c.in_ok-push.ensures.len, inv.holds);
       fresh = subst (All P) (sym {A = List StealHoldModel} c.in_ok-push.ensures.items)
           (All-push P c.loop.holds.items c.in_ok-make_hold.field-0 inv.fresh c.in_ok-make_hold.ensures.fresh);
-      deques = subst (All (HasDeques 1)) (sym {A = List StealHoldModel} c.in_ok-push.ensures.items)
-          (All-push (HasDeques 1) c.loop.holds.items c.in_ok-make_hold.field-0 inv.deques
-          c.in_ok-make_hold.ensures.deques);
+      others = subst (All StealsFromNone) (sym {A = List StealHoldModel} c.in_ok-push.ensures.items)
+          (All-push StealsFromNone c.loop.holds.items c.in_ok-make_hold.field-0 inv.others
+          c.in_ok-make_hold.ensures.others);
     }
 
 -- the last hold

@@ -1,7 +1,7 @@
 use Rattle.std.proofs.Common.{◌≡◌, ◌+◌, vec_len, None}
 use Rattle.std.specs.List.{All}
 use Rattle.ftl_pool.specs.Count.{IsTallyOf}
-use Rattle.ftl_pool.specs.Pool.{IsFreshStealHoldOf, HasDeques}
+use Rattle.ftl_pool.specs.Pool.{IsFreshStealHoldOf, StealsFromNone}
 use Rattle.ftl_pool.proofs.steal_pool.make_holds.Given as goal
 
 abbrev pub invariant-loop : goal.invariant-loop
@@ -14,5 +14,5 @@ invariant-loop l = record {
   spare : l.tally.state.spare + l.counter ≡ 64;
   holds : vec_len l.holds + 1 ≡ l.counter;
   fresh : All (IsFreshStealHoldOf l.count) l.holds.items;
-  deques : All (HasDeques 1) l.holds.items;
+  others : All StealsFromNone l.holds.items;
 }

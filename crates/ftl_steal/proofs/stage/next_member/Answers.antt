@@ -2,7 +2,7 @@ use Rattle.std.proofs.Common.{subst}
 use Rattle.std.specs.Option.{option_to_list}
 use Rattle.std.specs.List.{All}
 use Rattle.ftl_steal.specs.Workers.{IsEndedMember}
-use Rattle.ftl_steal.proofs.Dealing.{all_front}
+use Rattle.ftl_steal.proofs.Rounds.{all_front}
 use Rattle.ftl_steal.proofs.stage.next_member.Goals as goal
 
 pub returns-clause-rest : goal.returns-clause-rest
