@@ -11,3 +11,4 @@ pub mod WorkLaws
 pub mod WordLaws
 pub mod WorkedStages
 pub mod Limits
+pub mod FormLaws

@@ -1,13 +1,14 @@
 -- The pass of an item with its visits, its nodes, and what its steps compute.
-use Rattle.std.proofs.Common.{◌≡◌, ◌≢◌, ℕ, suc, ◌+◌, ◌<◌, ◌≤◌, true, false, if◌then◌else◌, refl, sym, ◌∙◌, ap, subst, arith, List, [], ◌∷◌, get_or, length, map, Contains}
+use Rattle.std.proofs.Common.{◌≡◌, ◌≢◌, ℕ, suc, ◌+◌, ◌<◌, ◌≤◌, Bool, true, false, if◌then◌else◌, refl, sym, ◌∙◌, ap, subst, arith, List, [], ◌∷◌, get_or, length, map, Contains}
 use Rattle.std.specs.List.{range_with_len}
 use Rattle.std.proofs.lemmas.List.{get_or-map, get_or_default, length-map}
 use Rattle.std.proofs.lemmas.List.Elements.{Contains-get_or}
 use Rattle.ftl_model.proofs.lists.Elements.{in_flat_map, in_range_from}
 use Rattle.ftl_model.proofs.lists.Rising.{in_map}
+use Rattle.ftl_cursors.specs.items.RowsCut.{is_whole_in}
 use Rattle.ftl_cursors.specs.items.StageItems.{IsFound, item_in, items_in, pass_numbered, passes_in}
 use Rattle.ftl_cursors.specs.declared.items.view.FoundItem.{FoundItem}
-use Rattle.ftl_items.specs.stage_items.Cut.{is_small, nodes_of, subtree, tops}
+use Rattle.ftl_items.specs.stage_items.Cut.{nodes_by, nodes_of, subtree, tops}
 use Rattle.ftl_items.specs.stage_items.Items.{Item, item, items_of_pass, no_item, pass_in, passes_of, steps_by, steps_of_item}
 use Rattle.ftl_items.proofs.stage_items.Reverses.{in_reverse}
 use Rattle.ftl_cursors.specs.inorder.InorderSteps.{StepsComputeTheSequence, inorder_steps}
@@ -29,7 +30,7 @@ use Rattle.ftl_schedule.specs.stages.Stages.{kind_of, pass_of}
 use Rattle.ftl_schedule.specs.declared.stages.types.Pass.{Pass}
 use Rattle.ftl_order.specs.steps.Steps.{target_of}
 use Rattle.ftl_tree.proofs.rows.Access.{size-one}
-use Rattle.ftl_cursors.specs.visits.ItemSteps.{node_count, targets_in}
+use Rattle.ftl_cursors.specs.visits.ItemSteps.{node_count, node_count_by, targets_in}
 use Rattle.ftl_cursors.specs.visits.NodeRanges.{nodes_in}
 use Rattle.ftl_cursors.specs.visits.VisitSteps.{steps_of_nodes}
 use Rattle.ftl_cursors.specs.declared.visits.nodes.NodeOrder.{NodeOrder}
@@ -60,9 +61,10 @@ in_nodes Preorder first count n h = (in_range_from first count n h).1
 in_nodes Reverse first count n h = (in_range_from first count n (in_reverse (range_with_len first count) n h)).1
 
 -- how many nodes an item has
-count_of : (t : Forest) (grain : ℕ) (p : Path) → length (nodes_of t grain p) ≡ node_count t grain p
-count_of t grain p =
-    elim (is_small t grain p) as
+count_of : (is_whole : Path → Bool) (t : Forest) (p : Path)
+    → length (nodes_by is_whole t p) ≡ node_count_by is_whole t p
+count_of is_whole t p =
+    elim (is_whole p) as
     (λ b. length (if b then subtree t p else p ∷ []) ≡ (if b then size_at t p else 1)) [
       | true ↦ ap suc (length-nodes_below p (λ c. 0) (below_of (at t p)))
       | false ↦ refl
@@ -156,11 +158,11 @@ module _ (x : ItemTables) (i : ℕ) (found : FoundItem) (known : i < length (ite
       ≡ node_count (forest_in x) x.items.rows.now.grain this.first
   count_is =
       ap (λ p. length (nodes_of (forest_in x) x.items.rows.now.grain p)) is.node_is
-      ∙ count_of (forest_in x) x.items.rows.now.grain this.first
+      ∙ count_of (is_whole_in x.items.rows.now) (forest_in x) this.first
 
   pub within : found.node + node_count (forest_in x) x.items.rows.now.grain this.first ≤ size (forest_in x)
   within =
-      let all = nodes_within (grammar_in x) (forest_in x) is.is_tree x.items.rows.now.grain this.first node_there in
+      let all = nodes_within (grammar_in x) (forest_in x) is.is_tree (is_whole_in x.items.rows.now) this.first node_there in
       let number = number_is in
       omega (arith, all, number)
 
@@ -175,9 +177,9 @@ module _ (x : ItemTables) (i : ℕ) (found : FoundItem) (known : i < length (ite
         → targets_in g t x.items.rows.now.grain k pass.attrs (order_of k) this.first
         ≡ steps_by g s stage t x.items.rows.now.grain (kind_of k) pass.attrs this
     by_kind TopDown ne =
-        topdown_targets g t is.is_tree x.items.rows.now.grain this.first node_there law pass.attrs
+        topdown_targets g t is.is_tree (is_whole_in x.items.rows.now) this.first node_there law pass.attrs
     by_kind BottomUp ne =
-        bottomup_targets g t is.is_tree x.items.rows.now.grain this.first node_there law pass.attrs
+        bottomup_targets g t is.is_tree (is_whole_in x.items.rows.now) this.first node_there law pass.attrs
     by_kind InOrder ne = absurd (ne refl)
 
     -- the pass in the schedule

@@ -5,14 +5,14 @@ use Rattle.ftl_model.specs.layout.Tree.{Forest, size}
 use Rattle.ftl_model.specs.layout.TreeOf.{IsTreeOf}
 use Rattle.ftl_order.specs.orders.Schedule as order
 use Rattle.ftl_deps.specs.reads.Meant.{meant}
-use Rattle.ftl_items.specs.stage_items.Cut.{tops}
-use Rattle.ftl_items.specs.stage_items.Items.{Item, item, items, pass_in}
-use Rattle.ftl_items.specs.numbers.ItemNumbers.{all_kids, start_of_pass}
-use Rattle.ftl_items.specs.numbers.NumberLaws.{item_numbered}
+use Rattle.ftl_items.specs.stage_items.Cut.{PassCut, starts, tops_by}
+use Rattle.ftl_items.specs.stage_items.Items.{Item, item, items_by, no_item, pass_in}
+use Rattle.ftl_items.specs.numbers.ItemNumbers.{all_kids, start_by}
 use Rattle.ftl_schedule.specs.declared.syntax.kind.PassKind.{PassKind}
 use Rattle.ftl_schedule.specs.stages.Stages.{kind_of, pass_of}
 use Rattle.ftl_schedule.specs.declared.stages.types.Pass.{Pass}
 use Rattle.ftl_tree.specs.trees.CheckedTree.{CheckedTree}
+use Rattle.ftl_cursors.specs.items.RowsCut.{cut_in, is_whole_in}
 use Rattle.ftl_cursors.specs.declared.items.columns.ItemRows.{ItemRows}
 use Rattle.ftl_cursors.specs.declared.items.view.FoundItem.{FoundItem}
 use Rattle.ftl_cursors.specs.declared.items.view.ItemPlace.{ItemPlace}
@@ -27,20 +27,24 @@ abbrev pub tree_in : ItemRows → Forest
 tree_in rows = rows.tree.now.tree
 
 -- the nodes at which the items of a pass begin
-abbrev pub tops_by : ItemRows → PassKind → List Path
-tops_by rows kind = tops (kind_of kind) (tree_in rows) rows.grain
+abbrev pub tops_of : ItemRows → PassKind → List Path
+tops_of rows kind = tops_by (kind_of kind) (is_whole_in rows) (tree_in rows)
 
 -- the passes of the stage
 abbrev pub passes_in : StageItems → List order.Pass
 passes_in s = map pass_of s.passes.now
 
+-- how they are cut
+abbrev pub cuts_in : StageItems → (pass : ℕ) → PassCut
+cuts_in s m = cut_in s.rows.now (passes_in s) m
+
 -- its items, in order of number
 abbrev pub items_in : StageItems → List Item
-items_in s = items (passes_in s) (tree_in s.rows.now) s.rows.now.grain
+items_in s = items_by (length (passes_in s)) (cuts_in s) (tree_in s.rows.now)
 
 -- the item of a number
 abbrev pub item_in : StageItems → (number : ℕ) → Item
-item_in s i = item_numbered (passes_in s) (tree_in s.rows.now) s.rows.now.grain i
+item_in s i = slice_index_or (items_in s) i no_item
 
 -- the pass of a number
 abbrev pub pass_numbered : StageItems → (pass : ℕ) → order.Pass
@@ -48,7 +52,7 @@ pass_numbered s m = pass_in (passes_in s) m
 
 -- how many items come before a pass
 abbrev pub start_in : StageItems → (pass : ℕ) → ℕ
-start_in s m = start_of_pass (passes_in s) (tree_in s.rows.now) s.rows.now.grain m
+start_in s m = start_by (cuts_in s) (tree_in s.rows.now) m
 
 -- the rows are of this tree
 pub record IsMadeOf (t : CheckedTree) (grain : ℕ) (rows : ItemRows) : Type 0 where
@@ -62,7 +66,7 @@ pub record IsStageOf (rows : ItemRows) (passes : List Pass) (s : StageItems) : T
 
 -- the nodes at which the items of a pass begin
 abbrev pub tops_in : StageItems → (pass : ℕ) → List Path
-tops_in s m = tops (pass_numbered s m).kind (tree_in s.rows.now) s.rows.now.grain
+tops_in s m = starts (cuts_in s) (tree_in s.rows.now) m
 
 -- an item is that of this number in this pass
 pub record IsItemPlace (s : StageItems) (number : ℕ) (place : ItemPlace) : Type 0 where

@@ -1,6 +1,7 @@
 -- What the rows of a stage hold.
-use Rattle.std.specs.Prelude.{◌≡◌, ℕ, List, map}
+use Rattle.std.specs.Prelude.{◌≡◌, ℕ, List, length, map}
 use Rattle.ftl_cursors.specs.items.RowsFit.{AreStarts}
+use Rattle.ftl_items.specs.stage_items.Items.{cut_of}
 use Rattle.ftl_model.specs.layout.AttributeGrammar.{AttributeGrammar}
 use Rattle.ftl_model.specs.layout.Tree.{Forest}
 use Rattle.ftl_cursors.specs.sequence.BlockPlaces.{places_of}
@@ -22,6 +23,6 @@ pass_places g pass = places_of (pass_visits g pass)
 -- where the items of the passes begin, and of each pass the visits and where the blocks of children stand in them
 pub record AreStageRows (g : AttributeGrammar) (t : Forest) (grain : ℕ) (passes : List Pass) (rows : StageRows) :
     Type 0 where
-  pub starts : AreStarts (map pass_of passes) t grain rows.starts.items
+  pub starts : AreStarts (length (map pass_of passes)) (cut_of (map pass_of passes) t grain) t rows.starts.items
   pub visits : rows.visits.items ≡ map (pass_visits g) passes
   pub places : rows.places.items ≡ map (pass_places g) passes

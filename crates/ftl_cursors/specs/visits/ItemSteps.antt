@@ -1,5 +1,5 @@
 -- The steps of an item of a topdown or bottomup pass, by the range of its nodes.
-use Rattle.std.specs.Prelude.{◌≡◌, ℕ, ◌+◌, ◌≤◌, if◌then◌else◌, List, map}
+use Rattle.std.specs.Prelude.{◌≡◌, ℕ, ◌+◌, ◌≤◌, Bool, if◌then◌else◌, List, map}
 use Rattle.ftl_items.specs.stage_items.Cut.{is_small}
 use Rattle.ftl_items.specs.stage_items.Items.{Item, steps_by}
 use Rattle.ftl_model.specs.layout.AttributeGrammar.{AttributeGrammar}
@@ -19,15 +19,24 @@ use Rattle.ftl_cursors.specs.declared.visits.nodes.NodeOrder.{NodeOrder}
 use Rattle.ftl_cursors.specs.declared.visits.nodes.NodeOrder.TheVariants.{Preorder, Reverse}
 
 -- how many nodes the item has that begins at a node
-abbrev pub node_count : Forest → (grain : ℕ) → Path → ℕ
-node_count t grain p = if is_small t grain p then size_at t p else 1
+abbrev pub node_count_by : (is_whole : Path → Bool) → Forest → Path → ℕ
+node_count_by is_whole t p = if is_whole p then size_at t p else 1
 
 -- the instances of the steps of so many nodes from the first of an item on
+abbrev pub targets_by : AttributeGrammar → (is_whole : Path → Bool) → Forest → PassKind → (attributes : List ℕ)
+    → NodeOrder → Path → List Instance
+targets_by g is_whole t kind attributes order p =
+    map (target_of g t)
+    (steps_of_nodes g t (visits_of g kind attributes) (nodes_in order (number_of t p) (node_count_by is_whole t p)))
+
+-- how many nodes it has where small trees are one item
+abbrev pub node_count : Forest → (grain : ℕ) → Path → ℕ
+node_count t grain p = node_count_by (is_small t grain) t p
+
+-- and the instances of their steps
 abbrev pub targets_in : AttributeGrammar → Forest → (grain : ℕ) → PassKind → (attributes : List ℕ) → NodeOrder → Path
     → List Instance
-targets_in g t grain kind attributes order p =
-    map (target_of g t)
-    (steps_of_nodes g t (visits_of g kind attributes) (nodes_in order (number_of t p) (node_count t grain p)))
+targets_in g t grain kind attributes order p = targets_by g (is_small t grain) t kind attributes order p
 
 -- of each item, by the node at which it begins, of each tree of a lawful grammar
 abbrev pub OfItems : (AttributeGrammar → Forest → (grain : ℕ) → Item → Type 0) → Type 0

@@ -1,4 +1,5 @@
 //! The nodes at which items begin.
+ghost use Rattle.ftl_items.specs.stage_items.Cut.{is_small};
 ghost use Rattle.ftl_cursors.specs.items.RowsFit.{AreItemRows};
 
 use ftl_tree::Tree;
@@ -11,5 +12,6 @@ pub struct ItemRows<'a> {
     pub grain: u32,
     pub firsts: Vec<u32>,
     pub before: Vec<u32>,
-    pub ghost fit: { AreItemRows tree.now.tree grain firsts.items before.items },
+    pub ghost fit: { AreItemRows (is_small tree.now.tree grain) tree.now.tree firsts.items
+        before.items },
 }

@@ -1,12 +1,12 @@
 //! What the items of a stage hand on to.
 ghost use Rattle.std.specs.Prelude.{◌≡◌, ℕ, ◌+◌, ◌<◌, ◌==◌, if◌then◌else◌};
 ghost use Rattle.std.specs.Prelude.{[], ◌∷◌, length, slice_index};
-ghost use Rattle.ftl_items.specs.stage_items.Cut.{is_small};
 ghost use Rattle.ftl_items.specs.stage_items.Items.{nexts, predecessors};
-ghost use Rattle.ftl_items.specs.numbers.ItemNumbers.{item_above, items_before};
+ghost use Rattle.ftl_items.specs.numbers.ItemNumbers.{item_above_by, items_before_by};
 ghost use Rattle.ftl_model.specs.layout.Path.{node_at};
 ghost use Rattle.ftl_model.specs.layout.Tree.{size};
 ghost use Rattle.ftl_order.specs.orders.Schedule.{bottomup};
+ghost use Rattle.ftl_cursors.specs.items.RowsCut.{is_whole_in};
 ghost use Rattle.ftl_cursors.specs.items.RowsFit.{IsBegunBelow};
 ghost use Rattle.ftl_cursors.specs.items.StageItems.{items_in, kids_of, passes_in, tree_in};
 
@@ -69,8 +69,8 @@ fn count_above(node: u32) -> u32
 // How many items begin at the kids of the node at which an item begins.
 fn count_below(rows: &ItemRows<'_>, node: u32) -> u32
     requires node { node < size (tree_in rows.now) }
-    ensures count { result ≡ (if is_small (tree_in rows.now) rows.now.grain
-        (node_at (tree_in rows.now) node) then 0 else length (kids_of rows.now.tree.now node)) }
+    ensures count { result ≡ (if is_whole_in rows.now (node_at (tree_in rows.now) node) then 0
+        else length (kids_of rows.now.tree.now node)) }
 {
     if rows.tree.subtree_size(node) <= rows.grain {
         0
@@ -83,7 +83,7 @@ fn count_below(rows: &ItemRows<'_>, node: u32) -> u32
 fn kid_item(rows: &ItemRows<'_>, node: u32, place: u32) -> u32
     requires node { node < size (tree_in rows.now) }
     requires place { place < length (kids_of rows.now.tree.now node) }
-    ensures item { result ≡ items_before (tree_in rows.now) rows.now.grain
+    ensures item { result ≡ items_before_by (is_whole_in rows.now) (tree_in rows.now)
         (slice_index (kids_of rows.now.tree.now node) place) }
 {
     let _nodes = rows.tree.node_count();
@@ -93,9 +93,8 @@ fn kid_item(rows: &ItemRows<'_>, node: u32, place: u32) -> u32
 // The number in a bottomup pass of the item that begins at a node's parent.
 fn parent_item(rows: &ItemRows<'_>, node: u32) -> u32
     requires node { node < size (tree_in rows.now) }
-    requires parent { IsBegunBelow (tree_in rows.now) rows.now.grain
-        (node_at (tree_in rows.now) node) }
-    ensures item { (start : ℕ) → item_above bottomup (tree_in rows.now) rows.now.grain start
+    requires parent { IsBegunBelow (is_whole_in rows.now) (node_at (tree_in rows.now) node) }
+    ensures item { (start : ℕ) → item_above_by bottomup (is_whole_in rows.now) (tree_in rows.now) start
         (node_at (tree_in rows.now) node) ≡ (start + result) ∷ [] }
 {
     let _nodes = rows.tree.node_count();

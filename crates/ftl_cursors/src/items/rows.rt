@@ -1,11 +1,12 @@
 //! Where the items of passes begin, and how many nodes they have.
 ghost use Rattle.std.specs.Prelude.{◌≡◌, ◌<◌, ◌≤◌, true, length, slice_index_or, IfOk};
-ghost use Rattle.ftl_items.specs.stage_items.Cut.{begins, nodes_of};
-ghost use Rattle.ftl_items.specs.numbers.ItemNumbers.{first_nodes, place_in_pass};
+ghost use Rattle.ftl_items.specs.stage_items.Cut.{begins_by, nodes_by};
+ghost use Rattle.ftl_items.specs.numbers.ItemNumbers.{first_nodes_by, place_by};
 ghost use Rattle.ftl_model.specs.layout.Path.{node_at, number_of, top};
 ghost use Rattle.ftl_model.specs.layout.Tree.{size};
 ghost use Rattle.ftl_schedule.specs.stages.Stages.{kind_of};
-ghost use Rattle.ftl_cursors.specs.items.StageItems.{IsMadeOf, tops_by, tree_in};
+ghost use Rattle.ftl_cursors.specs.items.RowsCut.{is_whole_in};
+ghost use Rattle.ftl_cursors.specs.items.StageItems.{IsMadeOf, tops_of, tree_in};
 
 use crate::items::begins::is_first;
 use crate::items::columns::ItemRows;
@@ -36,7 +37,7 @@ impl<'a> ItemRows<'a> {
 
     /// How many items a pass has.
     pub fn count(&self, kind: PassKind) -> u32
-        ensures count { result ≡ length (tops_by self.now kind) }
+        ensures count { result ≡ length (tops_of self.now kind) }
         ensures bound { result ≤ 1048576 }
     {
         match kind {
@@ -48,9 +49,9 @@ impl<'a> ItemRows<'a> {
 
     /// The node at which an item of a pass begins.
     pub fn first(&self, kind: PassKind, item: u32) -> u32
-        requires item { item < length (tops_by self.now kind) }
+        requires item { item < length (tops_of self.now kind) }
         ensures first { result
-            ≡ number_of (tree_in self.now) (slice_index_or (tops_by self.now kind) item top) }
+            ≡ number_of (tree_in self.now) (slice_index_or (tops_of self.now kind) item top) }
     {
         match kind {
             PassKind::TopDown => self.firsts[item as usize],
@@ -62,7 +63,7 @@ impl<'a> ItemRows<'a> {
     /// How many nodes the item has that begins at this node. They follow one another in preorder.
     pub fn node_count(&self, first: u32) -> u32
         requires node { first < size (tree_in self.now) }
-        ensures count { result ≡ length (nodes_of (tree_in self.now) self.now.grain
+        ensures count { result ≡ length (nodes_by (is_whole_in self.now) (tree_in self.now)
             (node_at (tree_in self.now) first)) }
     {
         let size = self.tree.subtree_size(first);
@@ -72,9 +73,8 @@ impl<'a> ItemRows<'a> {
     /// The place in a pass of the item that begins at this node.
     pub fn place(&self, kind: PassKind, first: u32) -> u32
         requires node { first < size (tree_in self.now) }
-        requires begins { begins (tree_in self.now) self.now.grain
-            (node_at (tree_in self.now) first) ≡ true }
-        ensures place { result ≡ place_in_pass (kind_of kind) (tree_in self.now) self.now.grain
+        requires begins { begins_by (is_whole_in self.now) (node_at (tree_in self.now) first) ≡ true }
+        ensures place { result ≡ place_by (kind_of kind) (is_whole_in self.now) (tree_in self.now)
             (node_at (tree_in self.now) first) }
     {
         let _nodes = self.tree.node_count();
@@ -88,7 +88,7 @@ impl<'a> ItemRows<'a> {
 
     // At how many nodes items begin.
     fn begin_count(&self) -> u32
-        ensures count { result ≡ length (first_nodes (tree_in self.now) self.now.grain) }
+        ensures count { result ≡ length (first_nodes_by (is_whole_in self.now) (tree_in self.now)) }
         ensures bound { result ≤ 1048576 }
     {
         let _nodes = self.tree.node_count();

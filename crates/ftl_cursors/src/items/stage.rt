@@ -1,6 +1,7 @@
 //! The items of a stage, by number.
 ghost use Rattle.std.specs.Prelude.{◌≡◌, ◌<◌, ◌≤◌, length, map, IfOk};
 ghost use Rattle.ftl_schedule.specs.stages.Stages.{pass_of};
+ghost use Rattle.ftl_cursors.specs.items.RowsCut.{cut_in};
 ghost use Rattle.ftl_cursors.specs.items.RowsFit.{AreStarts};
 ghost use Rattle.ftl_cursors.specs.items.StageItems.{IsFound, IsItemPlace, IsStageOf, items_in};
 ghost use Rattle.ftl_cursors.specs.items.StageItems.{tree_in};
@@ -17,8 +18,8 @@ pub fn pass_starts(
     passes: &[Pass],
 ) -> Result<Vec<u32>, AllocError>
     requires few { length passes.now ≤ 2048 }
-    ensures starts { IfOk result (λ v. AreStarts (map pass_of passes.now)
-        (tree_in rows.now) rows.now.grain v.items) }
+    ensures starts { IfOk result (λ v. AreStarts (length (map pass_of passes.now))
+        (cut_in rows.now (map pass_of passes.now)) (tree_in rows.now) v.items) }
 {
     let mut starts = Vec::with_capacity(alloc, passes.len() + 1)?;
     let mut start = 0;
@@ -33,8 +34,8 @@ pub fn pass_starts(
 impl<'a> StageItems<'a> {
     /// The items of these passes.
     pub fn new(rows: &'a ItemRows<'a>, passes: &'a [Pass], starts: &'a [u32]) -> StageItems<'a>
-        requires starts { AreStarts (map pass_of passes.now) (tree_in rows.now) rows.now.grain
-            starts.now }
+        requires starts { AreStarts (length (map pass_of passes.now))
+            (cut_in rows.now (map pass_of passes.now)) (tree_in rows.now) starts.now }
         ensures made { IsStageOf rows.now passes.now result }
     {
         StageItems {

@@ -1,6 +1,7 @@
 //! The items of a stage, as a view.
-ghost use Rattle.std.specs.Prelude.{map};
+ghost use Rattle.std.specs.Prelude.{length, map};
 ghost use Rattle.ftl_schedule.specs.stages.Stages.{pass_of};
+ghost use Rattle.ftl_cursors.specs.items.RowsCut.{cut_in};
 ghost use Rattle.ftl_cursors.specs.items.RowsFit.{AreStarts};
 
 use crate::items::columns::ItemRows;
@@ -12,8 +13,8 @@ pub struct StageItems<'a> {
     pub rows: &'a ItemRows<'a>,
     pub passes: &'a [Pass],
     pub starts: &'a [u32],
-    pub ghost fit: { AreStarts (map pass_of passes.now) rows.now.tree.now.tree
-        rows.now.grain starts.now },
+    pub ghost fit: { AreStarts (length (map pass_of passes.now))
+        (cut_in rows.now (map pass_of passes.now)) rows.now.tree.now.tree starts.now },
 }
 
 /// An item by its pass, and by its number among the items of that.

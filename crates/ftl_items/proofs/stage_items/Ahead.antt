@@ -1,5 +1,5 @@
 -- Which of two entries stands ahead in a list.
-use Rattle.std.proofs.Common.{◌≡◌, ◌⊎◌, ℕ, zero, suc, ◌+◌, ◌<◌, ◌==◌, Bool, true, false, cond, if◌then◌else◌, refl, sym, ◌∙◌, ap, subst, inl, inr, ⊎_elim, arith, eq-eqb, eqb-true, List, [], ◌∷◌, ◌++◌, filter, flat_map, length, map, reverse, Contains}
+use Rattle.std.proofs.Common.{◌≡◌, ◌⊎◌, ℕ, zero, suc, ◌+◌, ◌<◌, ◌==◌, Bool, true, false, cond, if◌then◌else◌, refl, sym, ◌∙◌, ap, subst, inl, inr, ⊎_elim, arith, eq-eqb, eqb-true, List, [], ◌∷◌, ◌++◌, filter, flat_map, get_or, length, map, reverse, Contains}
 use Rattle.std.specs.List.{range_with_len}
 use Rattle.std.proofs.lemmas.List.{get_or_default}
 use Rattle.std.proofs.lemmas.List.Elements.{Contains-append_left, Contains-append_right}
@@ -37,6 +37,18 @@ ahead_stands (z ∷ zs) x y (inr h) =
       i.4,
       i.5,
     )
+
+ahead_at : {X : Type 0} (xs : List X) (m n : ℕ) (x y : X) → m < n → n < length xs → get_or xs m x ≡ x
+    → get_or xs n y ≡ y
+    → Ahead xs x y
+ahead_at [] m n x y less below at_m at_n = absurd (let z : ⊥ = omega (arith, below) in z)
+ahead_at (z ∷ zs) m zero x y less below at_m at_n = absurd (let z : ⊥ = omega (arith, less) in z)
+ahead_at (z ∷ zs) zero (suc n) x y less below at_m at_n = inl (at_m, (n, (let l : n < length zs = omega (arith, below) in l), at_n))
+ahead_at (z ∷ zs) (suc m) (suc n) x y less below at_m at_n =
+    inr (ahead_at zs m n x y (omega (arith, less)) (omega (arith, below)) at_m at_n)
+
+pub stands_ahead : {X : Type 0} (xs : List X) (x y : X) → StandsBefore xs x y → Ahead xs x y
+stands_ahead xs x y h = ahead_at xs h.0 h.1 x y h.2 h.3 (h.4 x) (h.5 y)
 
 pub ahead_left : {X : Type 0} (xs ys : List X) (x y : X) → Ahead xs x y → Ahead (xs ++ ys) x y
 ahead_left [] ys x y h = absurd h

@@ -12,11 +12,11 @@ use Rattle.ftl_model.specs.layout.Tree.{Forest}
 use Rattle.ftl_model.specs.layout.TreeOf.{IsTreeOf}
 use Rattle.ftl_order.specs.orders.Lawful.{IsLawful, OfClass}
 use Rattle.ftl_order.specs.orders.LegalOrder.{IsStep, KeyFirst, rule_child, turn_of}
-use Rattle.ftl_order.specs.orders.Schedule.{EachStandsOnce, Schedule, pass_at, placing_of}
+use Rattle.ftl_order.specs.orders.Schedule.{EachStandsOnce, Placing, Schedule, pass_at, placing_of}
 use Rattle.ftl_order.proofs.orders.TreeEquations.{root_inherits_nothing}
 use Rattle.ftl_items.specs.stage_items.Visits.{children_with, steps_of_rule, visit}
 use Rattle.ftl_items.proofs.stage_items.Ahead.{Ahead, ahead-filter, ahead-flat_map, ahead-map, ahead-range, ahead_inside, ahead_placed}
-use Rattle.ftl_items.proofs.stage_items.StepLaws.{pass_of_step}
+use Rattle.ftl_items.proofs.stage_items.PassSteps.{pass_of_step}
 use Rattle.ftl_items.proofs.stage_items.VisitLaws.{child_there, has_step, in_visit, kid_there, steps_for, visit_is}
 
 module _ (g : AttributeGrammar) (law : IsLawful g) (t : Forest) (fits : IsTreeOf g t) where
@@ -109,40 +109,49 @@ module _ (g : AttributeGrammar) (law : IsLawful g) (t : Forest) (fits : IsTreeOf
       (rule_ahead (g.sort a) p q r a refl step_q.0.0 step_q.0.1 step.0.0 step.0.1 here_q here first))
       step_r here_r first
 
-  module _ (s : Schedule) (once : EachStandsOnce g s) (grain stage : ℕ) where
+  -- of a list, and of places that are those in it
+  module _ (at : Placing) (attributes : List ℕ)
+      (index_is : (i : Instance) → IsStep g t i → Contains attributes i.attribute
+      → (at i.attribute).index ≡ place_in attributes i.attribute) where
+    pub key_ahead_by : (p : Path) (i j : Instance) → Has t p → Contains (visit g t attributes p) i
+        → Contains (visit g t attributes p) j → KeyFirst at (turn_of g i) (turn_of g j)
+        → Ahead (visit g t attributes p) i j
+    key_ahead_by p i j there in_i in_j first =
+        let vi = in_visit g law t fits attributes p there i in_i in
+        let vj = in_visit g law t fits attributes p there j in_j in
+        let ei = index_is i vi.0 vi.1 in
+        let ej = index_is j vj.0 vj.1 in
+        let same = λ (e : (at i.attribute).index ≡ (at j.attribute).index).
+        sym (place_is attributes i.attribute 0 vi.1)
+        ∙ ap (λ n. get_or attributes n 0) (sym ei ∙ e ∙ ej)
+        ∙ place_is attributes j.attribute 0 vj.1 in
+        subst (λ is. Ahead is i j) (sym (visit_is g law t fits attributes p))
+        (⊎_elim
+        (λ key.
+        ⊎_elim
+        (λ less.
+        ahead-flat_map (λ a. steps_for g law t fits p (g.sort a) a) attributes i.attribute j.attribute i j
+        (ahead_placed attributes i.attribute j.attribute vi.1 vj.1 (omega (arith, less, ei, ej)))
+        (has_step g law t fits (g.sort i.attribute) i.node i.attribute p refl vi.0.1 vi.0.0.0 vi.0.0.1 vi.2)
+        (has_step g law t fits (g.sort j.attribute) j.node j.attribute p refl vj.0.1 vj.0.0.0 vj.0.0.1 vj.2))
+        (λ child.
+        same_ahead attributes p i.node j.node i.attribute j.attribute (same child.0) vi.1 vi.0 vi.2 vj.0 vj.2
+        (inl child.1)) key)
+        (λ kid.
+        same_ahead attributes p i.node j.node i.attribute j.attribute kid.0.0 vi.1 vi.0 vi.2 vj.0 vj.2
+        (inr (kid.0.1, kid.1))) first)
+
+  module _ (s : Schedule) (once : EachStandsOnce g s) (stage : ℕ) where
     abbrev attributes_at : ℕ → List ℕ
     attributes_at m = (pass_at s stage m).attributes
 
     index_is : (m : ℕ) (i : Instance) → IsStep g t i → Contains (attributes_at m) i.attribute
         → (placing_of s i.attribute).index ≡ place_in (attributes_at m) i.attribute
     index_is m i step there =
-        let here = pass_of_step g s t law once fits grain stage m i step there in
+        let here = pass_of_step g s t law once fits stage m i step there in
         ap₂ (λ u v. place_in (pass_at s u v).attributes i.attribute) here.0 here.1
 
     pub key_ahead : (m : ℕ) (p : Path) (i j : Instance) → Has t p → Contains (visit g t (attributes_at m) p) i
         → Contains (visit g t (attributes_at m) p) j → KeyFirst (placing_of s) (turn_of g i) (turn_of g j)
         → Ahead (visit g t (attributes_at m) p) i j
-    key_ahead m p i j there in_i in_j first =
-        let vi = in_visit g law t fits (attributes_at m) p there i in_i in
-        let vj = in_visit g law t fits (attributes_at m) p there j in_j in
-        let ei = index_is m i vi.0 vi.1 in
-        let ej = index_is m j vj.0 vj.1 in
-        let same = λ (e : (placing_of s i.attribute).index ≡ (placing_of s j.attribute).index).
-        sym (place_is (attributes_at m) i.attribute 0 vi.1)
-        ∙ ap (λ n. get_or (attributes_at m) n 0) (sym ei ∙ e ∙ ej)
-        ∙ place_is (attributes_at m) j.attribute 0 vj.1 in
-        subst (λ is. Ahead is i j) (sym (visit_is g law t fits (attributes_at m) p))
-        (⊎_elim
-        (λ key.
-        ⊎_elim
-        (λ less.
-        ahead-flat_map (λ a. steps_for g law t fits p (g.sort a) a) (attributes_at m) i.attribute j.attribute i j
-        (ahead_placed (attributes_at m) i.attribute j.attribute vi.1 vj.1 (omega (arith, less, ei, ej)))
-        (has_step g law t fits (g.sort i.attribute) i.node i.attribute p refl vi.0.1 vi.0.0.0 vi.0.0.1 vi.2)
-        (has_step g law t fits (g.sort j.attribute) j.node j.attribute p refl vj.0.1 vj.0.0.0 vj.0.0.1 vj.2))
-        (λ child.
-        same_ahead (attributes_at m) p i.node j.node i.attribute j.attribute (same child.0) vi.1 vi.0 vi.2 vj.0 vj.2
-        (inl child.1)) key)
-        (λ kid.
-        same_ahead (attributes_at m) p i.node j.node i.attribute j.attribute kid.0.0 vi.1 vi.0 vi.2 vj.0 vj.2
-        (inr (kid.0.1, kid.1))) first)
+    key_ahead m = key_ahead_by (placing_of s) (attributes_at m) (index_is m)

@@ -1,43 +1,19 @@
 -- The cut of a pass, where the nodes that are one item with all below them are those with small trees.
-use Rattle.std.proofs.Common.{◌≡◌, ◌≢◌, ◌⊎◌, ℕ, ◌<◌, ◌≤◌, true, false, if◌then◌else◌, leb-true, leb-false, refl, sym, ap, subst, inl, inr, ⊎_elim, arith, List, [], ◌∷◌, filter, length, Contains}
-use Rattle.ftl_model.specs.lists.Lists.{AreDistinct}
-use Rattle.ftl_model.proofs.lists.Elements.{distinct-filter, filter_has, in_filter}
-use Rattle.ftl_model.specs.layout.Path.{Above, Has, Path, at, down, nodes_below, preorder, size_at, top}
+use Rattle.std.proofs.Common.{◌≡◌, ◌≢◌, ◌⊎◌, ℕ, ◌<◌, ◌≤◌, true, false, if◌then◌else◌, leb-true, leb-false, refl, sym, ap, subst, inl, inr, ⊎_elim, arith, List, [], ◌∷◌, length, Contains}
+use Rattle.ftl_model.specs.layout.Path.{Above, Has, Path, at, down, nodes_below, size_at, top}
 use Rattle.ftl_model.specs.layout.Tree.{Forest, IsTree, below_of}
 use Rattle.ftl_model.proofs.layout.Numbering.{length-nodes_below}
-use Rattle.ftl_order.specs.orders.Schedule.{PassKind, bottomup, inorder, topdown}
+use Rattle.ftl_order.specs.orders.Schedule.{PassKind, inorder}
 use Rattle.ftl_order.proofs.orders.Ranges.{above_range}
 use Rattle.ftl_items.specs.stage_items.Cut.{begins, is_open, is_small, nodes_of, subtree, tops}
 use Rattle.ftl_items.specs.stage_items.CutLaws.{EachNodeInOneItem, IsLargestSmall, ItemsAreOfTwoSorts, LiesIn, LiesInNoSmall, SmallestGrains}
-use Rattle.ftl_items.proofs.stage_items.Homes.{all_open, begins-home, has_above, has_held, home, home-above, home_holds, only_home, open_all}
-use Rattle.ftl_items.proofs.stage_items.Reverses.{distinct-reverse, in_reverse, reverse_has}
-use Rattle.ftl_items.proofs.stage_items.Subtrees.{distinct-preorder, in_preorder, preorder_has}
+use Rattle.ftl_items.proofs.stage_items.CutItems.{first_for, held_there_by, in_tops_by, tops_by_have}
+use Rattle.ftl_items.proofs.stage_items.Homes.{all_open, open_all}
 
 -- a node at which an item of a pass begins
 pub in_tops : (kind : PassKind) (t : Forest) (grain : ℕ) → kind ≢ inorder → IsTree t → (p : Path)
     → Contains (tops kind t grain) p → Has t p × (begins t grain p ≡ true)
-in_tops topdown t grain some is p h =
-    let i = in_filter (begins t grain) (preorder t) p h in (in_preorder t p is i.0, i.1)
-in_tops bottomup t grain some is p h =
-    let i =
-    in_filter (begins t grain) (preorder t) p (in_reverse (filter (begins t grain) (preorder t)) p h) in
-    (in_preorder t p is i.0, i.1)
-in_tops inorder t grain some is p h = absurd (some refl)
-
-pub tops_have : (kind : PassKind) (t : Forest) (grain : ℕ) → kind ≢ inorder → (p : Path) → Has t p
-    → begins t grain p ≡ true → Contains (tops kind t grain) p
-tops_have topdown t grain some p h e = filter_has (begins t grain) (preorder t) p (preorder_has t p h) e
-tops_have bottomup t grain some p h e =
-    reverse_has (filter (begins t grain) (preorder t)) p
-    (filter_has (begins t grain) (preorder t) p (preorder_has t p h) e)
-tops_have inorder t grain some p h e = absurd (some refl)
-
-pub distinct-tops : (kind : PassKind) (t : Forest) (grain : ℕ) → kind ≢ inorder → AreDistinct (tops kind t grain)
-distinct-tops topdown t grain some = distinct-filter (begins t grain) (preorder t) (distinct-preorder t)
-distinct-tops bottomup t grain some =
-    distinct-reverse (filter (begins t grain) (preorder t))
-    (distinct-filter (begins t grain) (preorder t) (distinct-preorder t))
-distinct-tops inorder t grain some = absurd (some refl)
+in_tops kind t grain some is = in_tops_by (is_small t grain) t kind some is
 
 module _ (t : Forest) (grain : ℕ) where
   pub small : (p : Path) → is_small t grain p ≡ true → size_at t p ≤ grain
@@ -46,13 +22,13 @@ module _ (t : Forest) (grain : ℕ) where
   pub large : (p : Path) → is_small t grain p ≡ false → grain < size_at t p
   large p e = leb-false (size_at t p) grain e
 
-  is_it_small : (p : Path) → size_at t p ≤ grain → is_small t grain p ≡ true
+  pub is_it_small : (p : Path) → size_at t p ≤ grain → is_small t grain p ≡ true
   is_it_small p below =
       elim (is_small t grain p) as (λ b. (is_small t grain p ≡ b) → b ≡ true)
       [ true ↦ λ e. refl | false ↦ λ e. absurd (let l = large p e in let z : ⊥ = omega (arith, l, below) in z) ]
       refl
 
-  is_it_large : (p : Path) → grain < size_at t p → is_small t grain p ≡ false
+  pub is_it_large : (p : Path) → grain < size_at t p → is_small t grain p ≡ false
   is_it_large p above =
       elim (is_small t grain p) as (λ b. (is_small t grain p ≡ b) → b ≡ false)
       [ true ↦ λ e. absurd (let s = small p e in let z : ⊥ = omega (arith, s, above) in z) | false ↦ λ e. refl ]
@@ -127,28 +103,24 @@ module _ (t : Forest) (grain : ℕ) where
 
   module _ (kind : PassKind) (some : kind ≢ inorder) (is : IsTree t) where
     pub one_item : EachNodeInOneItem kind t grain
-    one_item = λ p h. (
-      home (is_small t grain) p,
-      (
-        tops_have kind t grain some (home (is_small t grain) p)
-            (has_above t (home (is_small t grain) p) p h (home-above (is_small t grain) p))
-            (begins-home (is_small t grain) p),
-        home_holds (is_small t grain) t p h,
-      ),
-      (λ other (lies : LiesIn kind t grain other p).
-          let i = in_tops kind t grain some is other lies.0 in
-          sym (only_home (is_small t grain) t other p i.0 i.1 lies.1)),
-    )
+    one_item = λ p h.
+        let first = first_for (is_small t grain) t is kind p h in (
+          first.first,
+          (first.there, first.held some),
+          (λ other (lies : LiesIn kind t grain other p). first.only other lies.0 (λ s. lies.1)),
+        )
 
     pub held_there : (first p : Path) → LiesIn kind t grain first p → Has t p
-    held_there first p lies =
-        has_held (is_small t grain) t first p (in_tops kind t grain some is first lies.0).0 lies.1
+    held_there first p lies = held_there_by (is_small t grain) t is kind some first p lies.0 lies.1
 
     pub two_sorts : ItemsAreOfTwoSorts kind t grain
     two_sorts = λ p h. (
       (λ inside. sort_of p (in_tops kind t grain some is p inside).1),
-      (λ sort. tops_have kind t grain some p h (begins_by_sort p sort)),
+      (λ sort. tops_by_have (is_small t grain) t kind some p h (begins_by_sort p sort)),
     )
 
     pub smallest : SmallestGrains kind t grain
-    smallest = λ one p h. (tops_have kind t grain some p h (smallest_begin one p h), smallest_alone one p)
+    smallest = λ one p h. (
+      tops_by_have (is_small t grain) t kind some p h (smallest_begin one p h),
+      smallest_alone one p,
+    )

@@ -19,7 +19,7 @@ use Rattle.ftl_order.proofs.orders.Instances.{instance_here, length-instances}
 use Rattle.ftl_items.specs.stage_items.StageWork.{kind_by, kind_by_stage, no_instance, stage_work}
 use Rattle.ftl_items.specs.stage_items.WordLaws.{first_word, first_words}
 use Rattle.ftl_items.proofs.stage_items.Passes.{listed_at}
-use Rattle.ftl_items.proofs.stage_items.StepLaws.{many_of}
+use Rattle.ftl_items.proofs.stage_items.PassSteps.{many_of}
 use Rattle.ftl_items.proofs.stage_items.WordLaws.{ltb_not}
 
 none_before_first : (n word : ℕ) → first_word_of (kind_by_stage n 0) word ≡ 0
@@ -46,7 +46,7 @@ module _ (g : AttributeGrammar) (s : Schedule) (t : Forest) (law : IsLawful g) (
   -- a computed instance stands in a stage of the schedule
   in_a_stage : (i : Instance) → IsStep g t i → (placing_of s i.attribute).stage < length s
   in_a_stage i step =
-      let at = listed_at s i.attribute (many_of g s t law ordered.once fits grain 0 i step) in
+      let at = listed_at s i.attribute (many_of g s t law ordered.once fits 0 i step) in
       elim (ltb (stage_of s i.attribute) (length s)) as
       (λ b. (ltb (stage_of s i.attribute) (length s) ≡ b) → stage_of s i.attribute < length s) [
         | true ↦ λ e. ltb-true (stage_of s i.attribute) (length s) e

@@ -9,11 +9,11 @@ use Rattle.ftl_items.specs.stage_items.Items.{is_parent, is_same_node}
 use Rattle.ftl_items.proofs.stage_items.CutLaws.{in_tops, lies_open, open_lies}
 use Rattle.ftl_items.proofs.stage_items.Homes.{first_in, home, only_home, open_home}
 
-both : (p q : Bool) → (p && q) ≡ true → (p ≡ true) × (q ≡ true)
+pub both : (p q : Bool) → (p && q) ≡ true → (p ≡ true) × (q ≡ true)
 both true q e = (refl, e)
 both false q e = absurd (let z : ⊥ = grind arith in z)
 
-joined : (p q : Bool) → p ≡ true → q ≡ true → (p && q) ≡ true
+pub joined : (p q : Bool) → p ≡ true → q ≡ true → (p && q) ≡ true
 joined true q a b = b
 joined false q a b = absurd (let z : ⊥ = grind arith in z)
 
@@ -43,6 +43,12 @@ pub record IsKidOf (p q : Path) : Type 0 where
 pub kid_of : (p q : Path) → is_parent p q ≡ true → IsKidOf p q
 kid_of p top e = absurd (let z : ⊥ = grind arith in z)
 kid_of p (down c k a) e = record { child = c; kid = k; is = ap (down c k) (sym (same_node p a e)) }
+
+pub parent_found : (p q : Path) → parent_of q ≡ Some p → IsKidOf p q
+parent_found p top e = absurd (let z : ⊥ = cc in z)
+parent_found p (down c k a) e =
+    let same : a ≡ p = cc in
+    record { child = c; kid = k; is = ap (down c k) same }
 
 pub parent_is : (p q : Path) (c k : ℕ) → q ≡ down c k p → is_parent p q ≡ true
 parent_is p q c k e = ap (is_parent p) e ∙ node_itself p

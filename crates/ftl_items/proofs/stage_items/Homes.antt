@@ -83,7 +83,15 @@ module _ (is_whole : Path → Bool) where
       [ true ↦ λ e. inr refl | false ↦ λ e. inl (whole_home p e) ]
       refl
 
-  -- and where neither a node nor one above it is whole, each is its own home
+  -- where neither a node nor one above it is whole, an item begins at the node
+  pub open_begins : (p : Path) → is_open is_whole p ≡ true → begins_by is_whole p ≡ true
+  open_begins top e = refl
+  open_begins (down c k p) e =
+      elim (is_whole (down c k p)) as
+      (λ b. (if b then false else is_open is_whole p) ≡ true → is_open is_whole p ≡ true)
+      [ true ↦ λ e. absurd (let z : ⊥ = grind arith in z) | false ↦ λ e. e ] e
+
+  -- and each is its own home
   pub open_home : (p : Path) → is_open is_whole p ≡ true → home p ≡ p
   open_home p e =
       ⊎_elim

@@ -1,5 +1,5 @@
 -- Items hand on to later ones alone.
-use Rattle.std.proofs.Common.{◌≡◌, ◌≢◌, ℕ, zero, suc, ◌+◌, ◌-◌, ◌<◌, ◌==◌, ◌&&◌, Bool, true, false, cond, refl, sym, ◌∙◌, ap, subst, inl, inr, ⊎_elim, arith, eqb-true, List, [], ◌∷◌, ◌++◌, filter, get_or, length, length-append, Contains}
+use Rattle.std.proofs.Common.{◌≡◌, ◌≢◌, ℕ, zero, suc, ◌+◌, ◌-◌, ◌<◌, ◌==◌, Bool, true, false, cond, refl, sym, ◌∙◌, ap, subst, inl, inr, ⊎_elim, arith, eqb-true, List, [], ◌∷◌, ◌++◌, filter, get_or, length, length-append, Contains}
 use Rattle.std.specs.List.{range_with_len}
 use Rattle.std.proofs.lemmas.List.Elements.{Contains-get_or, filter-append}
 use Rattle.ftl_cells.specs.shared.Count.{Counts, at_zero, counts_it, skips_it}
@@ -7,14 +7,13 @@ use Rattle.ftl_model.specs.lists.Lists.{AreDistinct}
 use Rattle.ftl_model.proofs.lists.Elements.{later_in, range_has}
 use Rattle.ftl_model.specs.layout.Path.{Above, Has, Path, number_of, preorder, top}
 use Rattle.ftl_model.specs.layout.Tree.{Forest, IsTree}
-use Rattle.ftl_order.specs.orders.Schedule.{Pass, PassKind, bottomup, inorder, topdown}
+use Rattle.ftl_order.specs.orders.Schedule.{PassKind, bottomup, inorder, topdown}
 use Rattle.ftl_order.proofs.orders.Ranges.{above_range}
-use Rattle.ftl_items.specs.stage_items.Cut.{begins, tops}
-use Rattle.ftl_items.specs.stage_items.Items.{Item, hands_on, is_next, is_parent, item, items, items_of_pass, no_item, pass_in, predecessors}
+use Rattle.ftl_items.specs.stage_items.Cut.{PassCut, begins_by, starts, tops_by}
+use Rattle.ftl_items.specs.stage_items.Items.{Item, hands_on, is_next_by, is_parent, item, items_by, items_of_cut, kinds_of, no_item, predecessors_by}
 use Rattle.ftl_items.proofs.stage_items.Ahead.{Ahead, ahead-filter, ahead-map, ahead-reverse, ahead_inside, ahead_rising}
-use Rattle.ftl_items.proofs.stage_items.CutLaws.{in_tops}
-use Rattle.ftl_items.proofs.stage_items.HandingLaws.{kid_of}
-use Rattle.ftl_items.proofs.stage_items.StepLaws.{distinct-items, item_here}
+use Rattle.ftl_items.proofs.stage_items.CutItems.{distinct-items, in_tops_by, item_here}
+use Rattle.ftl_items.proofs.stage_items.HandingLaws.{both, kid_of}
 use Rattle.ftl_items.proofs.stage_items.Subtrees.{preorder_has, rising-subtree}
 
 -- what stands ahead, or behind, is there
@@ -124,12 +123,12 @@ counts_to test i n less low =
 
 -- ---- items
 
-module _ (t : Forest) (grain : ℕ) (is : IsTree t) where
+module _ (is_whole : Path → Bool) (t : Forest) (is : IsTree t) where
   -- items of one pass in preorder
-  begun_ahead : (p q : Path) → Has t p → Has t q → begins t grain p ≡ true → begins t grain q ≡ true
-      → number_of t p < number_of t q → Ahead (filter (begins t grain) (preorder t)) p q
+  begun_ahead : (p q : Path) → Has t p → Has t q → begins_by is_whole p ≡ true → begins_by is_whole q ≡ true
+      → number_of t p < number_of t q → Ahead (filter (begins_by is_whole) (preorder t)) p q
   begun_ahead p q hp hq bp bq less =
-      ahead-filter (begins t grain) (preorder t) p q
+      ahead-filter (begins_by is_whole) (preorder t) p q
       (ahead_rising (number_of t) (preorder t) (rising-subtree t top is) p q (preorder_has t p hp) (preorder_has t q hq)
       less) bp bq
 
@@ -138,54 +137,49 @@ module _ (t : Forest) (grain : ℕ) (is : IsTree t) where
       let kid = kid_of p q e in
       (above_range t p q h (subst (Above p) (sym kid.is) (inl refl))).0
 
-  tops_ahead : (kind : PassKind) (p q : Path) → Contains (tops kind t grain) p → Contains (tops kind t grain) q
-      → hands_on kind p q ≡ true → Ahead (tops kind t grain) p q
+  tops_ahead : (kind : PassKind) (p q : Path) → Contains (tops_by kind is_whole t) p
+      → Contains (tops_by kind is_whole t) q → hands_on kind p q ≡ true → Ahead (tops_by kind is_whole t) p q
   tops_ahead topdown p q hp hq e =
       let some : topdown ≢ inorder = λ x. let z : ⊥ = cc in z in
-      let ip = in_tops topdown t grain some is p hp in
-      let iq = in_tops topdown t grain some is q hq in
+      let ip = in_tops_by is_whole t topdown some is p hp in
+      let iq = in_tops_by is_whole t topdown some is q hq in
       begun_ahead p q ip.0 iq.0 ip.1 iq.1 (parent_first p q iq.0 e)
   tops_ahead bottomup p q hp hq e =
       let some : bottomup ≢ inorder = λ x. let z : ⊥ = cc in z in
-      let ip = in_tops bottomup t grain some is p hp in
-      let iq = in_tops bottomup t grain some is q hq in
-      ahead-reverse (filter (begins t grain) (preorder t)) q p
+      let ip = in_tops_by is_whole t bottomup some is p hp in
+      let iq = in_tops_by is_whole t bottomup some is q hq in
+      ahead-reverse (filter (begins_by is_whole) (preorder t)) q p
       (begun_ahead q p iq.0 ip.0 iq.1 ip.1 (parent_first q p ip.0 e))
   tops_ahead inorder p q hp hq e = absurd (let z : ⊥ = grind (arith, e) in z)
 
-  module _ (passes : List Pass) where
-    both : (p q : Bool) → (p && q) ≡ true → (p ≡ true) × (q ≡ true)
-    both true q e = (refl, e)
-    both false q e = absurd (let z : ⊥ = grind arith in z)
+module _ (count : ℕ) (cuts : ℕ → PassCut) (t : Forest) (is : IsTree t) where
+  abbrev xs : List Item
+  xs = items_by count cuts t
 
-    items_ahead : (x y : Item) → Contains (items passes t grain) x → Contains (items passes t grain) y
-        → is_next passes x y ≡ true → Ahead (items passes t grain) x y
-    items_ahead x y hx hy e =
-        let ix = item_here passes t grain x hx in
-        let iy = item_here passes t grain y hy in
-        let b = both (x.pass == y.pass) (hands_on (pass_in passes x.pass).kind x.first y.first) e in
-        let same : x.pass ≡ y.pass = eqb-true x.pass y.pass b.0 in
-        let known = ix.known in
-        subst (λ m. Ahead (items passes t grain) x (item m y.first)) same
-        (ahead_inside (items_of_pass passes t grain) (range_with_len 0 (length passes)) x.pass x (item x.pass y.first)
-        (range_has 0 (length passes) x.pass (omega arith) (omega (arith, known)))
-        (ahead-map (item x.pass) (tops (pass_in passes x.pass).kind t grain) x.first y.first
-        (tops_ahead (pass_in passes x.pass).kind x.first y.first ix.there
-        (subst (λ m. Contains (tops (pass_in passes m).kind t grain) y.first) (sym same) iy.there) b.1)))
+  items_ahead : (x y : Item) → Contains xs x → Contains xs y → is_next_by (kinds_of cuts) x y ≡ true → Ahead xs x y
+  items_ahead x y hx hy e =
+      let ix = item_here count cuts t x hx in
+      let iy = item_here count cuts t y hy in
+      let b = both (x.pass == y.pass) (hands_on (cuts x.pass).kind x.first y.first) e in
+      let same : x.pass ≡ y.pass = eqb-true x.pass y.pass b.0 in
+      let known = ix.known in
+      subst (λ m. Ahead xs x (item m y.first)) same
+      (ahead_inside (items_of_cut cuts t) (range_with_len 0 count) x.pass x (item x.pass y.first)
+      (range_has 0 count x.pass (omega arith) (omega (arith, known)))
+      (ahead-map (item x.pass) (starts cuts t x.pass) x.first y.first
+      (tops_ahead (cuts x.pass).is_whole t is (cuts x.pass).kind x.first y.first ix.there
+      (subst (λ m. Contains (starts cuts t m) y.first) (sym same) iy.there) b.1)))
 
-    pub next_later : (i k : ℕ) → i < length (items passes t grain) → k < length (items passes t grain)
-        → is_next passes (get_or (items passes t grain) i no_item) (get_or (items passes t grain) k no_item) ≡ true
-        → i < k
-    next_later i k bi bk e =
-        earlier (items passes t grain) i k no_item (distinct-items passes t grain) bi bk
-        (items_ahead (get_or (items passes t grain) i no_item) (get_or (items passes t grain) k no_item)
-        (Contains-get_or (items passes t grain) i no_item bi) (Contains-get_or (items passes t grain) k no_item bk) e)
+  pub next_later : (i k : ℕ) → i < length xs → k < length xs
+      → is_next_by (kinds_of cuts) (get_or xs i no_item) (get_or xs k no_item) ≡ true → i < k
+  next_later i k bi bk e =
+      earlier xs i k no_item (distinct-items count cuts t) bi bk
+      (items_ahead (get_or xs i no_item) (get_or xs k no_item) (Contains-get_or xs i no_item bi)
+      (Contains-get_or xs k no_item bk) e)
 
-    pub predecessors_counted : (i : ℕ) → i < length (items passes t grain)
-        → Counts
-        (λ k. is_next passes (get_or (items passes t grain) k no_item) (get_or (items passes t grain) i no_item) ≡ true) i
-        (length (predecessors passes (items passes t grain) i))
-    predecessors_counted i bi =
-        counts_to
-        (λ k. is_next passes (get_or (items passes t grain) k no_item) (get_or (items passes t grain) i no_item)) i
-        (length (items passes t grain)) bi (λ k bk e. next_later k i bk bi e)
+  pub predecessors_counted : (i : ℕ) → i < length xs
+      → Counts (λ k. is_next_by (kinds_of cuts) (get_or xs k no_item) (get_or xs i no_item) ≡ true) i
+      (length (predecessors_by (kinds_of cuts) xs i))
+  predecessors_counted i bi =
+      counts_to (λ k. is_next_by (kinds_of cuts) (get_or xs k no_item) (get_or xs i no_item)) i (length xs) bi
+      (λ k bk e. next_later k i bk bi e)

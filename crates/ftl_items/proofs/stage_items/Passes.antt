@@ -15,7 +15,7 @@ listed_in passes = flat_map (λ (pass : Pass). pass.attributes) passes
 abbrev pub many : ℕ → List ℕ → ℕ
 many a xs = count_by (λ b. b == a) xs
 
-many-append : (a : ℕ) (xs ys : List ℕ) → many a (xs ++ ys) ≡ many a xs + many a ys
+pub many-append : (a : ℕ) (xs ys : List ℕ) → many a (xs ++ ys) ≡ many a xs + many a ys
 many-append a xs ys = sum_by-append (λ b. cond (b == a) 1 0) xs ys
 
 in_later : (passes : List Pass) (n a : ℕ) → Contains (get_or passes n empty_pass).attributes a
@@ -25,7 +25,7 @@ in_later (pass ∷ passes) zero a h = Contains-append_left pass.attributes (list
 in_later (pass ∷ passes) (suc n) a h =
     Contains-append_right pass.attributes (listed_in passes) a (in_later passes n a h)
 
-entry_there : (passes : List Pass) (a : ℕ) → has_entry passes a ≡ true → Contains (listed_in passes) a
+pub entry_there : (passes : List Pass) (a : ℕ) → has_entry passes a ≡ true → Contains (listed_in passes) a
 entry_there [] a e = absurd (let z : ⊥ = grind arith in z)
 entry_there (pass ∷ passes) a e =
     elim (is_listed pass.attributes a) as
@@ -74,7 +74,7 @@ pass_here (pass ∷ passes) (suc n) a few h =
     ]
     refl
 
-in_stages : (stages : Schedule) (m n a : ℕ) → Contains (pass_at stages m n).attributes a
+pub in_stages : (stages : Schedule) (m n a : ℕ) → Contains (pass_at stages m n).attributes a
     → Contains (entries stages) a
 in_stages [] m n a h = absurd (nothing_in a h)
 in_stages (passes ∷ stages) zero n a h =

@@ -1,5 +1,5 @@
 -- The words that close a stage fit the next.
-use Rattle.std.proofs.Common.{◌≡◌, ℕ, suc, ◌<◌, ◌≤◌, ◌==◌, true, false, if◌then◌else◌, ltb, ltb-true, ltb-false, refl, sym, ◌∙◌, ap, ap₂, subst, arith, eqb-true, eq-eqb, List, get_or}
+use Rattle.std.proofs.Common.{◌≡◌, ℕ, suc, ◌<◌, ◌≤◌, ◌==◌, true, false, if◌then◌else◌, ltb, ltb-true, ltb-false, refl, sym, ◌∙◌, ap, ap₂, subst, arith, eqb-true, eq-eqb, List, get_or, length}
 use Rattle.ftl_cells.specs.shared.Shape.{WorkShape, listed}
 use Rattle.ftl_cells.specs.shared.State.{AreFirst, AreLast, first_word_of, last_word_of}
 use Rattle.ftl_cells.specs.declared.shared.kind.CellKind.TheVariants.{Given, Target, Later}
@@ -9,7 +9,8 @@ use Rattle.ftl_model.specs.layout.Table.{instance_count, instances}
 use Rattle.ftl_model.specs.layout.Tree.{Forest}
 use Rattle.ftl_model.specs.layout.Values.{Value, word_of_value}
 use Rattle.ftl_order.specs.orders.Schedule.{Schedule, placing_of}
-use Rattle.ftl_items.specs.stage_items.StageWork.{kind_by, kind_by_stage, no_instance, stage_work}
+use Rattle.ftl_items.specs.stage_items.StageWork.{kind_by, kind_by_stage, kind_of, no_instance, stage_work, work_by}
+use Rattle.ftl_items.specs.stage_items.Items.{PassForm, form_of, passes_of}
 
 pub ltb_is : (n m : ℕ) → n < m → ltb n m ≡ true
 ltb_is n m less =
@@ -69,13 +70,14 @@ sort_words inherited n k word = stage_words n k word
 sort_words synthesized n k word = stage_words n k word
 sort_words local n k word = stage_words n k word
 
-pub words_fit : (g : AttributeGrammar) (s : Schedule) (t : Forest) (grain stage : ℕ) (solution : List Value)
-    (reads stack more_reads more_stack : ℕ) (words : List ℕ)
-    → AreLast (listed (stage_work g s t grain stage solution reads stack)) words
-    → AreFirst (listed (stage_work g s t grain (suc stage) solution more_reads more_stack)) words
-words_fit g s t grain stage solution reads stack more_reads more_stack words last =
-    let w : WorkShape = stage_work g s t grain stage solution reads stack in
-    let v : WorkShape = stage_work g s t grain (suc stage) solution more_reads more_stack in
+-- of any passes in either stage
+pub form_words_fit : (g : AttributeGrammar) (s : Schedule) (t : Forest) (stage count more : ℕ)
+    (forms more_forms : ℕ → PassForm) (solution : List Value) (reads stack more_reads more_stack : ℕ) (words : List ℕ)
+    → AreLast (listed (work_by g t count forms (kind_of g s stage) solution reads stack)) words
+    → AreFirst (listed (work_by g t more more_forms (kind_of g s (suc stage)) solution more_reads more_stack)) words
+form_words_fit g s t stage count more forms more_forms solution reads stack more_reads more_stack words last =
+    let w : WorkShape = work_by g t count forms (kind_of g s stage) solution reads stack in
+    let v : WorkShape = work_by g t more more_forms (kind_of g s (suc stage)) solution more_reads more_stack in
     record {
       count = last.count ∙ cell_total-listed w ∙ sym (cell_total-listed v);
       each = λ c below.
@@ -86,3 +88,11 @@ words_fit g s t grain stage solution reads stack more_reads more_stack words las
           ∙ sort_words (g.sort i.attribute) (placing_of s i.attribute).stage stage (word_of_value (w.value c))
           ∙ sym (ap₂ first_word_of (kind_at-listed v c inside) (ap word_of_value (solution_at-listed v c inside)));
     }
+
+pub words_fit : (g : AttributeGrammar) (s : Schedule) (t : Forest) (grain stage : ℕ) (solution : List Value)
+    (reads stack more_reads more_stack : ℕ) (words : List ℕ)
+    → AreLast (listed (stage_work g s t grain stage solution reads stack)) words
+    → AreFirst (listed (stage_work g s t grain (suc stage) solution more_reads more_stack)) words
+words_fit g s t grain stage =
+    form_words_fit g s t stage (length (passes_of s stage)) (length (passes_of s (suc stage))) (form_of g s stage t grain)
+    (form_of g s (suc stage) t grain)

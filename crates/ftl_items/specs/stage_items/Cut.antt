@@ -9,10 +9,6 @@ use Rattle.ftl_order.specs.orders.Schedule.{PassKind, bottomup, inorder, topdown
 abbrev pub subtree : Forest → Path → List Path
 subtree t p = p ∷ nodes_below p (λ c. 0) (below_of (at t p))
 
--- the tree at a node has at most so many nodes
-abbrev pub is_small : Forest → (grain : ℕ) → Path → Bool
-is_small t grain p = nat_le (size_at t p) grain
-
 -- neither the node nor one above it passes the test of the nodes that are one item with all below them
 abbrev pub is_open : (is_whole : Path → Bool) → Path → Bool
 is_open is_whole top = not (is_whole top)
@@ -28,6 +24,28 @@ begins_by is_whole (down child kid above) = is_open is_whole above
 abbrev pub nodes_by : (is_whole : Path → Bool) → Forest → Path → List Path
 nodes_by is_whole t p = if is_whole p then subtree t p else p ∷ []
 
+-- the nodes at which the items of a pass begin, in the order of the items: preorder for topdown, reverse preorder for
+-- bottomup; an inorder pass is one item
+abbrev pub tops_by : PassKind → (is_whole : Path → Bool) → Forest → List Path
+tops_by topdown is_whole t = filter (begins_by is_whole) (preorder t)
+tops_by bottomup is_whole t = reverse (filter (begins_by is_whole) (preorder t))
+tops_by inorder is_whole t = top ∷ []
+
+-- how a pass is cut into items: its kind, and which nodes are one item with all below them
+pub record PassCut : Type 0 where
+  pub kind : PassKind
+  pub is_whole : Path → Bool
+
+-- the nodes at which the items of the pass of a number begin, where the passes of a stage are cut so
+abbrev pub starts : (cuts : ℕ → PassCut) → Forest → (pass : ℕ) → List Path
+starts cuts t m = tops_by (cuts m).kind (cuts m).is_whole t
+
+-- ---- where small trees are one item
+
+-- the tree at a node has at most so many nodes
+abbrev pub is_small : Forest → (grain : ℕ) → Path → Bool
+is_small t grain p = nat_le (size_at t p) grain
+
 -- an item begins at this node: no node above it has a small tree
 abbrev pub begins : Forest → (grain : ℕ) → Path → Bool
 begins t grain p = begins_by (is_small t grain) p
@@ -36,9 +54,6 @@ begins t grain p = begins_by (is_small t grain) p
 abbrev pub nodes_of : Forest → (grain : ℕ) → Path → List Path
 nodes_of t grain p = nodes_by (is_small t grain) t p
 
--- the nodes at which the items of a pass begin, in the order of the items: preorder for topdown, reverse preorder for
--- bottomup; an inorder pass is one item
+-- the nodes at which the items of a pass begin
 abbrev pub tops : PassKind → Forest → (grain : ℕ) → List Path
-tops topdown t grain = filter (begins t grain) (preorder t)
-tops bottomup t grain = reverse (filter (begins t grain) (preorder t))
-tops inorder t grain = top ∷ []
+tops kind t grain = tops_by kind (is_small t grain) t

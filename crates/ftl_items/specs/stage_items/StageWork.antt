@@ -11,7 +11,8 @@ use Rattle.ftl_order.specs.orders.Schedule.{Schedule, placing_of}
 use Rattle.ftl_cells.specs.shared.Shape.{WorkShape}
 use Rattle.ftl_cells.specs.declared.shared.kind.CellKind.{CellKind}
 use Rattle.ftl_cells.specs.declared.shared.kind.CellKind.TheVariants.{Given, Target, Later}
-use Rattle.ftl_items.specs.stage_items.Items.{Item, items, nexts, no_item, passes_of, predecessors, steps_of_item}
+use Rattle.ftl_items.specs.stage_items.Items.{Item, PassForm, cuts_of, form_of, item_steps, items, items_by, kinds_of}
+use Rattle.ftl_items.specs.stage_items.Items.{nexts_by, no_item, passes_of, predecessors_by, steps_of_item}
 
 -- no instance of a tree
 abbrev pub no_instance : Instance
@@ -31,6 +32,48 @@ kind_by local its stage = kind_by_stage its stage
 -- the kind of an instance's cell
 abbrev pub kind_of : AttributeGrammar → Schedule → (stage : ℕ) → Instance → CellKind
 kind_of g s stage i = kind_by (g.sort i.attribute) (placing_of s i.attribute).stage stage
+
+-- the work of a stage of so many passes of these forms, whose cells are of these kinds
+module _ (g : AttributeGrammar) (t : Forest) (count : ℕ) (forms : ℕ → PassForm) where
+  -- the items of the stage
+  abbrev pub form_items : List Item
+  form_items = items_by count (cuts_of forms) t
+
+  -- the item of this number
+  abbrev pub form_item_at : ℕ → Item
+  form_item_at i = slice_index_or form_items i no_item
+
+  -- the steps of the item of this number
+  abbrev pub form_steps_in : ℕ → List Instance
+  form_steps_in i = item_steps forms t (form_item_at i)
+
+  -- a step of an item
+  abbrev pub form_step_at : (i j : ℕ) → Instance
+  form_step_at i j = slice_index_or (form_steps_in i) j no_instance
+
+  -- what a step reads
+  abbrev pub form_reads_at : (i j : ℕ) → List Instance
+  form_reads_at i j = reads_of g t (form_step_at i j)
+
+  -- the work, with this solution and these limits
+  abbrev pub work_by : (kind_at : Instance → CellKind) → (solution : List Value) → (max_reads max_stack : ℕ)
+      → WorkShape
+  work_by kind_at solution max_reads max_stack =
+      record {
+        cells = instance_count g t;
+        kind = λ c. kind_at (slice_index_or (instances g t) c no_instance);
+        value = λ c. slice_index_or solution c overflow;
+        items = length form_items;
+        preds = λ i. length (predecessors_by (kinds_of (cuts_of forms)) form_items i);
+        next_count = λ i. length (nexts_by (kinds_of (cuts_of forms)) form_items i);
+        next = λ i k. slice_index (nexts_by (kinds_of (cuts_of forms)) form_items i) k;
+        steps = λ i. length (form_steps_in i);
+        target = λ i j. instance_number g t (form_step_at i j);
+        read_count = λ i j. length (form_reads_at i j);
+        read = λ i j r. instance_number g t (slice_index_or (form_reads_at i j) r no_instance);
+        max_reads = max_reads;
+        max_stack = max_stack;
+      }
 
 module _ (g : AttributeGrammar) (s : Schedule) (t : Forest) (grain stage : ℕ) where
   -- the items of the stage
@@ -56,18 +99,5 @@ module _ (g : AttributeGrammar) (s : Schedule) (t : Forest) (grain stage : ℕ) 
   -- the work of the stage, with this solution and these limits
   abbrev pub stage_work : (solution : List Value) → (max_reads max_stack : ℕ) → WorkShape
   stage_work solution max_reads max_stack =
-      record {
-        cells = instance_count g t;
-        kind = λ c. kind_of g s stage (slice_index_or (instances g t) c no_instance);
-        value = λ c. slice_index_or solution c overflow;
-        items = length stage_items;
-        preds = λ i. length (predecessors (passes_of s stage) stage_items i);
-        next_count = λ i. length (nexts (passes_of s stage) stage_items i);
-        next = λ i k. slice_index (nexts (passes_of s stage) stage_items i) k;
-        steps = λ i. length (steps_in i);
-        target = λ i j. instance_number g t (step_at i j);
-        read_count = λ i j. length (reads_at i j);
-        read = λ i j r. instance_number g t (slice_index_or (reads_at i j) r no_instance);
-        max_reads = max_reads;
-        max_stack = max_stack;
-      }
+      work_by g t (length (passes_of s stage)) (form_of g s stage t grain) (kind_of g s stage) solution max_reads
+      max_stack

@@ -6,6 +6,7 @@
 //! `ftl_cells::shared`; `specs/stage_items/Limits.antt`, how much a stage reads.
 
 mod cut_laws;
+mod form_laws;
 mod handing_laws;
 mod later_laws;
 mod read_laws;
@@ -17,6 +18,7 @@ mod worked_items;
 mod worked_steps;
 
 pub use cut_laws::cuts;
+pub use form_laws::forms;
 pub use handing_laws::handings;
 pub use later_laws::next_items;
 pub use read_laws::reads;

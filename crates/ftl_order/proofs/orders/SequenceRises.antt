@@ -17,9 +17,14 @@ use Rattle.ftl_order.proofs.orders.LegalOrders.{computed}
 use Rattle.ftl_order.proofs.orders.Owners.{class_distinct}
 use Rattle.ftl_order.proofs.orders.SequenceAddresses.{EarlierAddress, Goes, RisesBelow, StillToCome, address_by, at_kid, goes_before, inherited_goes, into_block, into_kid, is_keyed, key_before, kid_first, local_goes, synthesized_goes}
 
-module _ (g : AttributeGrammar) (law : IsLawful g) (at : Placing) (x : SchedulePlace)
-    (own : (k a b : ℕ) → k < g.class_count → Contains (attributes_of g k) a → Contains (attributes_of g k) b
-    → g.sort a ≢ input → g.sort b ≢ input → IsOnePass (at a) (at b) → (at a).index ≡ (at b).index → a ≡ b) where
+-- no two computed attributes of a class that stand in the pass of this place have one place in its list
+abbrev pub OwnPlaces : AttributeGrammar → Placing → SchedulePlace → Type 0
+OwnPlaces g at x =
+    (k a b : ℕ) → k < g.class_count → Contains (attributes_of g k) a → Contains (attributes_of g k) b
+    → g.sort a ≢ input → g.sort b ≢ input → IsOnePass (at a) x → IsOnePass (at b) x → (at a).index ≡ (at b).index
+    → a ≡ b
+
+module _ (g : AttributeGrammar) (law : IsLawful g) (at : Placing) (x : SchedulePlace) (own : OwnPlaces g at x) where
   abbrev pub Earlier : Instance → Instance → Type 0
   Earlier i j = EarlierAddress g at i j
 
@@ -35,7 +40,7 @@ module _ (g : AttributeGrammar) (law : IsLawful g) (at : Placing) (x : ScheduleP
       let ka = is_keyed g at x sort k a ha in
       let kb = is_keyed g at x sort k b hb in
       own k a b known ka.of kb.of (λ e. computed (sym ka.sort_is ∙ e)) (λ e. computed (sym kb.sort_is ∙ e))
-      (ka.pass.0 ∙ sym kb.pass.0, ka.pass.1 ∙ sym kb.pass.1) same)
+      ka.pass kb.pass same)
 
   pub steps_rise : (sort : Sort) (k : ℕ) (q : Path) → k < g.class_count → sort ≢ input
       → Rising Earlier (steps_at g at x sort k q)

@@ -1,12 +1,12 @@
 -- The phase of an item: what lies in a range, and what comes before what.
-use Rattle.std.proofs.Common.{◌≡◌, ◌≢◌, ◌⊎◌, ℕ, ◌+◌, ◌*◌, ◌/◌, ◌<◌, ◌≤◌, true, false, if◌then◌else◌, leb, leb-true, refl, sym, ap, subst, inl, inr, arith}
+use Rattle.std.proofs.Common.{◌≡◌, ◌≢◌, ◌⊎◌, ℕ, ◌+◌, ◌*◌, ◌/◌, ◌<◌, ◌≤◌, Bool, true, false, if◌then◌else◌, leb, leb-true, refl, sym, ap, subst, inl, inr, arith}
 use Rattle.std.proofs.Math.Nat.{div-mul-le_self}
 use Rattle.ftl_model.specs.layout.AttributeGrammar.{AttributeGrammar}
 use Rattle.ftl_model.specs.layout.Path.{Path, down}
 use Rattle.ftl_model.specs.layout.Table.{first_instance}
 use Rattle.ftl_model.specs.layout.Tree.{Forest}
 use Rattle.ftl_order.specs.orders.Schedule.{PassKind, bottomup, inorder, topdown}
-use Rattle.ftl_items.specs.stage_items.Cut.{begins, is_small}
+use Rattle.ftl_items.specs.stage_items.Cut.{begins_by}
 use Rattle.ftl_items.specs.stage_items.Items.{hands_on}
 use Rattle.ftl_items.proofs.stage_items.HandingLaws.{kid_of}
 use Rattle.ftl_items.proofs.stage_items.Homes.{open_all}
@@ -60,49 +60,49 @@ module _ (g : AttributeGrammar) (t : Forest) (size : ℕ) (p : Path) where
       let high = takes.end in
       (omega (arith, low, from), omega (arith, high, to))
 
-module _ (g : AttributeGrammar) (t : Forest) (grain size : ℕ) where
-  -- an item in a range is a small tree of a topdown or bottomup pass
+module _ (g : AttributeGrammar) (is_whole : Path → Bool) (t : Forest) (size : ℕ) where
+  -- an item in a range is a whole tree of a topdown or bottomup pass
   pub record IsRanged (kind : PassKind) (b : ℕ) (p : Path) : Type 0 where
     pub some : kind ≢ inorder
-    pub small : is_small t grain p ≡ true
+    pub whole : is_whole p ≡ true
     pub takes : TakesRange g t size b p
 
   tree_ranged : (kind : PassKind) (alone : Phase) (p : Path) (b : ℕ) → kind ≢ inorder → (alone ≡ Range b → ⊥)
-      → (if is_small t grain p then range_phase g t size p else alone) ≡ Range b → IsRanged kind b p
+      → (if is_whole p then range_phase g t size p else alone) ≡ Range b → IsRanged kind b p
   tree_ranged kind alone p b some other e =
-      (elim (is_small t grain p) as
-      (λ c. (is_small t grain p ≡ c) → (if c then range_phase g t size p else alone) ≡ Range b → IsRanged kind b p) [
-        | true ↦ λ f e. record { some = some; small = f; takes = takes_range g t size p b e }
+      (elim (is_whole p) as
+      (λ c. (is_whole p ≡ c) → (if c then range_phase g t size p else alone) ≡ Range b → IsRanged kind b p) [
+        | true ↦ λ f e. record { some = some; whole = f; takes = takes_range g t size p b e }
         | false ↦ λ f e. absurd (other e)
       ]) refl e
 
-  pub ranged : (kind : PassKind) (p : Path) (b : ℕ) → item_phase g t grain size kind p ≡ Range b → IsRanged kind b p
+  pub ranged : (kind : PassKind) (p : Path) (b : ℕ) → item_phase g is_whole t size kind p ≡ Range b → IsRanged kind b p
   ranged topdown p b e =
       tree_ranged topdown First p b (λ e. let z : ⊥ = cc in z) (λ e. let z : ⊥ = cc in z) e
   ranged bottomup p b e =
       tree_ranged bottomup Last p b (λ e. let z : ⊥ = cc in z) (λ e. let z : ⊥ = cc in z) e
   ranged inorder p b e = absurd (let z : ⊥ = cc in z)
 
-  -- an item at a kid's node begins only where the node's own tree is large
-  alone_at : (alone : Phase) (c k : ℕ) (p : Path) → begins t grain (down c k p) ≡ true
-      → (if is_small t grain p then range_phase g t size p else alone) ≡ alone
+  -- an item at a kid's node begins only where the node's own tree is not one item
+  alone_at : (alone : Phase) (c k : ℕ) (p : Path) → begins_by is_whole (down c k p) ≡ true
+      → (if is_whole p then range_phase g t size p else alone) ≡ alone
   alone_at alone c k p begun =
-      ap (λ b. if b then range_phase g t size p else alone) (open_all (is_small t grain) p begun p (inl refl))
+      ap (λ b. if b then range_phase g t size p else alone) (open_all is_whole p begun p (inl refl))
 
   abbrev IsOrdered : (x y : Phase) → Type 0
   IsOrdered x y = (x ≡ y) ⊎ ComesBefore x y
 
   pub ordered : (kind : PassKind) (p q : Path)
-      → (kind ≢ inorder → (begins t grain p ≡ true) × (begins t grain q ≡ true))
-      → hands_on kind p q ≡ true → IsOrdered (item_phase g t grain size kind p) (item_phase g t grain size kind q)
+      → (kind ≢ inorder → (begins_by is_whole p ≡ true) × (begins_by is_whole q ≡ true))
+      → hands_on kind p q ≡ true → IsOrdered (item_phase g is_whole t size kind p) (item_phase g is_whole t size kind q)
   ordered topdown p q begun e =
       let kid = kid_of p q e in
-      let there = subst (λ r. begins t grain r ≡ true) kid.is (begun (λ e. let z : ⊥ = cc in z)).1 in
-      subst (λ x. IsOrdered x (item_phase g t grain size topdown q)) (sym (alone_at First kid.child kid.kid p there))
-      (first_or_later (item_phase g t grain size topdown q))
+      let there = subst (λ r. begins_by is_whole r ≡ true) kid.is (begun (λ e. let z : ⊥ = cc in z)).1 in
+      subst (λ x. IsOrdered x (item_phase g is_whole t size topdown q)) (sym (alone_at First kid.child kid.kid p there))
+      (first_or_later (item_phase g is_whole t size topdown q))
   ordered bottomup p q begun e =
       let kid = kid_of q p e in
-      let there = subst (λ r. begins t grain r ≡ true) kid.is (begun (λ e. let z : ⊥ = cc in z)).0 in
-      subst (IsOrdered (item_phase g t grain size bottomup p)) (sym (alone_at Last kid.child kid.kid q there))
-      (last_or_earlier (item_phase g t grain size bottomup p))
+      let there = subst (λ r. begins_by is_whole r ≡ true) kid.is (begun (λ e. let z : ⊥ = cc in z)).0 in
+      subst (IsOrdered (item_phase g is_whole t size bottomup p)) (sym (alone_at Last kid.child kid.kid q there))
+      (last_or_earlier (item_phase g is_whole t size bottomup p))
   ordered inorder p q begun e = absurd (let z : ⊥ = grind arith in z)

@@ -21,11 +21,11 @@ use Rattle.ftl_order.specs.orders.Reads.{equation_reads, rule_reads}
 use Rattle.ftl_order.specs.orders.Schedule.{Pass, PassKind, Schedule, inorder}
 use Rattle.ftl_order.proofs.orders.Kids.{root_there}
 use Rattle.ftl_order.proofs.orders.TreeEquations.{inside_by}
-use Rattle.ftl_items.specs.stage_items.Cut.{begins, subtree, tops}
-use Rattle.ftl_items.specs.stage_items.Items.{Item, hands_on, is_next, item, items, items_of_pass, nexts, no_item, pass_in, passes_of}
+use Rattle.ftl_items.specs.stage_items.Cut.{PassCut, begins_by, is_small, starts, subtree}
+use Rattle.ftl_items.specs.stage_items.Items.{Item, cut_of, hands_on, is_next, item, items, items_by, items_of_cut, nexts, no_item, pass_in, passes_of}
 use Rattle.ftl_items.specs.stage_items.StageWork.{no_instance, reads_at, stage_work, step_at, steps_in}
-use Rattle.ftl_items.proofs.stage_items.CutLaws.{in_tops}
-use Rattle.ftl_items.proofs.stage_items.StepLaws.{ItemHere, item_here, step_here}
+use Rattle.ftl_items.proofs.stage_items.CutItems.{ItemHere, in_tops_by, item_here}
+use Rattle.ftl_items.proofs.stage_items.StepLaws.{step_here}
 use Rattle.ftl_items.proofs.stage_items.Subtrees.{in_subtree}
 use Rattle.ftl_items.specs.solution.Solution.{solution}
 use Rattle.ftl_plan.specs.laws.StageMeanings.{CanBePlanned, stage_meaning}
@@ -82,21 +82,27 @@ read_below g t synthesized p a j h = rule_reads_below t (rule_of g t synthesized
 read_below g t local p a j h = rule_reads_below t (rule_of g t local p a) p 0 j h
 
 -- each phase is that of the item of its number
-module _ (g : AttributeGrammar) (t : Forest) (grain size : ℕ) (passes : List Pass) where
+module _ (g : AttributeGrammar) (cuts : ℕ → PassCut) (t : Forest) (size count : ℕ) where
   abbrev phase_in : Item → Phase
-  phase_in x = item_phase g t grain size (pass_in passes x.pass).kind x.first
+  phase_in x = item_phase g (cuts x.pass).is_whole t size (cuts x.pass).kind x.first
 
-  phases_are : phases_to g t grain size passes (length passes) ≡ map phase_in (items passes t grain)
+  phases_are : phases_to g cuts t size count ≡ map phase_in (items_by count cuts t)
   phases_are =
       sym
-      (map-flat_map phase_in (items_of_pass passes t grain) (range_with_len 0 (length passes))
-      ∙ ap (λ h. flat_map h (range_with_len 0 (length passes)))
-      (fun_ext (λ m. map-map phase_in (item m) (tops (pass_in passes m).kind t grain))))
+      (map-flat_map phase_in (items_of_cut cuts t) (range_with_len 0 count)
+      ∙ ap (λ h. flat_map h (range_with_len 0 count)) (fun_ext (λ m. map-map phase_in (item m) (starts cuts t m))))
 
 module _ (g : AttributeGrammar) (s : Schedule) (t : Forest) (can : CanBePlanned g s t)
     (grain stage max_stack : ℕ) (phases : Phases) where
   abbrev passes : List Pass
   passes = passes_of s stage
+
+  abbrev cuts : ℕ → PassCut
+  cuts = cut_of passes t grain
+
+  -- the nodes that are one item with all below them
+  abbrev is_whole : Path → Bool
+  is_whole = is_small t grain
 
   abbrev xs : List Item
   xs = items passes t grain
@@ -116,20 +122,20 @@ module _ (g : AttributeGrammar) (s : Schedule) (t : Forest) (can : CanBePlanned 
   rooted : IsTree t
   rooted = root_there g t can.is_tree
 
-  here : (i : ℕ) → i < length xs → ItemHere passes t grain (x_at i)
-  here i below = item_here passes t grain (x_at i) (Contains-get_or xs i no_item below)
+  here : (i : ℕ) → i < length xs → ItemHere (length passes) cuts t (x_at i)
+  here i below = item_here (length passes) cuts t (x_at i) (Contains-get_or xs i no_item below)
 
-  module _ (are : phases.phases.items ≡ phases_to g t grain phases.size passes (length passes)) where
-    all_are : phases.phases.items ≡ map (phase_in g t grain phases.size passes) xs
-    all_are = are ∙ phases_are g t grain phases.size passes
+  module _ (are : phases.phases.items ≡ phases_to g cuts t phases.size (length passes)) where
+    all_are : phases.phases.items ≡ map (phase_in g cuts t phases.size (length passes)) xs
+    all_are = are ∙ phases_are g cuts t phases.size (length passes)
 
     count : length phases.phases.items ≡ length xs
-    count = ap length all_are ∙ length-map xs (phase_in g t grain phases.size passes)
+    count = ap length all_are ∙ length-map xs (phase_in g cuts t phases.size (length passes))
 
-    phase_is : (i : ℕ) → i < length xs → phase_at phases i ≡ item_phase g t grain phases.size (kind_at i) (x_at i).first
+    phase_is : (i : ℕ) → i < length xs → phase_at phases i ≡ item_phase g is_whole t phases.size (kind_at i) (x_at i).first
     phase_is i below =
         ap (λ ys. get_or ys i Last) all_are
-        ∙ get_or-map (phase_in g t grain phases.size passes) xs i no_item Last below
+        ∙ get_or-map (phase_in g cuts t phases.size (length passes)) xs i no_item Last below
 
     -- an item with a range is one of the stage
     item_known : (i b : ℕ) → phase_at phases i ≡ Range b → i < length xs
@@ -148,13 +154,13 @@ module _ (g : AttributeGrammar) (s : Schedule) (t : Forest) (can : CanBePlanned 
         refl
 
     is_ranged : (i b : ℕ) → phase_at phases i ≡ Range b
-        → IsRanged g t grain phases.size (kind_at i) b (x_at i).first
+        → IsRanged g is_whole t phases.size (kind_at i) b (x_at i).first
     is_ranged i b e =
-        ranged g t grain phases.size (kind_at i) (x_at i).first b (sym (phase_is i (item_known i b e)) ∙ e)
+        ranged g is_whole t phases.size (kind_at i) (x_at i).first b (sym (phase_is i (item_known i b e)) ∙ e)
 
     first_there : (i b : ℕ) → phase_at phases i ≡ Range b → Has t (x_at i).first
     first_there i b e =
-        (in_tops (kind_at i) t grain (is_ranged i b e).some rooted (x_at i).first (here i (item_known i b e)).there).0
+        (in_tops_by is_whole t (kind_at i) (is_ranged i b e).some rooted (x_at i).first (here i (item_known i b e)).there).0
 
     -- ---- a range has what its items fill
 
@@ -170,12 +176,12 @@ module _ (g : AttributeGrammar) (s : Schedule) (t : Forest) (can : CanBePlanned 
         let q = step_at g s t grain stage i j in
         let of = is_ranged i b e in
         let step =
-        step_here g s t can.law can.ordered.once can.is_tree grain stage x q (
+        step_here g s t can.law can.ordered can.is_tree grain stage x q (
           Contains-get_or xs i no_item has.item,
           Contains-get_or (steps_in g s t grain stage i) j no_instance has.step,
         ) in
         let held : Contains (subtree t x.first) (turn_of g q).visit =
-        subst (λ c. Contains (if c then subtree t x.first else x.first ∷ []) (turn_of g q).visit) of.small
+        subst (λ c. Contains (if c then subtree t x.first else x.first ∷ []) (turn_of g q).visit) of.whole
         (step.held of.some) in
         record {
           valid = step.step.0;
@@ -228,8 +234,8 @@ module _ (g : AttributeGrammar) (s : Schedule) (t : Forest) (can : CanBePlanned 
         let r = (in_range_from 0 (length xs) i f.0).1 in
         ((let z : i < length xs = omega (arith, r) in z), f.1)
 
-    begun : (i : ℕ) → i < length xs → kind_at i ≢ inorder → begins t grain (x_at i).first ≡ true
-    begun i below some = (in_tops (kind_at i) t grain some rooted (x_at i).first (here i below).there).1
+    begun : (i : ℕ) → i < length xs → kind_at i ≢ inorder → begins_by is_whole (x_at i).first ≡ true
+    begun i below some = (in_tops_by is_whole t (kind_at i) some rooted (x_at i).first (here i below).there).1
 
     handing : (p i : ℕ) → IsNext m p i
         → (phase_at phases p ≡ phase_at phases i) ⊎ ComesBefore (phase_at phases p) (phase_at phases i)
@@ -240,14 +246,14 @@ module _ (g : AttributeGrammar) (s : Schedule) (t : Forest) (can : CanBePlanned 
         both ((x_at p).pass == (x_at i).pass) (hands_on (kind_at p) (x_at p).first (x_at i).first) known.1 in
         let kind : kind_at p ≡ kind_at i =
         ap (λ n. (pass_in passes n).kind) (eqb-true (x_at p).pass (x_at i).pass parts.0) in
-        let same : phase_at phases i ≡ item_phase g t grain phases.size (kind_at p) (x_at i).first =
-        phase_is i known.0 ∙ ap (λ k. item_phase g t grain phases.size k (x_at i).first) (sym kind) in
+        let same : phase_at phases i ≡ item_phase g is_whole t phases.size (kind_at p) (x_at i).first =
+        phase_is i known.0 ∙ ap (λ k. item_phase g is_whole t phases.size k (x_at i).first) (sym kind) in
         subst (λ x. (x ≡ phase_at phases i) ⊎ ComesBefore x (phase_at phases i)) (sym (phase_is p comes.known))
         (subst
-        (λ y. (item_phase g t grain phases.size (kind_at p) (x_at p).first ≡ y)
-        ⊎ ComesBefore (item_phase g t grain phases.size (kind_at p) (x_at p).first) y)
+        (λ y. (item_phase g is_whole t phases.size (kind_at p) (x_at p).first ≡ y)
+        ⊎ ComesBefore (item_phase g is_whole t phases.size (kind_at p) (x_at p).first) y)
         (sym same)
-        (ordered g t grain phases.size (kind_at p) (x_at p).first (x_at i).first
+        (ordered g is_whole t phases.size (kind_at p) (x_at p).first (x_at i).first
         (λ some. (begun p comes.known some, begun i known.0 (subst (λ k. k ≢ inorder) kind some))) parts.1))
 
     pub can_take : 0 < phases.size → instance_count g t < phases.ranges * phases.size → CanTake m phases

@@ -1,12 +1,12 @@
 -- Which phase each item of a stage takes, where its cells are cut into ranges of one size.
-use Rattle.std.specs.Prelude.{◌≡◌, ℕ, ◌+◌, ◌*◌, ◌/◌, nat_le, if◌then◌else◌, List, flat_map, map, sum_by, take}
+use Rattle.std.specs.Prelude.{◌≡◌, ℕ, ◌+◌, ◌*◌, ◌/◌, Bool, nat_le, if◌then◌else◌, List, flat_map, map, sum_by, take}
 use Rattle.std.specs.List.{range_with_len}
 use Rattle.ftl_deps.specs.reads.Meant.{meant}
 use Rattle.ftl_cursors.specs.items.StageItems.{passes_in, tree_in}
 use Rattle.ftl_cursors.specs.declared.items.columns.ItemRows.{ItemRows}
 use Rattle.ftl_cursors.specs.declared.items.view.StageItems.{StageItems}
-use Rattle.ftl_items.specs.stage_items.Cut.{is_small, tops}
-use Rattle.ftl_items.specs.stage_items.Items.{pass_in, passes_of}
+use Rattle.ftl_items.specs.stage_items.Cut.{PassCut, tops_by}
+use Rattle.ftl_items.specs.stage_items.Items.{passes_of}
 use Rattle.ftl_model.specs.layout.AttributeGrammar.{AttributeGrammar}
 use Rattle.ftl_model.specs.layout.Path.{Path, number_of, preorder, size_at}
 use Rattle.ftl_model.specs.layout.Table.{first_instance, width_at}
@@ -33,12 +33,12 @@ range_phase g t size p =
     if nat_le (cells_end g t p) ((first_instance g t p / size + 1) * size) then Range (first_instance g t p / size)
     else Last
 
-module _ (g : AttributeGrammar) (t : Forest) (grain size : ℕ) where
-  -- of a small tree its range, and of a node alone another phase
+module _ (g : AttributeGrammar) (is_whole : Path → Bool) (t : Forest) (size : ℕ) where
+  -- of a tree that is one item its range, and of a node alone another phase
   abbrev pub tree_phase : (alone : Phase) → Path → Phase
-  tree_phase alone p = if is_small t grain p then range_phase g t size p else alone
+  tree_phase alone p = if is_whole p then range_phase g t size p else alone
 
-  -- The phase of the item that begins at a node. A node alone comes before the small trees below it in a topdown pass,
+  -- The phase of the item that begins at a node. A node alone comes before the whole trees below it in a topdown pass,
   -- and behind them in a bottomup pass.
   abbrev pub item_phase : PassKind → Path → Phase
   item_phase topdown p = tree_phase First p
@@ -47,11 +47,12 @@ module _ (g : AttributeGrammar) (t : Forest) (grain size : ℕ) where
 
   -- the phases of the items of a pass
   abbrev pub phases_of_pass : PassKind → List Phase
-  phases_of_pass kind = map (item_phase kind) (tops kind t grain)
+  phases_of_pass kind = map (item_phase kind) (tops_by kind is_whole t)
 
-  -- those of the items of the first so many passes
-  abbrev pub phases_to : List order.Pass → ℕ → List Phase
-  phases_to passes n = flat_map (λ m. phases_of_pass (pass_in passes m).kind) (range_with_len 0 n)
+-- those of the items of the first so many passes
+abbrev pub phases_to : AttributeGrammar → (cuts : ℕ → PassCut) → Forest → (size : ℕ) → ℕ → List Phase
+phases_to g cuts t size n =
+    flat_map (λ m. phases_of_pass g (cuts m).is_whole t size (cuts m).kind) (range_with_len 0 n)
 
 -- each stage of a plan that has these items can take these phases
 abbrev pub CanBeTaken : StageItems → Phases → Type 0

@@ -3,6 +3,7 @@ ghost use Rattle.std.specs.Prelude.{◌≡◌, ◌<◌, ◌≤◌};
 ghost use Rattle.ftl_deps.specs.reads.Meant.{meant};
 ghost use Rattle.ftl_model.specs.layout.Path.{node_at};
 ghost use Rattle.ftl_model.specs.layout.Tree.{size as node_total};
+ghost use Rattle.ftl_cursors.specs.items.RowsCut.{is_whole_in};
 ghost use Rattle.ftl_cursors.specs.items.StageItems.{tree_in};
 ghost use Rattle.ftl_schedule.specs.stages.Stages.{kind_of};
 ghost use Rattle.ftl_plan.specs.phases.StagePhases.{cells_end, grammar_in, range_phase};
@@ -18,8 +19,8 @@ pub(crate) fn phase_of(rows: &ItemRows<'_>, kind: PassKind, node: u32, size: u32
     requires node { node < node_total (tree_in rows.now) }
     requires some { 0 < size }
     requires few { size ≤ 33554433 }
-    ensures phase { result ≡ item_phase (grammar_in rows.now) (tree_in rows.now) rows.now.grain size
-        (kind_of kind) (node_at (tree_in rows.now) node) }
+    ensures phase { result ≡ item_phase (grammar_in rows.now) (is_whole_in rows.now) (tree_in rows.now)
+        size (kind_of kind) (node_at (tree_in rows.now) node) }
 {
     match kind {
         PassKind::TopDown => tree_phase(rows, node, size, Phase::First),
@@ -33,8 +34,8 @@ fn tree_phase(rows: &ItemRows<'_>, node: u32, size: u32, alone: Phase) -> Phase
     requires node { node < node_total (tree_in rows.now) }
     requires some { 0 < size }
     requires few { size ≤ 33554433 }
-    ensures phase { result ≡ tree_phase (grammar_in rows.now) (tree_in rows.now) rows.now.grain size
-        alone (node_at (tree_in rows.now) node) }
+    ensures phase { result ≡ tree_phase (grammar_in rows.now) (is_whole_in rows.now) (tree_in rows.now)
+        size alone (node_at (tree_in rows.now) node) }
 {
     if rows.tree.subtree_size(node) <= rows.grain {
         range_phase(rows.tree, node, size)

@@ -1,6 +1,7 @@
 //! The phases of all items of a stage.
 ghost use Rattle.std.specs.Prelude.{◌≡◌, ◌<◌, ◌≤◌, ◌++◌, length, IfOk, Some};
-ghost use Rattle.ftl_cursors.specs.items.StageItems.{passes_in, tree_in};
+ghost use Rattle.ftl_cursors.specs.items.RowsCut.{is_whole_in};
+ghost use Rattle.ftl_cursors.specs.items.StageItems.{cuts_in, passes_in, tree_in};
 ghost use Rattle.ftl_schedule.specs.stages.Stages.{kind_of};
 ghost use Rattle.ftl_plan.specs.phases.StagePhases.{CanBeTaken, grammar_in};
 ghost use Rattle.ftl_plan.specs.phases.StagePhases.{phases_of_pass, phases_to};
@@ -60,7 +61,7 @@ fn counted_phases(alloc: Global, items: StageItems<'_>, size: u32) -> Result<Cou
     requires some { 0 < size }
     requires few { size ≤ 33554433 }
     ensures phases { IfOk result (λ v. v.phases.items ≡ phases_to (grammar_in items.entry.rows.now)
-        (tree_in items.entry.rows.now) items.entry.rows.now.grain size (passes_in items.entry)
+        (cuts_in items.entry) (tree_in items.entry.rows.now) size
         (length (passes_in items.entry))) }
 {
     let mut phases = Vec::with_capacity(alloc, items.item_count() as usize)?;
@@ -81,7 +82,7 @@ fn push_pass(
     requires some { 0 < size }
     requires few { size ≤ 33554433 }
     ensures phases { IfOk result (λ v. phases.new.items ≡ phases.old.items ++ phases_of_pass
-        (grammar_in rows.now) (tree_in rows.now) rows.now.grain size (kind_of kind)) }
+        (grammar_in rows.now) (is_whole_in rows.now) (tree_in rows.now) size (kind_of kind)) }
 {
     let _nodes = rows.tree.node_count();
     let mut visits: u64 = 0;

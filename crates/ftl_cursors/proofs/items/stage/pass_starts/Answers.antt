@@ -1,10 +1,11 @@
 use Rattle.std.proofs.Common.{◌≡◌, ◌+◌, ◌++◌, ◌∷◌, [], List, ℕ, suc, length, map, ap, ap₂, sym, ◌∙◌, arith}
 use Rattle.std.proofs.lemmas.List.{length-map}
-use Rattle.ftl_items.specs.stage_items.Cut.{tops}
+use Rattle.ftl_items.specs.stage_items.Cut.{tops_by}
 use Rattle.ftl_order.specs.orders.Schedule.{PassKind}
 use Rattle.ftl_items.proofs.numbers.Places.{start_next}
 use Rattle.ftl_schedule.specs.stages.Stages.{kind_of, pass_of}
 use Rattle.ftl_schedule.specs.declared.stages.types.Pass.{Pass}
+use Rattle.ftl_cursors.specs.items.RowsCut.{cut_in, is_whole_in}
 use Rattle.ftl_cursors.proofs.items.Starts.{pass_kind, starts_more, starts_to}
 use Rattle.ftl_cursors.proofs.items.stage.pass_starts.Goals as goal
 
@@ -15,12 +16,12 @@ loop-pass-preserved c =
     let ps = map pass_of c.args.passes.now in
     let n = c.loop-pass.pass-index in
     let inv = c.loop-pass.invariant in
-    let next = start_next t rows.grain ps n in
+    let next = start_next (cut_in rows ps) t n in
     let test = c.loop-pass-test.true in
     let kind =
     pass_kind c.args.passes.now n c.pass-item.result test
     ∙ ap (λ (p : Pass). kind_of p.kind) (sym c.pass-item.is) in
-    let count = c.count-start.ensures.count ∙ ap (λ (k : PassKind). length (tops k t rows.grain)) (sym kind) in
+    let count = c.count-start.ensures.count ∙ ap (λ (k : PassKind). length (tops_by k (is_whole_in rows) t)) (sym kind) in
     let most = c.count-start.ensures.bound in
     let start = inv.start in
     let bound = inv.bound in
@@ -28,7 +29,7 @@ loop-pass-preserved c =
       starts =
           c.in_ok-push.ensures.items
           ∙ ap₂ (λ (ns : List ℕ) m. ns ++ m ∷ []) inv.starts inv.start
-          ∙ sym (starts_more ps t rows.grain n);
+          ∙ sym (starts_more (length ps) (cut_in rows ps) t n);
       start = omega (arith, start, count, next);
       bound = omega (arith, bound, most);
     }
@@ -49,8 +50,8 @@ returns c =
         starts_are =
             c.in_ok-push-2.ensures.items
             ∙ ap₂ (λ (ns : List ℕ) m. ns ++ m ∷ []) inv.starts inv.start
-            ∙ sym (starts_more ps t rows.grain n)
-            ∙ ap (starts_to ps t rows.grain) end;
+            ∙ sym (starts_more (length ps) (cut_in rows ps) t n)
+            ∙ ap (starts_to (length ps) (cut_in rows ps) t) end;
         few = (let few = c.requires.few in omega (arith, few, count));
       };
     }

@@ -9,6 +9,6 @@ pub returns : goal.returns
 returns c = record {
   by_key = λ g s t law ordered fits grain stage m p i j there in_i in_j first.
       ahead_stands (visit g t (pass_at s stage m).attributes p) i j
-      (key_ahead g law t fits s ordered.once grain stage m p i j there in_i in_j first);
-  readable = λ g s t law ordered fits grain stage. readable g s t law ordered.once ordered.pairs fits grain stage;
+      (key_ahead g law t fits s ordered.once stage m p i j there in_i in_j first);
+  readable = λ g s t law ordered fits grain stage. readable g s t law ordered fits grain stage;
 }

@@ -1,6 +1,7 @@
 use Rattle.std.proofs.Common.{◌++◌, List, ap, sym, ◌∙◌, arith}
 use Rattle.std.proofs.lemmas.List.{length-map}
-use Rattle.ftl_cursors.specs.items.StageItems.{passes_in, tree_in}
+use Rattle.ftl_cursors.specs.items.RowsCut.{is_whole_in}
+use Rattle.ftl_cursors.specs.items.StageItems.{cuts_in, tree_in}
 use Rattle.ftl_cursors.proofs.items.Starts.{pass_kind}
 use Rattle.ftl_order.specs.orders.Schedule.{PassKind}
 use Rattle.ftl_schedule.specs.stages.Stages.{kind_of, pass_of}
@@ -20,12 +21,12 @@ loop-pass-preserved c =
     ∙ ap (λ (p : Pass). kind_of p.kind) (sym c.pass-item.is) in
     c.in_ok-push_pass.ensures.phases
     ∙ ap
-    (λ (ts : List Phase). ts ++ phases_of_pass (grammar_in rows) (tree_in rows) rows.grain c.args.size
+    (λ (ts : List Phase). ts ++ phases_of_pass (grammar_in rows) (is_whole_in rows) (tree_in rows) c.args.size
     (kind_of c.pass-item.result.kind)) c.loop-pass.invariant
     ∙ ap
-    (λ (k : PassKind). phases_to (grammar_in rows) (tree_in rows) rows.grain c.args.size (passes_in items) n
-    ++ phases_of_pass (grammar_in rows) (tree_in rows) rows.grain c.args.size k) (sym kind)
-    ∙ sym (phases_more (grammar_in rows) (tree_in rows) rows.grain c.args.size (passes_in items) n)
+    (λ (k : PassKind). phases_to (grammar_in rows) (cuts_in items) (tree_in rows) c.args.size n
+    ++ phases_of_pass (grammar_in rows) (is_whole_in rows) (tree_in rows) c.args.size k) (sym kind)
+    ∙ sym (phases_more (grammar_in rows) (cuts_in items) (tree_in rows) c.args.size n)
 
 pub returns : goal.returns
 returns c =
@@ -37,6 +38,6 @@ returns c =
     record {
       phases =
           c.loop-pass.invariant
-          ∙ ap (phases_to (grammar_in rows) (tree_in rows) rows.grain c.args.size (passes_in items))
+          ∙ ap (phases_to (grammar_in rows) (cuts_in items) (tree_in rows) c.args.size)
           (omega (arith, past, most, count));
     }

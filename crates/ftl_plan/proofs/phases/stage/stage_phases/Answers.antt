@@ -1,5 +1,6 @@
 use Rattle.std.proofs.Common.{◌+◌, ◌/◌, ap, sym, ◌∙◌, arith, length}
 use Rattle.std.proofs.Math.Nat.{lt-mul-div-succ}
+use Rattle.ftl_cursors.specs.items.RowsCut.{cut_in}
 use Rattle.ftl_cursors.specs.items.StageItems.{tree_in}
 use Rattle.ftl_order.specs.orders.Schedule.{Pass}
 use Rattle.std.specs.Prelude.{List}
@@ -26,6 +27,6 @@ returns c =
     λ s stage max_stack can same.
     can_take g s t can rows.grain stage max_stack phases
     (c.in_ok-phases.ensures.phases
-    ∙ ap (λ (ps : List Pass). phases_to g t rows.grain phases.size ps (length ps)) (sym same))
+    ∙ ap (λ (ps : List Pass). phases_to g (cut_in rows ps) t phases.size (length ps)) (sym same))
     (omega arith) (omega (arith, more, all)) in
     record { phases = only_some (CanBeTaken items) phases taken }

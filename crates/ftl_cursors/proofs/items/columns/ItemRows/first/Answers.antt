@@ -1,7 +1,8 @@
 use Rattle.std.proofs.Common.{◌≡◌, ◌<◌, ◌-◌, get_or, length, ap, sym, subst, ◌∙◌, arith}
 use Rattle.ftl_model.specs.layout.Path.{number_of, top}
 use Rattle.ftl_schedule.specs.declared.syntax.kind.PassKind.{PassKind}
-use Rattle.ftl_cursors.specs.items.StageItems.{tops_by, tree_in}
+use Rattle.ftl_cursors.specs.items.RowsCut.{is_whole_in}
+use Rattle.ftl_cursors.specs.items.StageItems.{tops_of, tree_in}
 use Rattle.ftl_cursors.proofs.items.RowFacts.{first_up}
 use Rattle.ftl_cursors.proofs.items.columns.ItemRows.first.Goals as goal
 
@@ -17,8 +18,8 @@ returns-in-BottomUp c =
       first =
           read
           ∙ ap (λ n. get_or s.firsts.items (n - 1 - c.args.item) c.index-in-BottomUp.result.now) count
-          ∙ first_up s.tree.now.tree s.grain s.firsts.items s.before.items s.fit c.args.item
+          ∙ first_up (is_whole_in s) s.tree.now.tree s.firsts.items s.before.items s.fit c.args.item
           c.index-in-BottomUp.result.now
-          (subst (λ (k : PassKind). c.args.item < length (tops_by s k)) kind c.requires.item)
-          ∙ ap (λ (k : PassKind). number_of (tree_in s) (get_or (tops_by s k) c.args.item top)) (sym kind);
+          (subst (λ (k : PassKind). c.args.item < length (tops_of s k)) kind c.requires.item)
+          ∙ ap (λ (k : PassKind). number_of (tree_in s) (get_or (tops_of s k) c.args.item top)) (sym kind);
     }

@@ -1,17 +1,18 @@
 use Rattle.std.proofs.Common.{◌-◌, length, ap, sym, ◌∙◌, arith}
 use Rattle.ftl_model.specs.layout.Path.{node_at}
 use Rattle.ftl_deps.specs.reads.Meant.{meant}
-use Rattle.ftl_items.specs.numbers.ItemNumbers.{first_nodes, items_before, place_in_pass}
+use Rattle.ftl_items.specs.numbers.ItemNumbers.{first_nodes_by, items_before_by, place_by}
 use Rattle.ftl_schedule.specs.declared.syntax.kind.PassKind.{PassKind}
 use Rattle.ftl_schedule.specs.stages.Stages.{kind_of}
 use Rattle.ftl_tree.proofs.rows.Access.{number_at}
+use Rattle.ftl_cursors.specs.items.RowsCut.{is_whole_in}
 use Rattle.ftl_cursors.proofs.items.RowFacts.{before_at, before_room, length-before}
 use Rattle.ftl_cursors.proofs.items.columns.ItemRows.place.Goals as goal
 
 pub index-before-requires : goal.index-before-requires
 index-before-requires c =
     let s = c.args.self.now in
-    let len = length-before s.tree.now.tree s.grain s.firsts.items s.before.items s.fit in
+    let len = length-before (is_whole_in s) s.tree.now.tree s.firsts.items s.before.items s.fit in
     omega (arith, len, c.requires.node)
 
 pub overflow_sub-result-in-BottomUp : goal.overflow_sub-result-in-BottomUp
@@ -19,10 +20,10 @@ overflow_sub-result-in-BottomUp c =
     let s = c.args.self.now in
     let t = s.tree.now in
     let at =
-    before_at t.tree s.grain s.firsts.items s.before.items s.fit c.args.first c.index-before.result.now
+    before_at (is_whole_in s) t.tree s.firsts.items s.before.items s.fit c.args.first c.index-before.result.now
     c.requires.node in
     let room =
-    before_room t.tree s.grain s.firsts.items s.before.items s.fit (meant t.checked)
+    before_room (is_whole_in s) t.tree s.firsts.items s.before.items s.fit (meant t.checked)
     c.node_count-nodes.ensures.is_tree c.args.first c.requires.node c.requires.begins in
     let read = c.index-before.ensures in
     let all = c.begin_count.ensures.count in
@@ -37,10 +38,10 @@ returns-in-TopDown c =
     record {
       place =
           c.index-before.ensures
-          ∙ before_at t.tree s.grain s.firsts.items s.before.items s.fit c.args.first c.index-before.result.now
+          ∙ before_at (is_whole_in s) t.tree s.firsts.items s.before.items s.fit c.args.first c.index-before.result.now
           c.requires.node
-          ∙ ap (items_before t.tree s.grain) (sym number)
-          ∙ ap (λ (k : PassKind). place_in_pass (kind_of k) t.tree s.grain p) (sym c.in-TopDown.is);
+          ∙ ap (items_before_by (is_whole_in s) t.tree) (sym number)
+          ∙ ap (λ (k : PassKind). place_by (kind_of k) (is_whole_in s) t.tree p) (sym c.in-TopDown.is);
     }
 
 pub returns-in-BottomUp : goal.returns-in-BottomUp
@@ -52,10 +53,10 @@ returns-in-BottomUp c =
     record {
       place =
           ap (λ n. n - 1 - c.index-before.result.now) c.begin_count.ensures.count
-          ∙ ap (λ b. length (first_nodes t.tree s.grain) - 1 - b)
+          ∙ ap (λ b. length (first_nodes_by (is_whole_in s) t.tree) - 1 - b)
           (c.index-before.ensures
-          ∙ before_at t.tree s.grain s.firsts.items s.before.items s.fit c.args.first c.index-before.result.now
+          ∙ before_at (is_whole_in s) t.tree s.firsts.items s.before.items s.fit c.args.first c.index-before.result.now
           c.requires.node
-          ∙ ap (items_before t.tree s.grain) (sym number))
-          ∙ ap (λ (k : PassKind). place_in_pass (kind_of k) t.tree s.grain p) (sym c.in-BottomUp.is);
+          ∙ ap (items_before_by (is_whole_in s) t.tree) (sym number))
+          ∙ ap (λ (k : PassKind). place_by (kind_of k) (is_whole_in s) t.tree p) (sym c.in-BottomUp.is);
     }

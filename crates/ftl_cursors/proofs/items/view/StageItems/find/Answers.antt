@@ -2,11 +2,12 @@ use Rattle.std.proofs.Common.{◌<◌, get_or, length, map, ap, sym, subst, ◌�
 use Rattle.std.proofs.lemmas.List.{length-map}
 use Rattle.ftl_model.specs.layout.Path.{number_of, top}
 use Rattle.ftl_order.specs.orders.Schedule.{PassKind}
-use Rattle.ftl_items.specs.stage_items.Cut.{tops}
+use Rattle.ftl_items.specs.stage_items.Cut.{tops_by}
 use Rattle.ftl_items.specs.stage_items.Items.{pass_in}
 use Rattle.ftl_deps.specs.reads.Meant.{meant}
 use Rattle.ftl_schedule.specs.stages.Stages.{pass_of}
-use Rattle.ftl_cursors.specs.items.StageItems.{start_in}
+use Rattle.ftl_cursors.specs.items.RowsCut.{is_whole_in}
+use Rattle.ftl_cursors.specs.items.StageItems.{cuts_in, passes_in, start_in}
 use Rattle.ftl_cursors.proofs.items.Starts.{few_items, found_at, length-pass_starts, pass_kind, start_is}
 use Rattle.ftl_cursors.proofs.items.view.StageItems.find.Goals as goal
 
@@ -14,7 +15,7 @@ pub bounds-self-place-2 : goal.bounds-self-place-2
 bounds-self-place-2 c =
     let s = c.args.self.now in
     let rows = s.rows.now in
-    let len = length-pass_starts (map pass_of s.passes.now) rows.tree.now.tree rows.grain s.starts.now s.fit in
+    let len = length-pass_starts (length (passes_in s)) (cuts_in s) rows.tree.now.tree s.starts.now s.fit in
     let count = length-map s.passes.now pass_of in
     let known = c.place-place.ensures.place.known in
     omega (arith, len, count, known)
@@ -23,13 +24,12 @@ pub first-requires : goal.first-requires
 first-requires c =
     let s = c.args.self.now in
     let t = s.rows.now.tree.now.tree in
-    let grain = s.rows.now.grain in
     let m = c.place-place.result.pass in
     let within = c.place-place.ensures.place.within in
     let kind = pass_kind s.passes.now m c.index-self-place.result c.place-place.ensures.place.known in
     record {
       item =
-          subst (λ (k : PassKind). c.place-place.result.item < length (tops k t grain)) kind
+          subst (λ (k : PassKind). c.place-place.result.item < length (tops_by k (is_whole_in s.rows.now) t)) kind
           within;
     }
 
@@ -47,10 +47,10 @@ returns c =
     let within = c.place-place.ensures.place.within in
     let kind = pass_kind s.passes.now m c.index-self-place.result known in
     let at =
-    found_at ps t.tree rows.grain (meant t.checked) fits m j c.args.item c.first.result (omega (arith, known, count))
+    found_at (length ps) (cuts_in s) t.tree (meant t.checked) fits m j c.args.item c.first.result (omega (arith, known, count))
     within c.place-place.ensures.place.start
     (c.first.ensures.first
-    ∙ ap (λ (k : PassKind). number_of t.tree (get_or (tops k t.tree rows.grain) j top)) (sym kind)) in
+    ∙ ap (λ (k : PassKind). number_of t.tree (get_or (tops_by k (is_whole_in rows) t.tree) j top)) (sym kind)) in
     record {
       found = record {
         is_tree = fits;
@@ -59,11 +59,11 @@ returns c =
             (let n = c.node_count-nodes.ensures.count in
             let b = c.node_count-nodes.ensures.bound in
             omega (arith, n, b))
-            rows.grain ps s.fit.few;
+            (cuts_in s) (length ps) s.fit.few;
         pass_is = sym at.pass_is;
         kind_is = sym kind ∙ ap (λ n. (pass_in ps n).kind) (sym at.pass_is);
         start_is =
-            start_is ps t.tree rows.grain s.starts.now s.fit m (omega (arith, known, count))
+            start_is (length ps) (cuts_in s) t.tree s.starts.now s.fit m (omega (arith, known, count))
             ∙ ap (start_in s) (sym at.pass_is);
         known = at.known;
         node_is = at.first_is;

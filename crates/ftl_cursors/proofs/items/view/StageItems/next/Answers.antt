@@ -1,7 +1,7 @@
-use Rattle.std.proofs.Common.{◌+◌, ap, sym, ◌∙◌, arith}
+use Rattle.std.proofs.Common.{length, ◌+◌, ap, sym, ◌∙◌, arith}
 use Rattle.ftl_deps.specs.reads.Meant.{meant}
 use Rattle.ftl_schedule.specs.declared.syntax.kind.PassKind.TheVariants.{BottomUp, InOrder, TopDown}
-use Rattle.ftl_cursors.specs.items.StageItems.{passes_in}
+use Rattle.ftl_cursors.specs.items.StageItems.{cuts_in, passes_in}
 use Rattle.ftl_cursors.proofs.items.Found.{known_in}
 use Rattle.ftl_cursors.proofs.items.StageFacts.{next_above, next_down, next_known, next_up, no_next}
 use Rattle.ftl_cursors.proofs.items.view.StageItems.next.Goals as goal
@@ -16,8 +16,8 @@ kid_item-requires-clause-place c =
     let f = c.find-found.ensures.found in
     let known = known_in s i found TopDown c.in-TopDown.is f in
     let next =
-    next_down (meant s.rows.now.tree.now.checked) s.rows.now.tree.now.tree f.is_tree s.rows.now.grain (passes_in s) i
-    c.requires.item found.start found.node c.args.place c.requires.place known in
+    next_down (meant s.rows.now.tree.now.checked) s.rows.now.tree.now.tree f.is_tree
+    (length (passes_in s)) (cuts_in s) i c.requires.item found.start found.node c.args.place c.requires.place known in
     next.0
 
 pub overflow_add-result : goal.overflow_add-result
@@ -28,12 +28,12 @@ overflow_add-result c =
     let f = c.find-found.ensures.found in
     let known = known_in s i found TopDown c.in-TopDown.is f in
     let next =
-    next_down (meant s.rows.now.tree.now.checked) s.rows.now.tree.now.tree f.is_tree s.rows.now.grain (passes_in s) i
-    c.requires.item found.start found.node c.args.place c.requires.place known in
+    next_down (meant s.rows.now.tree.now.checked) s.rows.now.tree.now.tree f.is_tree
+    (length (passes_in s)) (cuts_in s) i c.requires.item found.start found.node c.args.place c.requires.place known in
     let is = next.1 in
     let low =
-    next_known (meant s.rows.now.tree.now.checked) s.rows.now.tree.now.tree f.is_tree s.rows.now.grain (passes_in s) i
-    c.requires.item found.start found.node c.args.place c.requires.place in
+    next_known (meant s.rows.now.tree.now.checked) s.rows.now.tree.now.tree f.is_tree
+    (length (passes_in s)) (cuts_in s) i c.requires.item found.start found.node c.args.place c.requires.place in
     let few = f.few in
     let item = c.kid_item.ensures.item in
     omega (arith, is, low, few, item)
@@ -46,8 +46,8 @@ returns-in-TopDown c =
     let f = c.find-found.ensures.found in
     let known = known_in s i found TopDown c.in-TopDown.is f in
     let next =
-    next_down (meant s.rows.now.tree.now.checked) s.rows.now.tree.now.tree f.is_tree s.rows.now.grain (passes_in s) i
-    c.requires.item found.start found.node c.args.place c.requires.place known in
+    next_down (meant s.rows.now.tree.now.checked) s.rows.now.tree.now.tree f.is_tree
+    (length (passes_in s)) (cuts_in s) i c.requires.item found.start found.node c.args.place c.requires.place known in
     record { next = ap (λ m. found.start + m) c.kid_item.ensures.item ∙ sym next.1 }
 
 -- ---- up to the parent's item
@@ -59,8 +59,8 @@ parent_item-requires-clause-parent c =
     let found = c.find-found.result in
     let f = c.find-found.ensures.found in
     let known = known_in s i found BottomUp c.in-BottomUp.is f in
-    next_up (meant s.rows.now.tree.now.checked) s.rows.now.tree.now.tree f.is_tree s.rows.now.grain (passes_in s) i
-    c.requires.item found.start found.node c.args.place c.requires.place known
+    next_up (meant s.rows.now.tree.now.checked) s.rows.now.tree.now.tree f.is_tree
+    (length (passes_in s)) (cuts_in s) i c.requires.item found.start found.node c.args.place c.requires.place known
 
 pub overflow_add-result-in-BottomUp : goal.overflow_add-result-in-BottomUp
 overflow_add-result-in-BottomUp c =
@@ -70,12 +70,12 @@ overflow_add-result-in-BottomUp c =
     let f = c.find-found.ensures.found in
     let known = known_in s i found BottomUp c.in-BottomUp.is f in
     let is =
-    next_above (meant s.rows.now.tree.now.checked) s.rows.now.tree.now.tree f.is_tree s.rows.now.grain (passes_in s) i
-    c.requires.item found.start found.node c.args.place c.requires.place known
+    next_above (meant s.rows.now.tree.now.checked) s.rows.now.tree.now.tree f.is_tree
+    (length (passes_in s)) (cuts_in s) i c.requires.item found.start found.node c.args.place c.requires.place known
     (found.start + c.parent_item.result) (c.parent_item.ensures.item found.start) in
     let low =
-    next_known (meant s.rows.now.tree.now.checked) s.rows.now.tree.now.tree f.is_tree s.rows.now.grain (passes_in s) i
-    c.requires.item found.start found.node c.args.place c.requires.place in
+    next_known (meant s.rows.now.tree.now.checked) s.rows.now.tree.now.tree f.is_tree
+    (length (passes_in s)) (cuts_in s) i c.requires.item found.start found.node c.args.place c.requires.place in
     let few = f.few in
     omega (arith, is, low, few)
 
@@ -87,8 +87,8 @@ returns-in-BottomUp c =
     let f = c.find-found.ensures.found in
     let known = known_in s i found BottomUp c.in-BottomUp.is f in
     let is =
-    next_above (meant s.rows.now.tree.now.checked) s.rows.now.tree.now.tree f.is_tree s.rows.now.grain (passes_in s) i
-    c.requires.item found.start found.node c.args.place c.requires.place known
+    next_above (meant s.rows.now.tree.now.checked) s.rows.now.tree.now.tree f.is_tree
+    (length (passes_in s)) (cuts_in s) i c.requires.item found.start found.node c.args.place c.requires.place known
     (found.start + c.parent_item.result) (c.parent_item.ensures.item found.start) in
     record { next = sym is }
 
@@ -101,5 +101,5 @@ unreachable-requires c =
     let found = c.find-found.result in
     let f = c.find-found.ensures.found in
     let known = known_in s i found InOrder c.in-InOrder.is f in
-    no_next (meant s.rows.now.tree.now.checked) s.rows.now.tree.now.tree f.is_tree s.rows.now.grain (passes_in s) i
-    c.requires.item found.start found.node c.args.place c.requires.place known
+    no_next (meant s.rows.now.tree.now.checked) s.rows.now.tree.now.tree f.is_tree
+    (length (passes_in s)) (cuts_in s) i c.requires.item found.start found.node c.args.place c.requires.place known

@@ -1,7 +1,7 @@
-use Rattle.std.proofs.Common.{◌∙◌}
+use Rattle.std.proofs.Common.{length, ◌∙◌}
 use Rattle.ftl_deps.specs.reads.Meant.{meant}
 use Rattle.ftl_schedule.specs.declared.syntax.kind.PassKind.TheVariants.{BottomUp, InOrder, TopDown}
-use Rattle.ftl_cursors.specs.items.StageItems.{passes_in}
+use Rattle.ftl_cursors.specs.items.StageItems.{cuts_in, passes_in}
 use Rattle.ftl_cursors.proofs.items.Found.{known_in}
 use Rattle.ftl_cursors.proofs.items.StageFacts.{next_count_down, next_count_none, next_count_up}
 use Rattle.ftl_cursors.proofs.items.view.StageItems.next_count.Goals as goal
@@ -14,8 +14,8 @@ returns-in-TopDown c =
     let f = c.find-found.ensures.found in
     let known = known_in s i found TopDown c.in-TopDown.is f in
     let count =
-    next_count_down (meant s.rows.now.tree.now.checked) s.rows.now.tree.now.tree f.is_tree s.rows.now.grain (passes_in s) i
-    c.requires.item found.start found.node known in
+    next_count_down (meant s.rows.now.tree.now.checked) s.rows.now.tree.now.tree f.is_tree
+    (length (passes_in s)) (cuts_in s) i c.requires.item found.start found.node known in
     record { count = c.count_below.ensures.count ∙ count }
 
 pub returns-in-BottomUp : goal.returns-in-BottomUp
@@ -26,8 +26,8 @@ returns-in-BottomUp c =
     let f = c.find-found.ensures.found in
     let known = known_in s i found BottomUp c.in-BottomUp.is f in
     let count =
-    next_count_up (meant s.rows.now.tree.now.checked) s.rows.now.tree.now.tree f.is_tree s.rows.now.grain (passes_in s) i
-    c.requires.item found.start found.node known in
+    next_count_up (meant s.rows.now.tree.now.checked) s.rows.now.tree.now.tree f.is_tree
+    (length (passes_in s)) (cuts_in s) i c.requires.item found.start found.node known in
     record { count = c.count_above.ensures.count ∙ count }
 
 pub returns-in-InOrder : goal.returns-in-InOrder
@@ -38,6 +38,6 @@ returns-in-InOrder c =
     let f = c.find-found.ensures.found in
     let known = known_in s i found InOrder c.in-InOrder.is f in
     let count =
-    next_count_none (meant s.rows.now.tree.now.checked) s.rows.now.tree.now.tree f.is_tree s.rows.now.grain (passes_in s) i
-    c.requires.item found.start found.node known in
+    next_count_none (meant s.rows.now.tree.now.checked) s.rows.now.tree.now.tree f.is_tree
+    (length (passes_in s)) (cuts_in s) i c.requires.item found.start found.node known in
     record { count = count }

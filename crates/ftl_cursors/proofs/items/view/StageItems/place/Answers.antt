@@ -4,20 +4,34 @@ use Rattle.ftl_schedule.specs.stages.Stages.{pass_of}
 use Rattle.ftl_order.proofs.orders.Kids.{root_there}
 use Rattle.ftl_deps.specs.reads.Meant.{meant}
 use Rattle.ftl_items.proofs.numbers.Places.{pass_stands, start_next}
-use Rattle.ftl_cursors.specs.items.StageItems.{item_in, start_in, tops_in}
-use Rattle.ftl_cursors.proofs.items.Starts.{length-pass_starts, start_is}
+use Rattle.ftl_cursors.specs.items.StageItems.{cuts_in, item_in, passes_in, start_in, tops_in}
+use Rattle.ftl_cursors.proofs.items.Starts.{length-pass_starts, some_before, start_is}
 use Rattle.ftl_cursors.proofs.items.view.StageItems.place.Goals as goal
 
 pub bounds-self-middle : goal.bounds-self-middle
 bounds-self-middle c =
     let s = c.args.self.now in
     let rows = s.rows.now in
-    let len = length-pass_starts (map pass_of s.passes.now) rows.tree.now.tree rows.grain s.starts.now s.fit in
+    let len = length-pass_starts (length (passes_in s)) (cuts_in s) rows.tree.now.tree s.starts.now s.fit in
     let count = length-map s.passes.now pass_of in
     let inv = c.loop-high.invariant in
     let order = inv.order in
     let known = inv.known in
     omega (arith, len, count, order, known)
+
+pub loop-high-init : goal.loop-high-init
+loop-high-init c =
+    let s = c.args.self.now in
+    let rows = s.rows.now in
+    let item = c.requires.item in
+    let all = ap (start_in s) (length-map s.passes.now pass_of) in
+    let to : c.args.item < start_in s (length s.passes.now) = omega (arith, item, all) in
+    record {
+      order = some_before (cuts_in s) rows.tree.now.tree (length s.passes.now) c.args.item to;
+      known = omega arith;
+      from = omega arith;
+      to = to;
+    }
 
 pub loop-high-preserved-then-self-middle : goal.loop-high-preserved-then-self-middle
 loop-high-preserved-then-self-middle c =
@@ -32,7 +46,7 @@ loop-high-preserved-then-self-middle c =
     let test = c.if-self-middle.true in
     let low : middle < c.loop-high.high = omega (arith, order, some) in
     let is =
-    start_is (map pass_of s.passes.now) rows.tree.now.tree rows.grain s.starts.now s.fit middle
+    start_is (length (passes_in s)) (cuts_in s) rows.tree.now.tree s.starts.now s.fit middle
     (omega (arith, low, known, count)) in
     record { order = low; known = known; from = omega (arith, is, test); to = inv.to }
 
@@ -49,7 +63,7 @@ loop-high-preserved c =
     let test = c.if-self-middle.false in
     let low : middle < c.loop-high.high = omega (arith, order, some) in
     let is =
-    start_is (map pass_of s.passes.now) rows.tree.now.tree rows.grain s.starts.now s.fit middle
+    start_is (length (passes_in s)) (cuts_in s) rows.tree.now.tree s.starts.now s.fit middle
     (omega (arith, low, known, count)) in
     record {
       order = omega (arith, order, some);
@@ -62,7 +76,7 @@ pub bounds-self-low : goal.bounds-self-low
 bounds-self-low c =
     let s = c.args.self.now in
     let rows = s.rows.now in
-    let len = length-pass_starts (map pass_of s.passes.now) rows.tree.now.tree rows.grain s.starts.now s.fit in
+    let len = length-pass_starts (length (passes_in s)) (cuts_in s) rows.tree.now.tree s.starts.now s.fit in
     let count = length-map s.passes.now pass_of in
     let inv = c.loop-high.invariant in
     let order = inv.order in
@@ -79,7 +93,7 @@ overflow_sub-result c =
     let known = inv.known in
     let from = inv.from in
     let is =
-    start_is (map pass_of s.passes.now) rows.tree.now.tree rows.grain s.starts.now s.fit c.loop-high.low
+    start_is (length (passes_in s)) (cuts_in s) rows.tree.now.tree s.starts.now s.fit c.loop-high.low
     (omega (arith, order, known, count)) in
     omega (arith, is, from)
 
@@ -97,11 +111,11 @@ returns c =
     let from = inv.from in
     let to = inv.to in
     let last = c.loop-high-test.false in
-    let is = start_is ps t.tree rows.grain s.starts.now s.fit m (omega (arith, order, known, count)) in
+    let is = start_is (length ps) (cuts_in s) t.tree s.starts.now s.fit m (omega (arith, order, known, count)) in
     let j = c.args.item - get_or s.starts.now m 0 in
     let high : c.loop-high.high ≡ m + 1 = omega (arith, order, last) in
     let end = ap (start_in s) high in
-    let next = start_next t.tree rows.grain ps m in
+    let next = start_next (cuts_in s) t.tree m in
     let below : j < length (tops_in s m) = omega (arith, is, from, to, end, next) in
     let start : start_in s m + j ≡ c.args.item = omega (arith, is, from) in
     let inside : m < length ps = omega (arith, order, known, count) in
@@ -112,8 +126,8 @@ returns c =
         within = below;
         entry =
             ap (item_in s) (sym start)
-            ∙ pass_stands t.tree rows.grain
-            (root_there (meant t.checked) t.tree c.node_count-nodes.ensures.is_tree) ps m j
+            ∙ pass_stands (length ps) (cuts_in s) t.tree
+            (root_there (meant t.checked) t.tree c.node_count-nodes.ensures.is_tree) m j
             inside below;
       };
     }

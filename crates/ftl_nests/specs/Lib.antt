@@ -1,0 +1,9 @@
+pub mod Region
+pub mod Nests
+pub mod Hosted
+pub mod Flat
+pub mod NestLaws
+pub mod NestItems
+pub mod WorkLaws
+pub mod WorkedRows
+pub mod WorkedNests
