@@ -1,6 +1,5 @@
 pub mod Ones
 pub mod DocumentBytes
-pub mod ScheduleTexts
 pub mod StagesBack
 pub mod Rules
 pub mod TreesRead

@@ -1,6 +1,9 @@
 mod Refusals
+mod EachAnswer
 mod Statuses
 mod Shown
+mod Alone
+mod Overflows
 mod Bytes
 mod Tables
 mod Written

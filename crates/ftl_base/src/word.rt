@@ -1,5 +1,5 @@
 ghost use Rattle.std.specs.Prelude.{◌≡◌, ℕ, ◌<◌, ◌≤◌, ◌⊎◌, MatchOption, None, Some};
-ghost use Rattle.ftl_model.specs.layout.Values.{Value, IsValue, word_of_value};
+ghost use Rattle.ftl_model.specs.layout.Values.{Value, IsValue, overflow_word, word_of_value};
 
 use crate::val::Val;
 
@@ -13,14 +13,14 @@ const OVERFLOW: u64 = 281474976710657;
 pub fn word_of(v: Val) -> u64
     ensures word { result ≡ word_of_value v }
     ensures not_empty { 0 < result }
-    ensures bound { result ≤ 281474976710657 }
+    ensures bound { result ≤ overflow_word }
 {
     (v.number + ZERO) as u64
 }
 
-/// The value that a word stands for. 0 and words above 281474976710657 stand for none.
+/// The value that a word stands for. 0 and words above that of Overflow stand for none.
 pub fn val_of(word: u64) -> Option<Val>
-    ensures value { MatchOption result ((word ≡ 0) ⊎ (281474976710657 < word))
+    ensures value { MatchOption result ((word ≡ 0) ⊎ (overflow_word < word))
         (λ v. word ≡ word_of_value v) }
     ensures only { (v : Value) → IsValue v → word ≡ word_of_value v → result ≡ Some v }
 {

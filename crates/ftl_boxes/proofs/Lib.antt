@@ -1,2 +1,3 @@
 pub mod SampleLemmas
 pub mod TextLengths
+pub mod Made

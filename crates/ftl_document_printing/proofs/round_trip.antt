@@ -1,3 +1,5 @@
 mod SaidNames
+mod ReadNames
+mod ReadTrees
 mod TreeSizes
 mod ReadAgain

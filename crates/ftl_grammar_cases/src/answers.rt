@@ -1,7 +1,5 @@
 //! What is answered of a grammar's text. The grammar is held here alone: all else is lent it.
 
-ghost use Rattle.ftl_visit.specs.compiled.Compilable.{HasCode};
-
 use crate::documents::way::Way;
 use crate::documents::write_document;
 use crate::found::write_all_found;
@@ -69,9 +67,7 @@ fn write_wanted(
     wanted: Wanted,
     checked: &Checked,
     body: &str,
-) -> Result<(), AllocError>
-    requires code { HasCode checked.now.grammar }
-{
+) -> Result<(), AllocError> {
     match wanted {
         Wanted::Found => write_all_found(out, checked, body),
         Wanted::Names => write_attribute_names(out, checked),

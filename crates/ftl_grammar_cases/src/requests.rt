@@ -1,7 +1,5 @@
 //! Requests on code and visits, and their answers, a line each.
 
-ghost use Rattle.ftl_visit.specs.compiled.Compilable.{HasCode};
-
 use crate::code::write_code;
 use crate::runs::{write_run, write_twice};
 use crate::visits::write_visit;
@@ -16,9 +14,7 @@ pub(crate) fn write_indexed(
     alloc: Global,
     checked: &Checked,
     requests: &str,
-) -> Result<(), AllocError>
-    requires code { HasCode checked.now.grammar }
-{
+) -> Result<(), AllocError> {
     let index = RuleIndex::new(alloc, checked)?;
     write_compiled(out, alloc, checked, &index, requests)
 }
@@ -29,9 +25,7 @@ fn write_compiled(
     checked: &Checked,
     index: &RuleIndex<'_>,
     requests: &str,
-) -> Result<(), AllocError>
-    requires code { HasCode checked.now.grammar }
-{
+) -> Result<(), AllocError> {
     let programs = compile(alloc, checked)?;
     write_answers(out, alloc, index, &programs, requests)
 }

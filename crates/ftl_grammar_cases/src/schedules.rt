@@ -2,12 +2,11 @@
 //! text, in which `/` stands for a line feed.
 
 ghost use Rattle.std.specs.Prelude.{◌≤◌, length, IfSome};
-ghost use Rattle.ftl_deps.specs.reads.Meant.{meant};
-ghost use Rattle.ftl_order.specs.faults.FaultLaws.{AreComputed};
-ghost use Rattle.ftl_schedule.specs.stages.Stages.{stages_of};
+ghost use Rattle.ftl_model.specs.layout.Limits.{most_page_bytes};
+ghost use Rattle.ftl_schedule.specs.printing.WrittenOf.{AreStagesKnown};
 
 use ftl_checked::Checked;
-use ftl_schedule::{Schedule, computed_entries, known_entries, print_schedule, read_schedule};
+use ftl_schedule::{Schedule, print_schedule, read_schedule};
 use ftl_tokens::{Scanned, tokens};
 use std::alloc::{AllocError, Global};
 use std::fmt::Write;
@@ -39,7 +38,7 @@ fn with_lines(alloc: Global, text: &str) -> Result<String, AllocError> {
 
 /// The tokens of a text that is no longer than one may be.
 fn scanned(alloc: Global, text: String) -> Option<Scanned>
-    ensures short { IfSome result (λ s. length s.text ≤ 67108864) }
+    ensures short { IfSome result (λ s. length s.text ≤ most_page_bytes) }
 {
     if text.len() > 67108864 {
         return None;
@@ -66,13 +65,10 @@ fn write_canonical_of(
     checked: &Checked,
     scanned: &Scanned,
 ) -> Result<(), AllocError>
-    requires short { length scanned.now.text ≤ 67108864 }
+    requires short { length scanned.now.text ≤ most_page_bytes }
 {
     match read_schedule(alloc, checked, scanned) {
-        Ok(schedule) => {
-            computed_entries(checked, scanned, &schedule);
-            write_schedule(out, alloc, checked, &schedule)
-        }
+        Ok(schedule) => write_schedule(out, alloc, checked, &schedule),
         Err(_) => out.push_str("no schedule\n"),
     }
 }
@@ -83,9 +79,8 @@ fn write_schedule(
     checked: &Checked,
     schedule: &Schedule,
 ) -> Result<(), AllocError>
-    requires computed { AreComputed (meant checked.now) (stages_of schedule.now) }
+    requires known { AreStagesKnown checked.now.grammar schedule.now.stages }
 {
-    known_entries(checked, schedule);
     let text = print_schedule(alloc, checked, schedule)?;
     write!(out, "<{}>\n", text.as_str())
 }

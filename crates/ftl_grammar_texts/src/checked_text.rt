@@ -1,16 +1,11 @@
 //! The grammar of a text.
 
-ghost use Rattle.std.specs.Prelude.{◌≤◌, length, IfOk, IfSome};
-ghost use Rattle.ftl_meaning.specs.faults.Counts.{HasSmallCounts};
-ghost use Rattle.ftl_meaning.specs.faults.Kinds.{HasKinds};
-ghost use Rattle.ftl_visit.specs.compiled.Compilable.{HasCode};
+ghost use Rattle.ftl_grammar.specs.reading.Readable.{CanBeRead};
 
 use ftl_base::Width;
 use ftl_checked::{Checked, check_grammar};
 use ftl_grammar::{Grammar, read_grammar};
-use ftl_meaning::small_counts;
 use ftl_tokens::{Scanned, tokens};
-use ftl_visit::has_code;
 use std::alloc::{AllocError, Global};
 
 /// The lawful grammar that the text spells, in this width; none where it spells none.
@@ -18,9 +13,7 @@ pub fn grammar_of_text(
     alloc: Global,
     text: &str,
     width: Width,
-) -> Result<Option<Checked>, AllocError>
-    ensures code { IfOk result (λ found. IfSome found (λ c. HasCode c.grammar)) }
-{
+) -> Result<Option<Checked>, AllocError> {
     if text.len() > 67108864 {
         return Ok(None);
     }
@@ -31,27 +24,16 @@ pub fn grammar_of_text(
 }
 
 /// The lawful grammar that the tokens spell.
-fn grammar_of_tokens(alloc: Global, scanned: &Scanned, width: Width) -> Option<Checked>
-    requires short { length scanned.now.text ≤ 67108864 }
-    ensures code { IfSome result (λ c. HasCode c.grammar) }
-{
+fn grammar_of_tokens(alloc: Global, scanned: &Scanned, width: Width) -> Option<Checked> {
     match read_grammar(alloc, scanned) {
-        Ok(grammar) => {
-            small_counts(scanned, &grammar);
-            has_code(scanned, &grammar);
-            without_fault(alloc, grammar, width)
-        }
+        Ok(grammar) => without_fault(alloc, grammar, width),
         Err(_fault) => None,
     }
 }
 
 /// The grammar, checked; none where it has a fault.
-#[tactic(auto, using(crate::proofs::Kept::code_kept))]
 fn without_fault(alloc: Global, grammar: Grammar, width: Width) -> Option<Checked>
-    requires small { HasSmallCounts grammar }
-    requires kinds { HasKinds grammar }
-    requires code { HasCode grammar }
-    ensures code { IfSome result (λ c. HasCode c.grammar) }
+    requires readable { CanBeRead grammar }
 {
     match check_grammar(alloc, grammar, width) {
         Ok(checked) => Some(checked),

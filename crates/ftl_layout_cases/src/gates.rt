@@ -1,7 +1,8 @@
 //! Gates that see which workers begin items of a page. A top call that solves every page on the
-//! calling thread never has two workers meet here.
+//! calling thread never has two workers meet here; one that never shares cells has none meet at
+//! nodes alone; and where each worker keeps to the items that it was dealt, none is stolen.
 
-use crate::printed;
+use crate::{READ_BYTES, WRITE_BYTES, printed};
 use ftl_edge::{Gate, MemSink, MemSource};
 use ftl_run::layout_top;
 use std::alloc::{AllocError, Global};
@@ -18,8 +19,29 @@ const PAGE: &str = "%page 1
 Sheet { body = Column { kids = [ Word { iw = 20 ih = 10 } Word { iw = 30 ih = 15 } ] } }
 ";
 
+/// A page of four passes beside each other. At grain 1 the items of a pass are the root alone, which
+/// waits for none, and the leaf below it, so those of even number are roots.
+const PASSES: &str = "%page 1
+%grammar
+root Top;
+interface Top { syn a, b, c, d; show a, b, c, d; }
+interface Low { syn e; show e; }
+class Root : Top { leaf : Low; self.a := 1; self.b := 2; self.c := 3; self.d := 4; }
+class Leaf : Low { self.e := 5; }
+%schedule
+topdown { Top.a } || topdown { Top.b } || topdown { Top.c } || topdown { Top.d Low.e }
+%document
+Root { leaf = Leaf { } }
+";
+
 /// How long a worker waits for another.
 const TURNS: u64 = 400_000_000;
+
+/// A gate that waits for something.
+trait Watching: Gate {
+    /// Whether it saw that within its turns.
+    fn saw(&self) -> bool;
+}
 
 /// Marks the workers that call it. The first caller waits there until two are marked.
 #[derive(Drop)]
@@ -37,9 +59,11 @@ impl Meeting {
             met: AtomicU64::new(0),
         }
     }
+}
 
-    /// Whether the first caller saw the other within its turns.
-    fn both_came(&self) -> bool {
+/// Whether the first caller saw the other.
+impl Watching for Meeting {
+    fn saw(&self) -> bool {
         self.met.load(Ordering::SeqCst) == 1
     }
 }
@@ -61,10 +85,92 @@ impl Gate for Meeting {
     }
 }
 
+/// Lets two workers meet at items of even number alone.
+#[derive(Drop)]
+struct MeetingOfRoots {
+    meeting: Meeting,
+}
+
+impl MeetingOfRoots {
+    fn new() -> MeetingOfRoots {
+        MeetingOfRoots {
+            meeting: Meeting::new(),
+        }
+    }
+}
+
+impl Gate for MeetingOfRoots {
+    fn before(&self, worker: u32, item: u32) {
+        if item % 2 == 0 {
+            self.meeting.before(worker, item);
+        }
+    }
+}
+
+impl Watching for MeetingOfRoots {
+    fn saw(&self) -> bool {
+        self.meeting.saw()
+    }
+}
+
+/// Waits at the first item of even number until a worker begins one that was dealt to the other, as
+/// by two workers every second of these is.
+#[derive(Drop)]
+struct Stealing {
+    held: AtomicU64,
+    stolen: AtomicU64,
+    seen: AtomicU64,
+}
+
+impl Stealing {
+    fn new() -> Stealing {
+        Stealing {
+            held: AtomicU64::new(0),
+            stolen: AtomicU64::new(0),
+            seen: AtomicU64::new(0),
+        }
+    }
+}
+
+/// Whether the first caller saw an item stolen.
+impl Watching for Stealing {
+    fn saw(&self) -> bool {
+        self.seen.load(Ordering::SeqCst) == 1
+    }
+}
+
+impl Gate for Stealing {
+    fn before(&self, worker: u32, item: u32) {
+        if item % 2 != 0 {
+            return;
+        }
+        if item / 2 % 2 != worker {
+            self.stolen.store(1, Ordering::SeqCst);
+        }
+        if self.held.swap(1, Ordering::SeqCst) == 1 {
+            return;
+        }
+        for _ in 0..TURNS {
+            if self.stolen.load(Ordering::SeqCst) == 1 {
+                self.seen.store(1, Ordering::SeqCst);
+                return;
+            }
+        }
+    }
+}
+
 /// Counts its calls.
 #[derive(Drop)]
 struct Counting {
     calls: AtomicU64,
+}
+
+impl Counting {
+    fn new() -> Counting {
+        Counting {
+            calls: AtomicU64::new(0),
+        }
+    }
 }
 
 impl Gate for Counting {
@@ -73,53 +179,59 @@ impl Gate for Counting {
     }
 }
 
-/// Obeys a command on the page. The text that was written, and the status.
+/// Obeys a command on a page. The text that was written, and the status.
 fn answer_to<R: Threads + Wait + Sync, G: Gate>(
     rt: &R,
     alloc: Global,
     command: &[&str],
+    page: &str,
     gate: &G,
 ) -> Result<String, AllocError> {
     let mut words = Vec::new(alloc);
     for &word in command {
         words.push(String::from_str(alloc, word)?)?;
     }
-    let page = Vec::from_slice(alloc, PAGE.as_bytes())?;
-    let mut source = MemSource::new(page, PAGE.len(), Vec::new(alloc));
-    let mut sink = MemSink::new(alloc, PAGE.len(), Vec::new(alloc))?;
+    let bytes = Vec::from_slice(alloc, page.as_bytes())?;
+    let mut source = MemSource::new(bytes, READ_BYTES, Vec::new(alloc));
+    let mut sink = MemSink::new(alloc, WRITE_BYTES, Vec::new(alloc))?;
     let status = layout_top(rt, alloc, words.as_slice(), &mut source, &mut sink, gate);
     printed(alloc, &sink, status)
 }
 
-/// Prints whether two workers began an item each, on cells that they shared and on ranges of their
-/// own, and how often one worker called the gate, with what was written.
+/// Prints whether two workers began an item each, on cells that they shared, on ranges of their own
+/// and at nodes alone, whether one began an item of the other, and how often one worker called the
+/// gate, with what was written.
 pub(crate) fn print_gates<R: Threads + Wait + Sync + Print + AllocGlobal>(
     rt: &R,
 ) -> io::Result<()> {
-    print_meeting(rt, &["run", "--workers", "2", "--grain", "1"])?;
-    print_meeting(
-        rt,
-        &["sample", "20000", "--grammar", "table", "--workers", "2"],
-    )?;
-    let counting = Counting {
-        calls: AtomicU64::new(0),
-    };
-    let command = ["run", "--workers", "1", "--grain", "1"];
-    let answer = answer_to(rt, rt.alloc(), &command, &counting)?;
-    println!(rt;
-        "one worker called the gate: {}",
-        counting.calls.load(Ordering::SeqCst)
-    )?;
+    let two = ["run", "--workers", "2", "--grain", "1"];
+    let ranges = ["sample", "20000", "--grammar", "table", "--workers", "2"];
+    let one = ["run", "--workers", "1", "--grain", "1"];
+    let (each, root) = (
+        "two workers began an item each",
+        "two workers began a root each",
+    );
+    let other = "a worker began a root of the other";
+    print_seen(rt, each, &two, PAGE, &Meeting::new())?;
+    print_seen(rt, each, &ranges, PAGE, &Meeting::new())?;
+    print_seen(rt, root, &two, PASSES, &MeetingOfRoots::new())?;
+    print_seen(rt, other, &two, PASSES, &Stealing::new())?;
+    let counting = Counting::new();
+    let answer = answer_to(rt, rt.alloc(), &one, PAGE, &counting)?;
+    let calls = counting.calls.load(Ordering::SeqCst);
+    println!(rt; "one worker called the gate: {calls}")?;
     print!(rt; "{answer}")
 }
 
-/// Prints whether two workers began an item each while a command was obeyed, with what was written.
-fn print_meeting<R: Threads + Wait + Sync + Print + AllocGlobal>(
+/// Prints whether a gate saw what it waits for while a command was obeyed, and what was written.
+fn print_seen<R: Threads + Wait + Sync + Print + AllocGlobal, G: Watching>(
     rt: &R,
+    what: &str,
     command: &[&str],
+    page: &str,
+    gate: &G,
 ) -> io::Result<()> {
-    let meeting = Meeting::new();
-    let answer = answer_to(rt, rt.alloc(), command, &meeting)?;
-    println!(rt; "two workers began an item each: {}", meeting.both_came())?;
+    let answer = answer_to(rt, rt.alloc(), command, page, gate)?;
+    println!(rt; "{what}: {}", gate.saw())?;
     print!(rt; "{answer}")
 }

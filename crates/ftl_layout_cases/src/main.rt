@@ -1,10 +1,12 @@
 //! Prints what the program answers to words and pages in memory. Each case on standard input begins
 //! by a line with `===` and the words, below which stands the page. Before the words may stand
 //! `sink N` or `source N`, where that call of the sink or the source fails, `spaces N`, where the
-//! page is so many spaces, or `byte N`, where it is that byte. A line of a page that begins with
-//! `*N` and a space stands there N times. Printed is the line, the text that was written, and the
-//! status; and where one thread alone answers otherwise than the workers that the words ask for,
-//! what it answers. Before the cases stands what gates saw of the workers.
+//! page is so many spaces, `byte N`, where it is that byte, `padded N`, where spaces follow the page
+//! up to so many bytes, `chains N`, where it is a column of so many chains of columns, or `brief`. A
+//! line of a page that begins with `*N` and a space stands there N times. Printed is the line, the
+//! text that was written, and the status, of a page of chains and with `brief` the number of lines
+//! with the first and the last two; and where one thread alone answers otherwise than the workers
+//! that the words ask for, what it answers. Before the cases stands what gates saw of the workers.
 #![tactic(auto)]
 
 mod case;
@@ -76,6 +78,22 @@ fn answer_alone(alloc: Global, case: &Case) -> Result<String, AllocError> {
     printed(alloc, &sink, status)
 }
 
+/// What of an answer is shown in a case.
+fn shown(alloc: Global, case: &Case, answer: String) -> Result<String, AllocError> {
+    if !case.brief {
+        return Ok(answer);
+    }
+    let mut out = String::new(alloc);
+    let lines = answer.as_str().lines().count();
+    writeln!(out, "{lines} lines")?;
+    for (at, line) in answer.as_str().lines().enumerate() {
+        if at == 0 || at.saturating_add(2) >= lines {
+            writeln!(out, "{line}")?;
+        }
+    }
+    Ok(out)
+}
+
 fn main(rt: HostRuntime) -> io::Result<()> {
     let Some(text) = read_text(&rt, rt.alloc()) else {
         println!(rt; "no text")?;
@@ -87,8 +105,9 @@ fn main(rt: HostRuntime) -> io::Result<()> {
         let case = Case::new(rt.alloc(), heading, page)?;
         let answer = answer(&rt, rt.alloc(), &case)?;
         let alone = answer_alone(rt.alloc(), &case)?;
-        print!(rt; "=== {heading}\n{answer}")?;
-        if alone.as_str() != answer.as_str() {
+        let same = alone.as_str() == answer.as_str();
+        print!(rt; "=== {heading}\n{}", shown(rt.alloc(), &case, answer)?)?;
+        if !same {
             print!(rt; "alone {alone}")?;
         }
     }

@@ -6,3 +6,4 @@ pub mod PartReads
 pub mod InstanceSums
 pub mod NoFault
 pub mod Bounds
+mod NeverMemory

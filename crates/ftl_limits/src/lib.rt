@@ -9,4 +9,4 @@ pub mod faults;
 pub mod reads;
 
 pub use faults::{PlanFault, first_fault};
-pub use reads::ReadTables;
+pub use reads::{ReadTables, is_sound};

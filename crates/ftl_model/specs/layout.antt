@@ -4,6 +4,7 @@ pub mod Folds
 pub mod ForestCode
 pub mod InputLaws
 pub mod Inputs
+pub mod Limits
 pub mod Notes
 pub mod Outcome
 pub mod Path

@@ -1,3 +1,4 @@
+pub mod Samples
 pub mod Taken
 pub mod Words
 pub mod WorkedWords

@@ -7,3 +7,4 @@ pub mod SectionLemmas
 pub mod PageLemmas
 pub mod TextLemmas
 pub mod AddLemmas
+mod NeverMemory

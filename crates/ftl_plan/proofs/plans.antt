@@ -1,4 +1,5 @@
 pub mod Bridge
+mod FewPasses
 pub mod Driven
 pub mod Inputs
 pub mod RowsByStage

@@ -11,6 +11,7 @@
 #![tactic(auto)]
 
 ghost use Rattle.std.specs.Prelude.{◌≤◌, string_len};
+ghost use Rattle.ftl_model.specs.layout.Limits.{most_page_bytes};
 
 mod cursor;
 mod requests;
@@ -42,7 +43,7 @@ fn with_lines(alloc: Global, text: &str) -> Result<String, AllocError> {
 }
 
 fn narrow(alloc: Global, text: String, requests: &str) -> Result<String, AllocError>
-    requires short { string_len text ≤ 67108864 }
+    requires short { string_len text ≤ most_page_bytes }
 {
     let mut out = String::new(alloc);
     match tokens(alloc, text) {
@@ -56,7 +57,7 @@ fn narrow(alloc: Global, text: String, requests: &str) -> Result<String, AllocEr
 }
 
 fn wide(alloc: Global, text: String, requests: &str) -> Result<String, AllocError>
-    requires short { string_len text ≤ 67108864 }
+    requires short { string_len text ≤ most_page_bytes }
 {
     let mut out = String::new(alloc);
     match document_tokens(alloc, text, 140737488355327) {

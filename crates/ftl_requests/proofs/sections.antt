@@ -1,5 +1,3 @@
 mod Ways
 mod FaultEnds
 mod ScheduleEnds
-mod AutomaticSmall
-mod ReadSmall

@@ -1,5 +1,4 @@
 mod Words
 mod Solved
-mod Passes
 mod Leading
 mod Matching

@@ -4,3 +4,4 @@ mod OneWriter
 pub mod FirstWriters
 pub mod RuleCount
 mod AcceptedLaws
+pub mod NeverMemory

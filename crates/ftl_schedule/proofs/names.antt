@@ -1,1 +1,2 @@
 mod EachInTurn
+pub mod NamedParts

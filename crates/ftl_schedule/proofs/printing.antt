@@ -1,3 +1,8 @@
 mod Joined
-mod Known
+pub mod Known
 mod NamedAgain
+mod NamedBack
+mod ReadAgain
+mod SaidNames
+mod SpelledNames
+mod Writable

@@ -1,1 +1,5 @@
 mod Counted
+pub mod ReadFrom
+pub mod ReadComputed
+pub mod ReadLimits
+pub mod AnswerLemmas

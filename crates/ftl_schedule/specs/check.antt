@@ -1,2 +1,3 @@
 pub mod RuleAt
 pub mod Accepted
+pub mod AcceptedSchedule

@@ -10,11 +10,9 @@
 //! - `names`: `schedule_named`: the attributes that a schedule names, by number
 //! - `reading`: `read_schedule`: the schedule that the tokens of a text spell, by number
 //! - `printing`: `print_schedule`: the canonical text of a schedule by number
-//! - `computed`: `computed_entries`: what was read has computed attributes alone
 #![tactic(auto)]
 
 pub mod check;
-pub mod computed;
 pub mod names;
 pub mod places;
 pub mod printing;
@@ -24,12 +22,11 @@ pub mod syntax;
 pub mod text;
 
 pub use check::{Accepted, VerifyFault, attribute_count, is_input, read_count, read_of, verify};
-pub use computed::computed_entries;
 pub use names::ScheduleFault;
 pub use places::{
     Standing, from_kid, from_parent, has_earlier_block, is_prev, is_same_block, is_same_rule,
 };
-pub use printing::{known_entries, print_schedule};
+pub use printing::print_schedule;
 pub use reading::read_schedule;
 pub use stages::{AttrList, Pass, Schedule, Stage};
 pub use syntax::PassKind;

@@ -20,3 +20,4 @@ pub mod Steps
 pub mod ShallowLemmas
 pub mod TurnLemmas
 pub mod NarrowLemmas
+pub mod TokenCounts

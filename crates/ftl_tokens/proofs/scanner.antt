@@ -2,6 +2,7 @@ pub mod FirstLemmas
 pub mod FrontLemmas
 pub mod KindLemmas
 pub mod NumberLemmas
+pub mod OneScan
 pub mod PieceLemmas
 pub mod RunLemmas
 pub mod ScanLemmas

@@ -1,3 +1,4 @@
+pub mod AnyReads
 pub mod DepthLemmas
 mod RowLemmas
 pub mod RunLemmas

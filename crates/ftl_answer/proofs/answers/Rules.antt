@@ -36,7 +36,7 @@ use Rattle.ftl_answer.specs.answers.Stages.{Outcome, Then, ends, hands_on}
 use Rattle.ftl_answer.specs.answers.Texts.{automatic_schedule, checked_grammar, grammar, lawful_grammar, ordered_schedule}
 use Rattle.ftl_answer.specs.answers.Texts.{schedule, spelled_grammar, spelled_schedule, tokens}
 use Rattle.ftl_answer.proofs.answers.Ones.{HasOne, handed, is_one, then_handed, then_one, result_one}
-use Rattle.ftl_answer.proofs.answers.ScheduleTexts.{one_schedule, some_schedule}
+use Rattle.ftl_schedule.proofs.reading.AnswerLemmas.{one_schedule, some_schedule}
 use Rattle.ftl_answer.proofs.answers.StagesBack.{one_stands, same_schedule, schedule_back}
 
 -- ---- the grammar

@@ -41,7 +41,8 @@ use Rattle.ftl_answer.specs.answers.Stages.{Outcome, Stage, Then, ResultStage, e
 use Rattle.ftl_answer.specs.answers.Texts.{checked_grammar, grammar, lawful_grammar, ordered_schedule}
 use Rattle.ftl_answer.specs.answers.Texts.{page, planned_tree, scanned_as, schedule, spelled_grammar, spelled_schedule}
 use Rattle.ftl_answer.specs.answers.Texts.{spelled_tree, status_of, tokenized, tokens, tree, wide}
-use Rattle.ftl_answer.specs.headline.Promises.{IsRefusalStatus}
+use Rattle.ftl_model.specs.layout.Limits.{most_page_bytes}
+use Rattle.ftl_answer.specs.headline.Promises.{IsRefusalStatus, IsSectionStatus}
 use Rattle.ftl_answer.proofs.answers.Ones.{end_is_no_value, same_end}
 
 -- the end, at an outcome of this type
@@ -54,16 +55,20 @@ of_words_status = inl refl
 pub of_page_status : IsRefusalStatus 4
 of_page_status = inr (inl refl)
 
-pub of_grammar_status : IsRefusalStatus 5
-of_grammar_status = inr (inr (inl refl))
+of_grammar_status : IsSectionStatus 5
+of_grammar_status = inl refl
 
-pub of_schedule_status : IsRefusalStatus 6
-of_schedule_status = inr (inr (inr (inl refl)))
+of_schedule_status : IsSectionStatus 6
+of_schedule_status = inr (inl refl)
 
-pub of_document_status : IsRefusalStatus 7
-of_document_status = inr (inr (inr (inr refl)))
+of_document_status : IsSectionStatus 7
+of_document_status = inr (inr refl)
 
-module _ (Fine : Answer → Type 0) (line : (s : ℕ) → IsRefusalStatus s → (text : List ℕ) → Fine (refused s text)) where
+-- a section's refusal is one
+pub of_section : (s : ℕ) → IsSectionStatus s → IsRefusalStatus s
+of_section s is = inr (inr is)
+
+module _ (Fine : Answer → Type 0) where
   pub same : (a b : Answer) → a ≡ b → Fine b → Fine a
   same a b is fine = subst Fine (sym is) fine
 
@@ -88,71 +93,80 @@ module _ (Fine : Answer → Type 0) (line : (s : ℕ) → IsRefusalStatus s → 
       → (a : Answer) → ResultStage memory refusal Results (ends a) → Fine a
   call_ends memory refusal Results each a p = same a (refusal p.0) p.3 (each p.0)
 
-  -- ---- texts
+  -- ---- words and pages
 
-  page_by : (long : Bool) (r : Result Page PageFault) (a : Answer)
+  pub of_words : Fine (refused 2 words_line) → (c : Option Command) (a : Answer) → ended Command a ≡ command_in c → Fine a
+  of_words line None a is = same a (refused 2 words_line) (same_end a (refused 2 words_line) is) line
+  of_words line (Some c) a is = absurd (end_is_no_value a c is)
+
+  page_by : ((text : List ℕ) → Fine (refused 4 text)) → (long : Bool) (r : Result Page PageFault) (a : Answer)
       → ended Page a ≡ (if long then ends (refused 4 too_long_line) else result_outcome (λ fault. refused 4 (page_line fault)) r)
       → Fine a
-  page_by true r a is =
-      same a (refused 4 too_long_line) (same_end a (refused 4 too_long_line) is) (line 4 of_page_status too_long_line)
-  page_by false r a is =
-      result_ends (λ fault. refused 4 (page_line fault)) (λ fault. line 4 of_page_status (page_line fault)) r a is
+  page_by line true r a is =
+      same a (refused 4 too_long_line) (same_end a (refused 4 too_long_line) is) (line too_long_line)
+  page_by line false r a is =
+      result_ends (λ fault. refused 4 (page_line fault)) (λ fault. line (page_line fault)) r a is
 
-  of_page : (need : Need) (bytes : List ℕ) (a : Answer) → page need bytes (ends a) → Fine a
-  of_page need bytes a is = page_by (nat_lt 67108864 (length bytes)) (page_of bytes need) a is
+  -- where each refusal of a page is fine, its end is
+  pub of_page : ((text : List ℕ) → Fine (refused 4 text)) → (need : Need) (bytes : List ℕ) (a : Answer)
+      → page need bytes (ends a) → Fine a
+  of_page line need bytes a is = page_by line (nat_lt most_page_bytes (length bytes)) (page_of bytes need) a is
 
-  tokens_by : (which : Section) → IsRefusalStatus (status_of which) → (text : List ℕ)
+module _ (Fine : Answer → Type 0) (line : (s : ℕ) → IsSectionStatus s → (text : List ℕ) → Fine (refused s text)) where
+  -- ---- texts
+
+  tokens_by : (which : Section) → IsSectionStatus (status_of which) → (text : List ℕ)
       → (r : Result (List Token) TokenFault) (a : Answer) → ended Tokenized a ≡ scanned_as which text r → Fine a
   tokens_by which of_section text (Ok list) a is = absurd (end_is_no_value a (tokenized text list) is)
   tokens_by which of_section text (Err fault) a is =
       let refusal = refused (status_of which) (token_line which fault) in
-      same a refusal (same_end a refusal is) (line (status_of which) of_section (token_line which fault))
+      same Fine a refusal (same_end a refusal is) (line (status_of which) of_section (token_line which fault))
 
-  of_tokens : (which : Section) → IsRefusalStatus (status_of which) → (greatest : ℕ) (text : List ℕ) (a : Answer)
+  of_tokens : (which : Section) → IsSectionStatus (status_of which) → (greatest : ℕ) (text : List ℕ) (a : Answer)
       → tokens which greatest text (ends a) → Fine a
   of_tokens which of_section greatest text a is = tokens_by which of_section text (scan greatest text) a is
 
   of_grammar : (width : Width) (text : List ℕ) (a : Answer) → grammar width text (ends a) → Fine a
   of_grammar width text =
-      two (tokens section.Grammar 2147483647 text) (λ scanned. Then (spelled_grammar scanned) (lawful_grammar width))
+      two Fine (tokens section.Grammar 2147483647 text) (λ scanned. Then (spelled_grammar scanned) (lawful_grammar width))
       (of_tokens section.Grammar of_grammar_status 2147483647 text)
       (λ scanned read.
-      two (spelled_grammar scanned) (lawful_grammar width)
-      (call_ends syntax.OutOfMemory (λ fault. refused 5 (syntax_line fault)) (ReadsGrammar scanned)
+      two Fine (spelled_grammar scanned) (lawful_grammar width)
+      (call_ends Fine syntax.OutOfMemory (λ fault. refused 5 (syntax_line fault)) (ReadsGrammar scanned)
       (λ fault. line 5 of_grammar_status (syntax_line fault)))
       (λ (g : Grammar) spelled.
-      fault_ends (λ fault. refused 5 (grammar_line fault)) (λ fault. line 5 of_grammar_status (grammar_line fault))
+      fault_ends Fine (λ fault. refused 5 (grammar_line fault)) (λ fault. line 5 of_grammar_status (grammar_line fault))
       (grammars.first_fault g) (checked_grammar width g)))
 
   of_schedule : (c : CheckedGrammar) (text : Option (List ℕ)) (a : Answer) → schedule c text (ends a) → Fine a
   of_schedule c None a p =
-      let refusal = stuck_line c.grammar p.0 in same a (refused 6 refusal) p.2 (line 6 of_schedule_status refusal)
+      let refusal = stuck_line c.grammar p.0 in same Fine a (refused 6 refusal) p.2 (line 6 of_schedule_status refusal)
   of_schedule c (Some text) a p =
-      two (tokens section.Schedule 2147483647 text)
+      two Fine (tokens section.Schedule 2147483647 text)
       (λ scanned. Then (spelled_schedule c scanned) (ordered_schedule c))
       (of_tokens section.Schedule of_schedule_status 2147483647 text)
       (λ scanned read.
-      two (spelled_schedule c scanned) (ordered_schedule c)
-      (call_ends schedules.OutOfMemory (λ fault. refused 6 (schedule_line fault)) (Answers c.grammar scanned)
+      two Fine (spelled_schedule c scanned) (ordered_schedule c)
+      (call_ends Fine schedules.OutOfMemory (λ fault. refused 6 (schedule_line fault)) (Answers c.grammar scanned)
       (λ fault. line 6 of_schedule_status (schedule_line fault)))
       (λ (s : Schedule) spelled.
-      fault_ends (λ fault. refused 6 (verify_line c.grammar fault))
+      fault_ends Fine (λ fault. refused 6 (verify_line c.grammar fault))
       (λ fault. line 6 of_schedule_status (verify_line c.grammar fault)) (orders.first_fault (meant c) (stages_of s)) s))
       a p
 
   pub of_tree : (c : CheckedGrammar) (s : Schedule) (text : List ℕ) (a : Answer) → tree c s text (ends a) → Fine a
   of_tree c s text =
-      two (tokens section.Document (greatest_of_width c.width) text)
+      two Fine (tokens section.Document (greatest_of_width c.width) text)
       (λ scanned. Then (spelled_tree c (wide (greatest_of_width c.width) scanned))
       (λ (t : CheckedTree). planned_tree c s t.tree))
       (of_tokens section.Document of_document_status (greatest_of_width c.width) text)
       (λ scanned read.
-      two (spelled_tree c (wide (greatest_of_width c.width) scanned)) (λ (t : CheckedTree). planned_tree c s t.tree)
-      (call_ends document.OutOfMemory (λ fault. refused 7 (document_line c.grammar fault))
+      two Fine (spelled_tree c (wide (greatest_of_width c.width) scanned)) (λ (t : CheckedTree). planned_tree c s t.tree)
+      (call_ends Fine document.OutOfMemory (λ fault. refused 7 (document_line c.grammar fault))
       (ReadsTree c (wide (greatest_of_width c.width) scanned))
       (λ fault. line 7 of_document_status (document_line c.grammar fault)))
       (λ (t : CheckedTree) spelled.
-      fault_ends (λ fault. refused 7 (plan_line fault)) (λ fault. line 7 of_document_status (plan_line fault))
+      fault_ends Fine (λ fault. refused 7 (plan_line fault)) (λ fault. line 7 of_document_status (plan_line fault))
       (plans.first_fault (meant c) (stages_of s) t.tree) t.tree))
 
   -- a grammar and a schedule, and what goes on with them
@@ -160,18 +174,15 @@ module _ (Fine : Answer → Type 0) (line : (s : ℕ) → IsRefusalStatus s → 
       → ((c : CheckedGrammar) (s : Schedule) (p : Page) → page need bytes (hands_on p)
       → grammar p.width p.grammar (hands_on c) → schedule c p.schedule (hands_on s)
       → (a : Answer) → next c s p (ends a) → Fine a)
+      → ((a : Answer) → page need bytes (ends a) → Fine a)
       → (a : Answer) → with_rules need bytes next (ends a) → Fine a
-  of_rules need bytes next each =
-      two (page need bytes)
+  of_rules need bytes next each paged =
+      two Fine (page need bytes)
       (λ p. Then (grammar p.width p.grammar) (λ c. Then (schedule c p.schedule) (λ s. next c s p)))
-      (of_page need bytes)
+      paged
       (λ p read.
-      two (grammar p.width p.grammar) (λ c. Then (schedule c p.schedule) (λ s. next c s p)) (of_grammar p.width p.grammar)
+      two Fine (grammar p.width p.grammar) (λ c. Then (schedule c p.schedule) (λ s. next c s p))
+      (of_grammar p.width p.grammar)
       (λ c lawful.
-      two (schedule c p.schedule) (λ s. next c s p) (of_schedule c p.schedule)
+      two Fine (schedule c p.schedule) (λ s. next c s p) (of_schedule c p.schedule)
       (λ s ordered. each c s p read lawful ordered)))
-
-  pub of_words : (c : Option Command) (a : Answer) → ended Command a ≡ command_in c → Fine a
-  of_words None a is =
-      let refusal = refused 2 words_line in same a refusal (same_end a refusal is) (line 2 of_words_status words_line)
-  of_words (Some c) a is = absurd (end_is_no_value a c is)

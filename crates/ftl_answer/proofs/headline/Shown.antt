@@ -31,7 +31,9 @@ use Rattle.ftl_answer.specs.headline.Promises.{IsRefusal, IsRefusalStatus, IsSho
 use Rattle.ftl_answer.specs.headline.Promises.{OverflowHasAStatus, WordsAreRefused}
 use Rattle.ftl_answer.specs.refusals.PageLines.{page_line, too_long_line, words_line}
 use Rattle.ftl_answer.proofs.answers.Ones.{end_is_no_value, same_end, same_value}
-use Rattle.ftl_answer.proofs.headline.Refusals.{ended, of_rules, of_tree, of_words, of_words_status, result_ends, two}
+use Rattle.ftl_model.specs.layout.Limits.{most_page_bytes}
+use Rattle.ftl_answer.proofs.headline.Refusals.{ended, of_page, of_page_status, of_rules, of_section, of_tree, of_words}
+use Rattle.ftl_answer.proofs.headline.Refusals.{of_words_status, result_ends, two}
 
 -- ---- what is accepted is shown
 
@@ -69,7 +71,7 @@ text_of_sample (Err fault) text is = absurd (end_is_no_value (refused 2 words_li
 
 -- the command that the words are, from the stage that finds it
 
-command_from : (o : Option Command) (c : Command) → hands_on c ≡ command_in o → o ≡ Some c
+pub command_from : (o : Option Command) (c : Command) → hands_on c ≡ command_in o → o ≡ Some c
 command_from None c is = absurd (end_is_no_value (refused 2 words_line) c (sym is))
 command_from (Some other) c is = ap (λ (x : Command). Some x) (sym (same_value c other is))
 
@@ -85,10 +87,10 @@ module _ (text : CheckedGrammar → Forest → List Value → List ℕ) (bytes :
 
   table_or_refused : (a : Answer) → solved bytes text (ends a) → Either a
   table_or_refused =
-      of_rules Either either_line whole_page bytes (λ c s p. Then (tree c s (document_text p)) (shown_by text c))
+      of_rules Either (λ s is. either_line s (of_section s is)) whole_page bytes (λ c s p. Then (tree c s (document_text p)) (shown_by text c))
       (λ c s p read lawful ordered.
-      two Either either_line (tree c s (document_text p)) (shown_by text c)
-      (of_tree Either either_line c s (document_text p))
+      two Either (tree c s (document_text p)) (shown_by text c)
+      (of_tree Either (λ s is. either_line s (of_section s is)) c s (document_text p))
       (λ t spelled a shows.
       inl (
         c,
@@ -98,6 +100,7 @@ module _ (text : CheckedGrammar → Forest → List Value → List ℕ) (bytes :
         shows.1,
         same_end a (shown_answer text c t shows.0) shows.2,
       )))
+      (of_page Either (either_line 4 of_page_status) whole_page bytes)
 
 module _ (bytes : List ℕ) (how : Command) where
   abbrev Shown : Answer → Type 0
@@ -115,7 +118,7 @@ sample_shown name pieces how bytes text a is (inr refused) = inr refused
 shown_or_refused : (c : Command) (bytes : List ℕ) (a : Answer) → obeyed c bytes (ends a) → Shown bytes c a
 shown_or_refused (command.Run how) bytes = table_or_refused boxes_of bytes
 shown_or_refused command.Check bytes =
-    of_rules (Shown bytes command.Check) (shown_line bytes command.Check) rules_alone bytes
+    of_rules (Shown bytes command.Check) (λ s is. shown_line bytes command.Check s (of_section s is)) rules_alone bytes
     (λ c s p. Is (ends (answer 0 (codes "accepted\n"))))
     (λ c s p read lawful ordered a is.
     inl (
@@ -124,8 +127,9 @@ shown_or_refused command.Check bytes =
       record { sections = p; read = read; lawful = lawful; ordered = ordered },
       same_end a (answer 0 (codes "accepted\n")) is,
     ))
+    (of_page (Shown bytes command.Check) (shown_line bytes command.Check 4 of_page_status) rules_alone bytes)
 shown_or_refused command.Schedule bytes =
-    of_rules (Shown bytes command.Schedule) (shown_line bytes command.Schedule) rules_alone bytes
+    of_rules (Shown bytes command.Schedule) (λ s is. shown_line bytes command.Schedule s (of_section s is)) rules_alone bytes
     (λ c s p. Is (ends (answer 0 (schedule_text (written_of c.grammar s)))))
     (λ c s p read lawful ordered a is.
     inl (
@@ -134,11 +138,12 @@ shown_or_refused command.Schedule bytes =
       record { sections = p; read = read; lawful = lawful; ordered = ordered },
       same_end a (answer 0 (schedule_text (written_of c.grammar s))) is,
     ))
+    (of_page (Shown bytes command.Schedule) (shown_line bytes command.Schedule 4 of_page_status) rules_alone bytes)
 shown_or_refused (command.Sample pieces name how) bytes =
     let Fine = Shown bytes (command.Sample pieces name how) in
     let line = shown_line bytes (command.Sample pieces name how) in
-    two Fine line (Is (sample_outcome (sample_page_of name pieces))) (λ text. solved text (summary_of name))
-    (result_ends Fine line (λ fault. refused 2 words_line) (λ fault. line 2 of_words_status words_line)
+    two Fine (Is (sample_outcome (sample_page_of name pieces))) (λ text. solved text (summary_of name))
+    (result_ends Fine (λ fault. refused 2 words_line) (λ fault. line 2 of_words_status words_line)
     (sample_page_of name pieces))
     (λ text is a solves.
     sample_shown name pieces how bytes text a (text_of_sample (sample_page_of name pieces) text is)
@@ -157,8 +162,8 @@ module _ (words : List (List ℕ)) (bytes : List ℕ) where
 
   pub or_refused : (a : Answer) → IsAnswer words bytes a → Whole a
   or_refused =
-      two Whole whole_line (Is (command_in (command_of words))) (λ c. obeyed c bytes)
-      (of_words Whole whole_line (command_of words))
+      two Whole (Is (command_in (command_of words))) (λ c. obeyed c bytes)
+      (of_words Whole (whole_line 2 of_words_status words_line) (command_of words))
       (λ c is a obeys. of_shown c a (command_from (command_of words) c is) (shown_or_refused c bytes a obeys))
 
 -- ---- what is refused, and the status of what is shown
@@ -167,20 +172,20 @@ pub words_are_refused : WordsAreRefused
 words_are_refused words bytes none = inl (refused 2 words_line, sym (ap command_in none), refl)
 
 -- the outcome of a page of this length
-abbrev page_outcome : Bool → Result Page PageFault → Outcome Page
+abbrev pub page_outcome : Bool → Result Page PageFault → Outcome Page
 page_outcome long r = if long then ends (refused 4 too_long_line) else result_outcome (λ fault. refused 4 (page_line fault)) r
 
-long_page : (need : Need) (bytes : List ℕ) → 67108864 < length bytes → page need bytes (ends (refused 4 too_long_line))
-long_page need bytes long = ap (λ b. page_outcome b (page_of bytes need)) (sym (lt-ltb 67108864 (length bytes) long))
+long_page : (need : Need) (bytes : List ℕ) → most_page_bytes < length bytes → page need bytes (ends (refused 4 too_long_line))
+long_page need bytes long = ap (λ b. page_outcome b (page_of bytes need)) (sym (lt-ltb most_page_bytes (length bytes) long))
 
-long_command : (c : Command) (bytes : List ℕ) → reads_page c ≡ true → 67108864 < length bytes
+long_command : (c : Command) (bytes : List ℕ) → reads_page c ≡ true → most_page_bytes < length bytes
     → obeyed c bytes (ends (refused 4 too_long_line))
 long_command (command.Run how) bytes reads long = inl (refused 4 too_long_line, long_page whole_page bytes long, refl)
 long_command command.Check bytes reads long = inl (refused 4 too_long_line, long_page rules_alone bytes long, refl)
 long_command command.Schedule bytes reads long = inl (refused 4 too_long_line, long_page rules_alone bytes long, refl)
 long_command (command.Sample pieces name how) bytes reads long = absurd cc
 
-long_by : (o : Option Command) (bytes : List ℕ) → may_read o ≡ true → 67108864 < length bytes
+long_by : (o : Option Command) (bytes : List ℕ) → may_read o ≡ true → most_page_bytes < length bytes
     → Then (Is (command_in o)) (λ c. obeyed c bytes) (ends (refused 4 too_long_line))
 long_by None bytes reads long = absurd cc
 long_by (Some c) bytes reads long = inr (c, refl, long_command c bytes reads long)

@@ -40,6 +40,10 @@ mixed place = (place % 1000) + 1
 abbrev pub field : (word text : List ℕ) → List ℕ
 field word text = codes " " ++ (word ++ (codes "=" ++ text))
 
+-- how many values are Overflow
+abbrev pub overflow_count : List Value → ℕ
+overflow_count values = length (filter is_overflow values)
+
 -- the summary of a table, in one line
 abbrev pub summary : (grammar : List ℕ) → AttributeGrammar → Names → Forest → (Instance → Value) → List ℕ
 summary grammar g names t s =
@@ -48,6 +52,6 @@ summary grammar g names t s =
     ++ (field (codes "nodes") (decimal (size t))
     ++ (field (codes "instances") (decimal (instance_count g t))
     ++ (field (codes "shown") (decimal (length values))
-    ++ (field (codes "overflow") (decimal (length (filter is_overflow values)))
+    ++ (field (codes "overflow") (decimal (overflow_count values))
     ++ (field (codes "sum") (signed_decimal (weighted_sum once 0 values))
     ++ (field (codes "mix") (signed_decimal (weighted_sum mixed 0 values)) ++ codes "\n")))))))

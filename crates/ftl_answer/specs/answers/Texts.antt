@@ -1,5 +1,6 @@
 -- The stages on the way from a page to its document: each refuses, or hands on what it found.
 use Rattle.std.specs.Prelude.{◌≡◌, ℕ, nat_lt, if◌then◌else◌, List, length, Option, Some, None, Result, Ok, Err}
+use Rattle.ftl_model.specs.layout.Limits.{most_page_bytes}
 use Rattle.ftl_base.specs.Widths.{greatest_of_width}
 use Rattle.ftl_base.specs.declared.width.Width.{Width}
 use Rattle.ftl_model.specs.layout.Tree.{Forest}
@@ -50,7 +51,7 @@ status_of section.Edits = 10
 -- the sections that are needed
 abbrev pub page : Need → (bytes : List ℕ) → Stage Page
 page need bytes =
-    Is (if nat_lt 67108864 (length bytes) then ends (refused 4 too_long_line)
+    Is (if nat_lt most_page_bytes (length bytes) then ends (refused 4 too_long_line)
     else result_outcome (λ fault. refused 4 (page_line fault)) (page_of bytes need))
 
 -- ---- tokens

@@ -2,6 +2,7 @@
 use Rattle.std.specs.Prelude.{◌≡◌, ◌≢◌, ℕ, ◌+◌, ◌<◌, ◌≤◌, ◌⊎◌, Bool, true, false, List, [], length, Option, None, Some, map, String, Ok, IfSome}
 use Rattle.std.specs.Io.KnownBytes.{Appends}
 use Rattle.std.specs.String.{string_bytes}
+use Rattle.ftl_model.specs.layout.Limits.{most_page_bytes}
 use Rattle.ftl_boxes.specs.SamplePage.{sample_page_of}
 use Rattle.ftl_page.specs.commands.Commands.{command_of}
 use Rattle.ftl_page.specs.declared.commands.command.Command.{Command}
@@ -86,7 +87,7 @@ pub record MatchesAnswer (s : ℕ) (written after : Option (List ℕ)) (reads : 
   pub front : s ≡ 1 → AppendsFront written after a.text
   pub to_its_end : reads ≡ true → s ≢ 3 → s ≢ 9 → a ≢ refused 4 too_long_line → IfSome told (λ _. left ≡ Some [])
   pub counted : reads ≡ true → s ≢ 3 → s ≢ 9 → a ≢ refused 4 too_long_line → RoseBy (length bytes) old.taken new.taken
-  pub over : reads ≡ true → s ≢ 3 → s ≢ 9 → 67108864 < length bytes → raised old.taken 67108865 ≤ new.taken
+  pub over : reads ≡ true → s ≢ 3 → s ≢ 9 → most_page_bytes < length bytes → raised old.taken (most_page_bytes + 1) ≤ new.taken
 
 -- ---- faults
 

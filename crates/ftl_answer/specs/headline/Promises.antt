@@ -1,6 +1,7 @@
 -- What follows from the four promises of a call: what it writes and how far it reads, by its words and its status.
-use Rattle.std.specs.Prelude.{◌≡◌, ◌≢◌, ◌⊎◌, ℕ, ◌+◌, ◌<◌, ◌≤◌, true, false, List, [], length, ◌++◌, Option, Some, None, Ok, codes}
+use Rattle.std.specs.Prelude.{◌≡◌, ◌≢◌, ◌⊎◌, ℕ, ◌+◌, ◌<◌, ◌≤◌, true, false, List, [], length, ◌++◌, Option, Some, None, Ok, codes, nat_lt}
 use Rattle.std.specs.Io.KnownBytes.{Appends}
+use Rattle.ftl_model.specs.layout.Limits.{most_page_bytes}
 use Rattle.ftl_boxes.specs.SamplePage.{sample_page_of}
 use Rattle.ftl_deps.specs.reads.Meant.{meant}
 use Rattle.ftl_edge.specs.Counts.{RoseBy, raised}
@@ -25,6 +26,7 @@ use Rattle.ftl_schedule.specs.text.ScheduleText.{schedule_text}
 use Rattle.ftl_answer.specs.answers.Answer.{Answer, answer, refused}
 use Rattle.ftl_answer.specs.answers.Answers.{IsAnswer, boxes_of, rules_alone, shown_answer, summary_of}
 use Rattle.ftl_answer.specs.answers.Stages.{hands_on}
+use Rattle.ftl_answer.specs.answers.Summary.{overflow_count, shown_values}
 use Rattle.ftl_answer.specs.answers.Texts.{grammar, page, schedule}
 use Rattle.ftl_answer.specs.headline.Headline.{AreTold, Call, GivesTheAnswer, HasCauses, HasTheTable, IsAccepted, ReadsSoFar}
 use Rattle.ftl_answer.specs.headline.Headline.{SinkFailed, SourceFailed, call_of, words_read}
@@ -56,9 +58,13 @@ IsShown command.Schedule bytes a =
 IsShown (command.Sample pieces name how) bytes a =
     (text : List ℕ) × (sample_page_of name pieces ≡ Ok text) × IsTableShown (summary_of name) text a
 
--- the statuses of refusals: of words, of a page, of a grammar, of a schedule, of a document
+-- the statuses of refusals of what a section holds: of a grammar, of a schedule, of a document
+abbrev pub IsSectionStatus : (status : ℕ) → Type 0
+IsSectionStatus s = (s ≡ 5) ⊎ ((s ≡ 6) ⊎ (s ≡ 7))
+
+-- the statuses of refusals: of words, of a page, of what a section holds
 abbrev pub IsRefusalStatus : (status : ℕ) → Type 0
-IsRefusalStatus s = (s ≡ 2) ⊎ ((s ≡ 4) ⊎ ((s ≡ 5) ⊎ ((s ≡ 6) ⊎ (s ≡ 7))))
+IsRefusalStatus s = (s ≡ 2) ⊎ ((s ≡ 4) ⊎ IsSectionStatus s)
 
 -- one line that refuses
 abbrev pub IsRefusal : Answer → Type 0
@@ -83,11 +89,23 @@ abbrev pub WordsAreRefused : Type 0
 WordsAreRefused =
     (words : List (List ℕ)) (bytes : List ℕ) → command_of words ≡ None → IsAnswer words bytes (refused 2 words_line)
 
--- a page of more than 67108864 bytes is refused, where the words read one
+-- no other words have this status
+abbrev pub NoneButWordsAreRefused : Type 0
+NoneButWordsAreRefused =
+    (words : List (List ℕ)) (bytes : List ℕ) (a : Answer) → IsAnswer words bytes a → a.status ≡ 2
+    → command_of words ≡ None
+
+-- a page of more bytes than there may be is refused, where the words read one
 abbrev pub LongPagesAreRefused : Type 0
 LongPagesAreRefused =
-    (words : List (List ℕ)) (bytes : List ℕ) → words_read words ≡ true → 67108864 < length bytes
+    (words : List (List ℕ)) (bytes : List ℕ) → words_read words ≡ true → most_page_bytes < length bytes
     → IsAnswer words bytes (refused 4 too_long_line)
+
+-- no other page is refused as too long
+abbrev pub NoneButLongPagesAreRefused : Type 0
+NoneButLongPagesAreRefused =
+    (words : List (List ℕ)) (bytes : List ℕ) → words_read words ≡ true → IsAnswer words bytes (refused 4 too_long_line)
+    → most_page_bytes < length bytes
 
 -- a table that is shown ends with 8 where a shown value is Overflow, and with 0 where none is
 abbrev pub OverflowHasAStatus : Type 0
@@ -97,6 +115,13 @@ OverflowHasAStatus =
     → (shown_answer text c t values).status ≡ 8)
     × (shows_overflow (names_of c.grammar) t (value_in (meant c) t values) ≡ false
     → (shown_answer text c t values).status ≡ 0)
+
+-- the summary of a table counts some shown values that are Overflow exactly where one is
+abbrev pub SummariesCountOverflow : Type 0
+SummariesCountOverflow =
+    (c : CheckedGrammar) (t : Forest) (values : List Value)
+    → nat_lt 0 (overflow_count (shown_values (names_of c.grammar) t (value_in (meant c) t values)))
+    ≡ shows_overflow (names_of c.grammar) t (value_in (meant c) t values)
 
 -- ---- calls
 
@@ -202,7 +227,7 @@ ReadsThePage =
     → IsAnswer k.words bytes a → command_of k.words ≡ Some c → ReadsAPage c → k.status ≢ 3 → k.status ≢ 9
     → (a ≢ refused 4 too_long_line
     → (k.left_after ≡ Some []) × RoseBy (length bytes) k.counts_before.taken k.counts_after.taken)
-    × (67108864 < length bytes → raised k.counts_before.taken 67108865 ≤ k.counts_after.taken)
+    × (most_page_bytes < length bytes → raised k.counts_before.taken (most_page_bytes + 1) ≤ k.counts_after.taken)
 
 -- these words read no page: they are no command, or ask for a sample
 abbrev pub ReadNoPage : List (List ℕ) → Type 0

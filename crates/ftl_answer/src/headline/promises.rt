@@ -3,8 +3,11 @@
 ghost use Rattle.ftl_answer.specs.headline.Promises.{AcceptedIsShown, CompletesCommands};
 ghost use Rattle.ftl_answer.specs.headline.Promises.{EndsAsAnswered, LeavesTheSource};
 ghost use Rattle.ftl_answer.specs.headline.Promises.{LongPagesAreRefused, OneTableOfEachPage};
+ghost use Rattle.ftl_answer.specs.headline.Promises.{NoneButLongPagesAreRefused};
+ghost use Rattle.ftl_answer.specs.headline.Promises.{NoneButWordsAreRefused};
 ghost use Rattle.ftl_answer.specs.headline.Promises.{OrRefused, OverflowHasAStatus, ReadsThePage};
 ghost use Rattle.ftl_answer.specs.headline.Promises.{ReadsWithinLimits, StatusMeansTheWholeText};
+ghost use Rattle.ftl_answer.specs.headline.Promises.{SummariesCountOverflow};
 ghost use Rattle.ftl_answer.specs.headline.Promises.{StopsAtAReadFault, StopsWithoutMemory};
 ghost use Rattle.ftl_answer.specs.headline.Promises.{WordsAreRefused, WriteFaultsHaveCauses};
 ghost use Rattle.ftl_answer.specs.headline.Promises.{WritesAFront, WritesSomeAnswer};
@@ -17,8 +20,11 @@ pub fn accepted_or_refused()
     ensures shown { AcceptedIsShown }
     ensures refused { OrRefused }
     ensures words { WordsAreRefused }
+    ensures words_alone { NoneButWordsAreRefused }
     ensures long { LongPagesAreRefused }
+    ensures long_alone { NoneButLongPagesAreRefused }
     ensures overflow { OverflowHasAStatus }
+    ensures counted { SummariesCountOverflow }
 {}
 
 /// A law, the headline: a call of `run` without a fault and want of memory writes the boxes of the

@@ -1,6 +1,7 @@
 -- What is kept beside a lawful grammar.
 use Rattle.std.specs.Prelude.{◌≡◌, ℕ, List, map, None}
 use Rattle.ftl_grammar.specs.declared.syntax.rules.Grammar.{Grammar}
+use Rattle.ftl_grammar.specs.reading.Readable.{CanBeRead}
 use Rattle.ftl_meaning.specs.declared.faults.info.AttrInfo.{AttrInfo}
 use Rattle.ftl_meaning.specs.declared.faults.info.RuleInfo.{RuleInfo}
 use Rattle.ftl_checked.specs.declared.grammars.numbered_read.PartReads.{PartReads}
@@ -18,6 +19,7 @@ pub record IsKept (g : Grammar) (kept : Tables) (told : List AttrInfo) (ruled : 
     (read : List (List PartReads)) (first : ℕ) : Type 0
   where
     pub lawful : first_fault g ≡ None
+    pub readable : CanBeRead g
     pub small : HasSmallCounts g
     pub kinds : HasKinds g
     pub tables : kept ≡ tables_of g

@@ -1,6 +1,7 @@
 //! The first condition: how much there may be of anything.
 ghost use Rattle.std.specs.Prelude.{◌≡◌, ◌+◌, ◌<◌, length, filter, map, IfOk};
 ghost use Rattle.std.specs.List.{All};
+ghost use Rattle.ftl_model.specs.layout.Limits.{most_owner_attributes, most_part_reads};
 ghost use Rattle.ftl_meaning.specs.faults.Counts.{IsSmall, HasSmallInterface, HasSmallRule};
 ghost use Rattle.ftl_meaning.specs.faults.Counts.{HasSmallClass, HasSmallCounts};
 ghost use Rattle.ftl_meaning.specs.faults.Finds.{Finds, FindsInfos};
@@ -54,8 +55,8 @@ fn limit(what: What, most: usize, count: usize) -> Result<(), GrammarFault>
 #[tactic(auto, using(ftl_meaning::proofs::faults::First::first_steps))]
 fn interface_limits(interfaces: &[Interface]) -> Result<(), GrammarFault>
     requires small { All HasSmallInterface interfaces.now }
-    ensures finds { Finds (first_of (λ x. too_many what.Attributes 64 (length x.attrs))
-        interfaces.now) result }
+    ensures finds { Finds (first_of (λ x. too_many what.Attributes most_owner_attributes
+        (length x.attrs)) interfaces.now) result }
 {
     for interface in interfaces {
         limit(What::Attributes, 64, interface.attrs.len())?;
@@ -129,7 +130,7 @@ fn flat_rules<'a>(alloc: Global, rules: &'a [Rule]) -> Result<Items<FlatRule<'a>
 
 fn body_limits(body: &FlatBody<'_>) -> Result<(), GrammarFault>
     requires small { All (λ e. IsSmall (read_count e)) (expressions_of (body_in body.now)) }
-    ensures finds { Finds (first_of (λ e. too_many what.Reads 256 (read_count e))
+    ensures finds { Finds (first_of (λ e. too_many what.Reads most_part_reads (read_count e))
         (expressions_of (body_in body.now))) result }
 {
     match body {
@@ -147,7 +148,7 @@ fn body_limits(body: &FlatBody<'_>) -> Result<(), GrammarFault>
 
 fn expr_limit(expr: &FlatExpr<'_>) -> Result<(), GrammarFault>
     requires small { IsSmall (read_count expr.now) }
-    ensures finds { Finds (too_many what.Reads 256 (read_count expr.now)) result }
+    ensures finds { Finds (too_many what.Reads most_part_reads (read_count expr.now)) result }
 {
     limit(What::Reads, 256, counted(expr.reads()))
 }

@@ -1,11 +1,11 @@
 //! The check of grammars.
 ghost use Rattle.std.specs.Prelude.{◌≡◌, map, IfOk};
+ghost use Rattle.ftl_grammar.specs.reading.Readable.{CanBeRead};
 ghost use Rattle.ftl_model.specs.layout.Outcome.{Gives};
 ghost use Rattle.ftl_meaning.specs.faults.Checked.{all_rules, checked_as, rule_info};
 ghost use Rattle.ftl_meaning.specs.faults.Counts.{HasSmallCounts};
 ghost use Rattle.ftl_meaning.specs.faults.Finds.{FindsInfos};
 ghost use Rattle.ftl_meaning.specs.faults.FirstFault.{first_fault};
-ghost use Rattle.ftl_meaning.specs.faults.Kinds.{HasKinds};
 ghost use Rattle.ftl_checked.specs.grammars.ReadNumbers.{leaves_in, rule_leaves};
 ghost use Rattle.ftl_checked.specs.lookup.Tables.{tables_of};
 ghost use Rattle.ftl_meaning.specs.declared.faults.fault.GrammarFault.TheVariants.{OutOfMemory};
@@ -17,15 +17,15 @@ use crate::grammars::rules::CheckedRules;
 use crate::lookup::{Tables, attr_infos, build_tables, interface_number};
 use ftl_base::Width;
 use ftl_grammar::Grammar;
-use ftl_meaning::GrammarFault;
+use ftl_meaning::{GrammarFault, small_counts};
 use std::alloc::Global;
 
-/// A lawful grammar with its numbers, or the first fault of the grammar.
+/// A lawful grammar with its numbers, or the first fault of a grammar that was read.
 pub fn check_grammar(alloc: Global, grammar: Grammar, width: Width) -> Result<Checked, GrammarFault>
-    requires small { HasSmallCounts grammar }
-    requires kinds { HasKinds grammar }
+    requires readable { CanBeRead grammar }
     ensures exact { Gives OutOfMemory (λ c. c) result (checked_as grammar width) }
 {
+    small_counts(&grammar);
     let (tables, rules) = conditions(alloc, &grammar)?;
     let attrs = attr_infos(alloc, &grammar)?;
     let root = interface_number(&grammar, &tables.names, &grammar.root);

@@ -1,6 +1,7 @@
 //! A lawful grammar, with its numbers.
 ghost use Rattle.std.specs.Prelude.{◌≡◌, ◌<◌, None, length, map, IfOk};
 ghost use Rattle.std.specs.Option.{option_map};
+ghost use Rattle.ftl_grammar.specs.reading.Readable.{CanBeRead};
 ghost use Rattle.ftl_meaning.specs.faults.Allowed.{leaf_of};
 ghost use Rattle.ftl_meaning.specs.faults.Checked.{all_attributes, all_rules, attribute_at};
 ghost use Rattle.ftl_meaning.specs.faults.Checked.{attribute_info, attribute_named};
@@ -85,6 +86,7 @@ impl Checked {
     pub fn grammar(&self) -> &Grammar
         ensures grammar { result.now ≡ self.now.grammar }
         ensures lawful { first_fault self.now.grammar ≡ None }
+        ensures readable { CanBeRead self.now.grammar }
         ensures kinds { HasKinds self.now.grammar }
     {
         &self.grammar

@@ -4,7 +4,7 @@ use Rattle.std.proofs.Common.{drop, ap₂, append-nil}
 use Rattle.std.specs.List.{sum_by}
 use Rattle.ftl_meaning.specs.faults.Numbering.{numbered}
 use Rattle.ftl_grammar.specs.declared.syntax.rules.Grammar.{Grammar}
-use Rattle.ftl_document.specs.syntax.Braces.{most_nodes}
+use Rattle.ftl_model.specs.layout.Limits.{most_nodes}
 use Rattle.ftl_document.specs.syntax.Sizes.{node_count}
 use Rattle.ftl_document.specs.syntax.Written.{WrittenNode, list_field, no_fields, no_nodes, node_and, node_field}
 use Rattle.ftl_document.specs.syntax.Written.{number_field}

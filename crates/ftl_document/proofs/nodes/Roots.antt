@@ -5,7 +5,7 @@ use Rattle.std.specs.List.{sum_by}
 use Rattle.std.proofs.lemmas.List.Sums.{sum_by-append, sum_by-cons}
 use Rattle.ftl_meaning.specs.faults.Numbering.{class_attributes, interface_number, numbered}
 use Rattle.ftl_grammar.specs.declared.syntax.rules.Grammar.{Grammar}
-use Rattle.ftl_document.specs.syntax.Braces.{most_nodes}
+use Rattle.ftl_model.specs.layout.Limits.{most_nodes}
 use Rattle.ftl_document.specs.syntax.Rows.{DocumentRows, document_rows, rows_of_fields, rows_of_nodes}
 use Rattle.ftl_document.specs.syntax.Sizes.{node_count, nodes_in_fields, nodes_in_list}
 use Rattle.ftl_document.specs.syntax.Written.{NameText, WrittenFields, WrittenNode, WrittenNodes, list_field}

@@ -12,7 +12,8 @@ use Rattle.ftl_document.specs.declared.syntax.fault.WrittenDocumentFault.TheVari
 use Rattle.ftl_document.specs.declared.syntax.fault.WrittenDocumentFault.TheVariants.{OutOfMemory}
 use Rattle.ftl_document.specs.syntax.Written.{WrittenNode}
 use Rattle.ftl_document.specs.syntax.Rows.{DocumentRows, document_rows, rows_of_fields}
-use Rattle.ftl_document.specs.syntax.Braces.{braces, deepest, most_nodes}
+use Rattle.ftl_model.specs.layout.Limits.{most_nodes}
+use Rattle.ftl_document.specs.syntax.Braces.{braces, deepest}
 use Rattle.ftl_document.specs.syntax.Read.{IsNotTooDeep, opened_in, ReadsDocument}
 use Rattle.ftl_document.specs.syntax.RowReading.{document}
 use Rattle.ftl_document.proofs.syntax.Documents.{one_document, is_document, is_no_document}

@@ -1,9 +1,8 @@
 -- How many tokens and how many marks `{` a text has.
-use Rattle.std.proofs.Common.{◌≡◌, ℕ, suc, ◌+◌, ◌-◌, ◌≤◌, Bool, true, false, List, [], ◌∷◌, length, map, slice_get}
-use Rattle.std.proofs.Common.{count_by, cond, ◌||◌, refl, sym, ap, ◌∙◌, arith}
+use Rattle.std.proofs.Common.{◌≡◌, ℕ, ◌+◌, Bool, true, false, List, ◌∷◌, map}
+use Rattle.std.proofs.Common.{count_by, cond, ◌||◌, refl, ap, ◌∙◌, arith}
 use Rattle.ftl_tokens.specs.declared.scanner.kind.Token.{Token}
-use Rattle.ftl_tokens.specs.scanner.Tokenized.{Tokenized, symbol_of, AreTokensOf}
-use Rattle.ftl_tokens.specs.reading.Place.{place_of, byte_at}
+use Rattle.ftl_tokens.specs.scanner.Tokenized.{Tokenized, symbol_of}
 use Rattle.ftl_tokens.specs.declared.scanner.kind.Kind.TheVariants as kind
 use Rattle.ftl_tokens.specs.scanner.Tokenized.{token_text, kind_of_symbol}
 use Rattle.ftl_tokens.specs.reading.Reader.{same_kind}
@@ -13,35 +12,6 @@ use Rattle.ftl_document.specs.syntax.Braces.{braces}
 use Rattle.ftl_document.specs.syntax.Read.{opened_in}
 use Rattle.std.proofs.lemmas.List.Recursion.{is_count_by}
 use Rattle.std.proofs.lemmas.List.Sums.{sum_by-cons}
-
--- the place behind all tokens is the same without the first, where another follows it
-place_later : (t u : Token) (ts : List Token) → place_of (t ∷ u ∷ ts) (length (t ∷ u ∷ ts)) ≡ place_of (u ∷ ts) (length (u ∷ ts))
-unfolding place_of
-place_later t u ts =
-    let before : suc (suc (length ts)) - 1 ≡ suc (length ts) = omega arith in
-    let here : suc (length ts) - 1 ≡ length ts = omega arith in
-    ap (λ k. byte_at (slice_get ts (length ts)) (slice_get (t ∷ u ∷ ts) k)) before
-    ∙ ap (λ k. byte_at (slice_get ts (length ts)) (slice_get (u ∷ ts) k)) (sym here)
-
--- the place behind one token is its end
-place_one : (t : Token) → place_of (t ∷ []) (length (t ∷ [])) ≡ t.end
-unfolding place_of
-place_one t = refl
-
--- the tokens behind `at` have a byte at least each, and the last ends at the place behind all of them
-tokens_end : (greatest : ℕ) (text : List ℕ) (at : ℕ) (t : Token) (ts : List Token) → AreTokensOf greatest text at (t ∷ ts)
-    → at + length (t ∷ ts) ≤ place_of (t ∷ ts) (length (t ∷ ts))
-tokens_end greatest text at t [] are = let some = are.1.some in omega (arith, are.0, some, place_one t)
-tokens_end greatest text at t (u ∷ ts) are =
-    let some = are.1.some in
-    let later = tokens_end greatest text t.end u ts are.2 in
-    omega (arith, are.0, some, later, place_later t u ts)
-
--- there are no more tokens than bytes up to the end of the last one
-pub tokens-le-place : (greatest : ℕ) (text : List ℕ) (tokens : List Token) → AreTokensOf greatest text 0 tokens
-    → length tokens ≤ place_of tokens (length tokens)
-tokens-le-place greatest text [] are = omega arith
-tokens-le-place greatest text (t ∷ ts) are = omega (arith, tokens_end greatest text 0 t ts are)
 
 -- whether the token is a mark `{`
 abbrev pub opens : Token → Bool

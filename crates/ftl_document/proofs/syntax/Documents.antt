@@ -13,7 +13,7 @@ use Rattle.ftl_tokens.proofs.reading.WholeLists.{ReadsAll, bind_reads_all, end_r
 use Rattle.ftl_document.specs.syntax.Written.{WrittenNode}
 use Rattle.ftl_document.specs.syntax.Spelling.{SpellsNode}
 use Rattle.ftl_document.specs.syntax.Rows.{DocumentRows, document_rows, rows_of_fields}
-use Rattle.ftl_document.specs.syntax.Braces.{most_nodes}
+use Rattle.ftl_model.specs.layout.Limits.{most_nodes}
 use Rattle.ftl_document.specs.syntax.Read.{IsNotTooDeep, opened_in, IsDocument, IsNoDocument}
 use Rattle.ftl_document.specs.syntax.Sizes.{RowIsWithin}
 use Rattle.ftl_document.proofs.syntax.Reading.{node, fields_to, document_to, document}

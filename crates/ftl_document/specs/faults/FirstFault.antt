@@ -3,6 +3,7 @@ use Rattle.std.specs.Prelude.{ℕ, ◌==◌, Bool, true, false, not, nat_lt, if�
 use Rattle.std.specs.Prelude.{filter, sum_by, Option, Some, None}
 use Rattle.std.specs.List.{find, list_any}
 use Rattle.std.specs.Option.{option_map, option_to_list}
+use Rattle.ftl_model.specs.layout.Limits.{most_instances}
 use Rattle.ftl_grammar.specs.declared.syntax.rules.Grammar.{Grammar}
 use Rattle.ftl_document.specs.syntax.Written.{NameText, WrittenNode}
 use Rattle.ftl_meaning.specs.faults.Checked.{class_named, field_named, is_input}
@@ -115,7 +116,7 @@ instance_count_of g node = sum_by (λ x. length (class_attributes g (class_numbe
 
 -- more instances than there may be
 abbrev pub too_many_instances : (count : ℕ) → Option DocFault
-too_many_instances count = fault_if (nat_lt 33554432 count) (fault.TooManyInstances count)
+too_many_instances count = fault_if (nat_lt most_instances count) (fault.TooManyInstances count)
 
 -- the first fault of a document
 abbrev pub first_fault : Grammar → WrittenNode → Option DocFault

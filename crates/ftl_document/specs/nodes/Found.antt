@@ -1,6 +1,6 @@
 -- What a walk over a document answers.
 use Rattle.std.specs.Prelude.{◌≡◌, ◌≢◌, ◌≤◌, Option, Some, None, Result, Ok, Err}
-use Rattle.ftl_document.specs.syntax.Braces.{most_nodes}
+use Rattle.ftl_model.specs.layout.Limits.{most_nodes}
 use Rattle.ftl_document.specs.syntax.Rows.{DocumentRows, document_rows, rows_of_fields}
 use Rattle.ftl_document.specs.syntax.Sizes.{node_count}
 use Rattle.ftl_document.specs.syntax.Written.{WrittenNode}

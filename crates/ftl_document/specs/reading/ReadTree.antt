@@ -2,7 +2,7 @@
 use Rattle.std.specs.Prelude.{◌≡◌, ◌≤◌, Some, None, Result, Ok, Err}
 use Rattle.ftl_tokens.specs.scanner.Tokenized.{WideTokenized, symbols_of}
 use Rattle.ftl_meaning.specs.faults.Checked.{CheckedGrammar}
-use Rattle.ftl_document.specs.syntax.Braces.{most_nodes}
+use Rattle.ftl_model.specs.layout.Limits.{most_nodes}
 use Rattle.ftl_document.specs.syntax.Read.{IsNotTooDeep, ReadsDocument, opened_in}
 use Rattle.ftl_document.specs.syntax.Spelling.{SpellsNode}
 use Rattle.ftl_document.specs.syntax.Written.{WrittenNode}

@@ -11,7 +11,8 @@ use Rattle.ftl_document.specs.declared.syntax.fault.WrittenDocumentFault.TheVari
 use Rattle.ftl_document.specs.syntax.Written.{WrittenNode}
 use Rattle.ftl_document.specs.syntax.Spelling.{SpellsNode}
 use Rattle.ftl_document.specs.syntax.Rows.{DocumentRows, document_rows, rows_of_fields}
-use Rattle.ftl_document.specs.syntax.Braces.{braces, deepest, most_nodes}
+use Rattle.ftl_model.specs.layout.Limits.{most_nodes}
+use Rattle.ftl_document.specs.syntax.Braces.{braces, deepest}
 use Rattle.ftl_document.specs.syntax.Sizes.{node_count, levels_of, FieldsAreWithin, RowIsWithin}
 
 -- why a text is no document

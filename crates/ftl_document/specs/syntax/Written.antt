@@ -1,5 +1,5 @@
 -- Documents as they are written: nodes with fields, whose names mean nothing yet.
-use Rattle.std.specs.Prelude.{ℕ, ◌+◌, suc, ℤ, List}
+use Rattle.std.specs.Prelude.{ℕ, ℤ, List}
 
 -- a name, by its bytes in UTF-8
 abbrev pub NameText : Type 0

@@ -12,7 +12,8 @@ use Rattle.ftl_document.specs.faults.FirstFault.{fault_if, first_fault, first_no
 use Rattle.ftl_document.specs.faults.FirstFault.{instance_count_of}
 use Rattle.ftl_document.specs.faults.FirstFault.{too_many_instances}
 use Rattle.ftl_document.specs.faults.WrittenOf.{written_of}
-use Rattle.ftl_document.specs.syntax.Braces.{braces, deepest, most_nodes}
+use Rattle.ftl_model.specs.layout.Limits.{most_nodes}
+use Rattle.ftl_document.specs.syntax.Braces.{braces, deepest}
 use Rattle.ftl_document.specs.syntax.Sizes.{levels_of, node_count}
 use Rattle.ftl_document.specs.syntax.Spelling.{SpellsNode}
 use Rattle.ftl_document.specs.syntax.Written.{WrittenNode}

@@ -2,6 +2,8 @@
 
 ghost use Rattle.std.specs.Prelude.{◌≡◌, ◌++◌, ◌<◌, ◌≤◌, true, string_bytes, length, IfOk, OnOk};
 ghost use Rattle.ftl_deps.specs.reads.Meant.{meant};
+ghost use Rattle.ftl_document.specs.reading.ReadTree.{IsTreeRead};
+ghost use Rattle.ftl_document_printing.specs.round_trip.ReadBack.{IsReadBack};
 ghost use Rattle.ftl_document_printing.specs.trees.Left.{Goes, HasParent, IsAttributeTable};
 ghost use Rattle.ftl_document_printing.specs.trees.Left.{IsBehind};
 ghost use Rattle.ftl_document_printing.specs.trees.Left.{IsWriterPlace, class_in, entered};
@@ -12,8 +14,10 @@ ghost use Rattle.ftl_document.specs.faults.WrittenOf.{written_of};
 ghost use Rattle.ftl_document_printing.specs.text.DocumentText.{document_text};
 ghost use Rattle.ftl_meaning.specs.faults.Numbering.{child_at, class_at};
 ghost use Rattle.ftl_model.specs.layout.Tree.{size};
+ghost use Rattle.ftl_tokens.specs.scanner.Tokenized.{WideTokenized};
 ghost use Rattle.ftl_tree.specs.rows.KidRuns.{IsChildOf};
 
+use crate::round_trip::read_documents;
 use crate::text::{write_field, write_mark, write_open};
 use crate::trees::inputs::{tree_is_lawful, write_inputs};
 use crate::trees::writer_place::WriterPlace;
@@ -24,15 +28,29 @@ use ftl_visit::class_attributes;
 use sqlite_items::Items;
 use std::alloc::{AllocError, Global};
 
-/// The canonical text of the tree.
+/// The canonical text of the tree. A tree that was read is read back from it.
 pub fn print_document(alloc: Global, tree: &Tree) -> Result<String, AllocError>
     ensures text { IfOk result (λ text. string_bytes text
         ≡ document_text (written_of tree.now.checked.grammar tree.now.tree)) }
+    ensures read_back { (scanned : WideTokenized) → IsTreeRead tree.now.checked scanned tree.now
+        → IfOk result (λ text. IsReadBack tree.now.checked tree.now.tree (string_bytes text)) }
 {
+    is_read_back(tree);
     let attrs = class_attributes(alloc, tree.checked())?;
     let mut out = String::new(alloc);
     write_nodes(&mut out, tree, attrs.as_slice())?;
     Ok(out)
+}
+
+/// Says of a tree that it is read back from its canonical text, where it was read.
+fn is_read_back(tree: &Tree)
+    ensures read_back { (scanned : WideTokenized) → IsTreeRead tree.now.checked scanned tree.now
+        → IsReadBack tree.now.checked tree.now.tree
+        (document_text (written_of tree.now.checked.grammar tree.now.tree)) }
+{
+    tree_is_lawful(tree);
+    let _readable = tree.checked().grammar();
+    read_documents();
 }
 
 fn write_nodes(out: &mut String, tree: &Tree, attrs: &[Items<u32>]) -> Result<(), AllocError>

@@ -4,6 +4,7 @@ use Rattle.std.specs.Str.{chars, IsUtf8}
 use Rattle.std.specs.Str.Parse.{digits_value}
 use Rattle.std.proofs.lemmas.Bool.{ltb-false}
 use Rattle.std.proofs.lemmas.Str.{IsUtf8-between}
+use Rattle.std.specs.List.{AllByRecursion}
 use Rattle.std.specs.Prelude.{Some}
 use Rattle.ftl_tokens.specs.declared.scanner.kind.Kind.{Kind}
 use Rattle.ftl_tokens.specs.declared.scanner.kind.Kind.TheVariants as kind
@@ -18,11 +19,12 @@ use Rattle.ftl_tokens.specs.reading.Depth.{IsShallow}
 use Rattle.ftl_grammar.specs.declared.syntax.rules.Grammar.{Grammar}
 use Rattle.ftl_grammar.specs.syntax.Brackets.{brackets, limit}
 use Rattle.ftl_grammar.specs.syntax.GrammarSpelling.{SpellsGrammar}
-use Rattle.ftl_tokens.specs.writing.Written.{written_bytes, text_of, said_by, Says, IsSpace, AreSpaced}
+use Rattle.ftl_tokens.specs.writing.Written.{written_bytes, text_of, said_by, Says, IsSpace, AreSpaced, CanBeSaid}
 use Rattle.ftl_tokens.proofs.writing.WrittenScan.{says_written}
 use Rattle.ftl_tokens.proofs.writing.SpacedLemmas.{spaced_are_readable}
 use Rattle.ftl_grammar.specs.printing.GrammarTokens.{gap_after, spaced, spaced_bytes, spaced_text, grammar_tokens, grammar_text}
 use Rattle.ftl_grammar.specs.printing.TextOf.{IsTextOf}
+use Rattle.ftl_grammar.specs.reading.Readable.{CanBeRead}
 use Rattle.ftl_grammar.proofs.printing.Levels.{Each}
 use Rattle.ftl_grammar.proofs.printing.SpelledAttrs.{Said}
 use Rattle.ftl_grammar.proofs.printing.SpelledGrammars.{grammar_canonical}
@@ -40,7 +42,7 @@ token_said text t utf8 is =
     is.kind is.small
 
 -- what the tokens of a text say can be said
-tokens_said : (text : List ℕ) (at : ℕ) (ts : List Token) → IsUtf8 text → AreTokensOf 2147483647 text at ts
+pub tokens_said : (text : List ℕ) (at : ℕ) (ts : List Token) → IsUtf8 text → AreTokensOf 2147483647 text at ts
     → Each Said (map (symbol_of text) ts)
 tokens_said text at [] utf8 are = tt
 tokens_said text at (t ∷ ts) utf8 are = (token_said text t utf8 are.1, tokens_said text t.end ts utf8 are.2)
@@ -76,10 +78,11 @@ says_grammar text ts g says shallow spells = record {
   spells = subst (λ l. SpellsGrammar l g) (sym says.said) spells;
 }
 
-pub canonical_text : (text : List ℕ) (g : Grammar) → IsUtf8 text → IsTextOf text g → IsTextOf (grammar_text g) g
-canonical_text text g utf8 is =
-    let said = tokens_said text 0 is.tokens utf8 (are_tokens_of 2147483647 text is.tokens utf8 is.scanned) in
-    let canonical = grammar_canonical is.spells said is.shallow in
+-- the canonical text of a grammar that tokens spell which can be said
+canonical_of : (tokens : Tokens) (g : Grammar) → Each Said tokens → IsShallow brackets limit tokens
+    → SpellsGrammar tokens g → IsTextOf (grammar_text g) g
+canonical_of tokens g said shallow spells =
+    let canonical = grammar_canonical spells said shallow in
     let ts = grammar_tokens g in
     let says = says_written 2147483647 (omega arith) (map spaced ts)
     (spaced_are_readable 2147483647 (map spaced ts) (are_spaced ts canonical.said)) in
@@ -87,3 +90,17 @@ canonical_text text g utf8 is =
     (subst (λ l. Says 2147483647 (grammar_text g) l) (said_by_spaced ts)
     (subst (λ l. Says 2147483647 l (said_by (map spaced ts))) (spaced_is_text ts) says))
     canonical.shallow canonical.spells
+
+pub canonical_text : (text : List ℕ) (g : Grammar) → IsUtf8 text → IsTextOf text g → IsTextOf (grammar_text g) g
+canonical_text text g utf8 is =
+    canonical_of _ g (tokens_said text 0 is.tokens utf8 (are_tokens_of 2147483647 text is.tokens utf8 is.scanned))
+    is.shallow is.spells
+
+-- the same of tokens one by one
+pub each_said : (ts : Tokens) → AllByRecursion (CanBeSaid 2147483647) ts → Each Said ts
+each_said [] said = tt
+each_said (t ∷ ts) said = (said.0, each_said ts said.1)
+
+-- and of a grammar that can be read
+pub readable_text : (g : Grammar) → CanBeRead g → IsTextOf (grammar_text g) g
+readable_text g is = canonical_of is.tokens g (each_said is.tokens is.said) is.shallow is.spells

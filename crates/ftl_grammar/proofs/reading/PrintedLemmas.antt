@@ -1,5 +1,5 @@
 -- A grammar that was read is read again from its canonical text.
-use Rattle.std.proofs.Common.{◌≡◌, ◌≢◌, ℕ, List, Result, Ok, Err, sym, ap, ap₂, ◌∙◌, subst}
+use Rattle.std.proofs.Common.{◌≡◌, ◌≢◌, ℕ, List, Result, Ok, Err, refl, sym, ap, ap₂, ◌∙◌, subst}
 use Rattle.ftl_tokens.specs.declared.scanner.kind.Token.{Token}
 use Rattle.ftl_tokens.specs.scanner.Scan.{Scanning, scan}
 use Rattle.ftl_tokens.specs.scanner.Tokenized.{Tokenized, symbols_of}
@@ -30,11 +30,11 @@ is_text scanned g is read =
     record { tokens = scanned.tokens; scanned = is.tokens; shallow = read.shallow; spells = read.spells }
 
 -- what is scanned from a text of a grammar is the grammar's
-is_grammar_of : (printed : Tokenized) (text : List ℕ) (g : Grammar) → IsScanned printed → printed.text ≡ text
-    → IsTextOf text g → IsGrammar printed g
+is_grammar_of : (printed : Tokenized) (text : List ℕ) (g : Grammar) → scan 2147483647 printed.text ≡ Ok printed.tokens
+    → printed.text ≡ text → IsTextOf text g → IsGrammar printed g
 is_grammar_of printed text g is same of =
     let told : found_of of.tokens ≡ Ok printed.tokens =
-    sym of.scanned ∙ ap (scan 2147483647) (sym same) ∙ is.tokens in
+    sym of.scanned ∙ ap (scan 2147483647) (sym same) ∙ is in
     let found : of.tokens ≡ printed.tokens = cc told in
     let whole : with_tokens text of.tokens ≡ printed = ap₂ with_tokens (sym same) found in
     record {
@@ -53,5 +53,11 @@ pub printed_is_read : (scanned printed : Tokenized) (g : Grammar) (answer : Resu
     → answer ≢ Err OutOfMemory → ReadsGrammar printed answer → answer ≡ Ok g
 printed_is_read scanned printed g answer is read printed_is same told reads =
     let of = canonical_text scanned.text g is.utf8 (is_text scanned g is read) in
-    let again = is_grammar_of printed (grammar_text g) g printed_is same of in
+    let again = is_grammar_of printed (grammar_text g) g printed_is.tokens same of in
     any_two_answers printed answer (Ok g) told (λ memory. cc) reads again
+
+pub text_is_read : (printed : Tokenized) (g : Grammar) (answer : Result Grammar SyntaxFault)
+    → scan 2147483647 printed.text ≡ Ok printed.tokens → IsTextOf printed.text g → answer ≢ Err OutOfMemory
+    → ReadsGrammar printed answer → answer ≡ Ok g
+text_is_read printed g answer is of told reads =
+    any_two_answers printed answer (Ok g) told (λ memory. cc) reads (is_grammar_of printed printed.text g is refl of)

@@ -11,6 +11,7 @@ ghost use Rattle.ftl_grammar.specs.printing.GrammarTokens.{child_tokens};
 ghost use Rattle.ftl_grammar.specs.printing.GrammarTokens.{target_tokens, body_tokens, rule_tokens};
 ghost use Rattle.ftl_grammar.specs.printing.GrammarTokens.{class_tokens, spaced_text, grammar_text};
 ghost use Rattle.ftl_grammar.specs.printing.TextOf.{IsTextOf};
+ghost use Rattle.ftl_grammar.specs.reading.Readable.{CanBeRead};
 
 use crate::printing::expression::print_expr;
 use crate::printing::token::{fixed, name};
@@ -18,10 +19,13 @@ use crate::syntax::{AttrDecl, AttrKind, Body, Child, Class, Grammar, Interface, 
 use ftl_tokens::{Kind, Name};
 use std::alloc::{AllocError, Global};
 
-/// The canonical text of a grammar. Where any text spells the grammar, this one does.
+/// The canonical text of a grammar. Where any text spells the grammar, this one does; so it does of
+/// a grammar that was read.
 pub fn print_grammar(alloc: Global, grammar: &Grammar) -> Result<String, AllocError>
     ensures text { IfOk result (λ printed. string_bytes printed ≡ grammar_text grammar.now) }
     ensures spells { (text : List ℕ) → IsUtf8 text → IsTextOf text grammar.now
+        → IfOk result (λ printed. IsTextOf (string_bytes printed) grammar.now) }
+    ensures reads { CanBeRead grammar.now
         → IfOk result (λ printed. IsTextOf (string_bytes printed) grammar.now) }
 {
     let mut out = String::new(alloc);

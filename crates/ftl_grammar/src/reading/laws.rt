@@ -8,6 +8,7 @@ ghost use Rattle.ftl_grammar.specs.declared.syntax.rules.Grammar.{Grammar};
 ghost use Rattle.ftl_grammar.specs.declared.reading.fault.SyntaxFault.{SyntaxFault};
 ghost use Rattle.ftl_grammar.specs.declared.reading.fault.SyntaxFault.TheVariants.{OutOfMemory};
 ghost use Rattle.ftl_grammar.specs.printing.GrammarTokens.{grammar_text};
+ghost use Rattle.ftl_grammar.specs.printing.TextOf.{IsTextOf};
 ghost use Rattle.ftl_grammar.specs.reading.Read.{ReadsGrammar};
 ghost use Rattle.ftl_grammar.specs.reading.Printed.{IsScanned};
 
@@ -22,7 +23,8 @@ pub fn one_answer()
 {}
 
 /// A grammar that was read from some text is read again from its canonical text: this has tokens,
-/// and the answer to them is that grammar, want of memory aside.
+/// and the answer to them is that grammar, want of memory aside. So is the answer to each text of a
+/// grammar, as `print_grammar` gives one of a grammar that was read.
 pub fn printed_grammars_are_read()
     ensures scanned { (scanned : Tokenized) (g : Grammar) → IsScanned scanned
         → ReadsGrammar scanned (Ok g)
@@ -30,5 +32,8 @@ pub fn printed_grammars_are_read()
     ensures read { (scanned printed : Tokenized) (g : Grammar) (answer : Result Grammar SyntaxFault)
         → IsScanned scanned → ReadsGrammar scanned (Ok g)
         → IsScanned printed → printed.text ≡ grammar_text g
+        → answer ≢ Err OutOfMemory → ReadsGrammar printed answer → answer ≡ Ok g }
+    ensures texts { (printed : Tokenized) (g : Grammar) (answer : Result Grammar SyntaxFault)
+        → scan 2147483647 printed.text ≡ Ok printed.tokens → IsTextOf printed.text g
         → answer ≢ Err OutOfMemory → ReadsGrammar printed answer → answer ≡ Ok g }
 {}

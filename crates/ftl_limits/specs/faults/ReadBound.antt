@@ -1,5 +1,6 @@
 -- How much steps read at most, told by counts alone.
 use Rattle.std.specs.Prelude.{◌≡◌, ℕ, ◌≤◌, length, None}
+use Rattle.ftl_model.specs.layout.Limits.{most_part_reads}
 use Rattle.ftl_model.specs.layout.AttributeGrammar.{AttributeGrammar, Parts, first_then, fold_over, plain}
 use Rattle.ftl_model.specs.layout.Path.{Has, Path, kids_at}
 use Rattle.ftl_model.specs.layout.Tree.{Forest}
@@ -19,9 +20,9 @@ pub record IsNoLess (less more : RuleBound) : Type 0 where
   pub each : less.each ≤ more.each
 
 -- no more than 256 reads, as the parts of lawful rules have at most
-pub record IsSmall (b : RuleBound) : Type 0 where
-  pub once : b.once ≤ 256
-  pub each : b.each ≤ 256
+pub record IsWithinReadLimit (b : RuleBound) : Type 0 where
+  pub once : b.once ≤ most_part_reads
+  pub each : b.each ≤ most_part_reads
 
 -- no node has more kids in a child
 abbrev pub KidsWithin : Forest → (most : ℕ) → Type 0

@@ -3,6 +3,7 @@ use Rattle.std.specs.Prelude.{◌≡◌, ℕ, ◌+◌, ◌*◌, ◌<◌, ◌≤�
 use Rattle.std.specs.Prelude.{slice_index_or, sum_by, take, Option, Some, None}
 use Rattle.std.specs.List.{find}
 use Rattle.std.specs.Option.{option_map}
+use Rattle.ftl_model.specs.layout.Limits.{most_stage_reads, most_step_reads}
 use Rattle.ftl_model.specs.layout.AttributeGrammar.{AttributeGrammar}
 use Rattle.ftl_model.specs.layout.Path.{preorder}
 use Rattle.ftl_model.specs.layout.Solves.{Instance}
@@ -22,7 +23,7 @@ no_reads = record { total = 0; wide = None }
 -- what is there, or else a count where it is past the limit
 abbrev pub or_wide : Option ℕ → (count : ℕ) → Option ℕ
 or_wide (Some n) count = Some n
-or_wide None count = if nat_lt 1048576 count then Some count else None
+or_wide None count = if nat_lt most_step_reads count then Some count else None
 
 -- with one step more, which reads so much
 abbrev pub with_step : StageReads → (count : ℕ) → StageReads
@@ -38,7 +39,7 @@ abbrev pub reads_of_steps : AttributeGrammar → Forest → List Instance → St
 reads_of_steps g t steps =
     record {
       total = sum_by (read_count g t) steps;
-      wide = option_map (read_count g t) (find (λ i. nat_lt 1048576 (read_count g t i)) steps);
+      wide = option_map (read_count g t) (find (λ i. nat_lt most_step_reads (read_count g t i)) steps);
     }
 
 -- what the steps of a stage read among the first so many instances
@@ -69,7 +70,7 @@ pub record AreFurther (g : AttributeGrammar) (s : Schedule) (t : Forest) (i : In
 
 -- what is there tells of a stage that reads too much
 abbrev pub many_by : List StageReads → (stage : ℕ) → Option PlanFault
-many_by counts k = fault_past 67108864 (TooManyReads (k + 1)) (slice_index_or counts k no_reads).total
+many_by counts k = fault_past most_stage_reads (TooManyReads (k + 1)) (slice_index_or counts k no_reads).total
 
 -- and of a step that does
 abbrev pub wide_by : List StageReads → (stage : ℕ) → Option PlanFault

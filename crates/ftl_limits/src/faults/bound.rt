@@ -8,8 +8,8 @@ ghost use Rattle.ftl_deps.specs.reads.Meant.{meant};
 ghost use Rattle.ftl_deps.specs.parts.RuleParts.{parts_meant};
 ghost use Rattle.ftl_visit.specs.step_reads.StepReads.{HasFewReads};
 ghost use Rattle.ftl_limits.specs.reads.ReadTables.{AreTables, IsSound};
-ghost use Rattle.ftl_limits.specs.faults.ReadBound.{HasNoFault, IsNoLess, IsSmall, KidsWithin};
-ghost use Rattle.ftl_limits.specs.faults.ReadBound.{PartsWithin};
+ghost use Rattle.ftl_limits.specs.faults.ReadBound.{HasNoFault, IsNoLess, IsWithinReadLimit};
+ghost use Rattle.ftl_limits.specs.faults.ReadBound.{KidsWithin, PartsWithin};
 
 use crate::reads::ReadTables;
 use ftl_deps::RuleParts;
@@ -42,7 +42,7 @@ pub(crate) fn is_far_from_limits(tables: &ReadTables, tree: &Tree<'_>) -> bool
 /// How much all steps read at most. Each node but the root is a kid of one other, whose folds come
 /// to it.
 fn total_bound(rules: RuleBound, widest: u64, tree: &Tree<'_>) -> u64
-    requires small { IsSmall rules }
+    requires small { IsWithinReadLimit rules }
     requires narrow { widest ≤ 128 }
     ensures total { result
         ≡ rules.once * instance_count (meant tree.now.checked) tree.now.tree
@@ -57,7 +57,7 @@ fn total_bound(rules: RuleBound, widest: u64, tree: &Tree<'_>) -> u64
 fn rule_bound(rows: &[RuleParts]) -> RuleBound
     requires few { All (λ parts. HasFewReads (parts_meant parts)) rows.now }
     ensures within { All (λ parts. PartsWithin result (parts_meant parts)) rows.now }
-    ensures small { IsSmall result }
+    ensures small { IsWithinReadLimit result }
 {
     let mut bound = RuleBound { once: 0, each: 0 };
     for parts in rows {
@@ -68,11 +68,11 @@ fn rule_bound(rows: &[RuleParts]) -> RuleBound
 
 /// The bound of one rule more.
 fn with_rule(bound: RuleBound, parts: &RuleParts) -> RuleBound
-    requires small { IsSmall bound }
+    requires small { IsWithinReadLimit bound }
     requires few { HasFewReads (parts_meant parts.now) }
     ensures within { PartsWithin result (parts_meant parts.now) }
     ensures no_less { IsNoLess bound result }
-    ensures small { IsSmall result }
+    ensures small { IsWithinReadLimit result }
 {
     match parts {
         RuleParts::Plain(reads) => with_once(bound, reads.len()),
@@ -92,11 +92,11 @@ fn with_rule(bound: RuleBound, parts: &RuleParts) -> RuleBound
 
 /// With a part that is read once.
 fn with_once(bound: RuleBound, reads: usize) -> RuleBound
-    requires small { IsSmall bound }
+    requires small { IsWithinReadLimit bound }
     requires few { reads ≤ 256 }
     ensures within { reads ≤ result.once }
     ensures no_less { IsNoLess bound result }
-    ensures small { IsSmall result }
+    ensures small { IsWithinReadLimit result }
 {
     RuleBound {
         once: bound.once.max(reads as u64),

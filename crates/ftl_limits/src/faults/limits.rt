@@ -4,14 +4,14 @@ ghost use Rattle.std.specs.List.{range_with_len};
 ghost use Rattle.ftl_model.specs.lists.FirstAlong.{first_along};
 ghost use Rattle.ftl_deps.specs.reads.Meant.{meant};
 ghost use Rattle.ftl_schedule.specs.stages.Stages.{stages_of};
-ghost use Rattle.ftl_limits.specs.reads.ReadTables.{AreTables, IsSound};
+ghost use Rattle.ftl_limits.specs.reads.ReadTables.{AreTables};
 ghost use Rattle.ftl_limits.specs.faults.PlanFaults.{first_fault};
 ghost use Rattle.ftl_limits.specs.faults.StageReads.{many_by, wide_by};
 
 use crate::faults::bound::is_far_from_limits;
 use crate::faults::fault::PlanFault;
 use crate::faults::reads::{StageReads, stage_reads};
-use crate::reads::ReadTables;
+use crate::reads::{ReadTables, is_sound};
 use ftl_schedule::Accepted;
 use ftl_tree::Tree;
 use std::alloc::{AllocError, Global};
@@ -19,18 +19,19 @@ use std::alloc::{AllocError, Global};
 /// The first stage whose steps have more than 67108864 reads, or else the first step of more than
 /// 1048576; none where there is neither. Takes time as there are nodes where counts alone tell that
 /// there is none, else as there are instances.
+#[tactic(auto, using(ftl_schedule::proofs::stages::FewPasses::few_stages))]
 pub fn first_fault(
     alloc: Global,
     tables: &ReadTables,
-    accepted: &Accepted,
+    accepted: &Accepted<'_>,
     tree: &Tree<'_>,
 ) -> Result<Option<PlanFault>, AllocError>
-    requires sound { IsSound (meant tree.now.checked) }
     requires tables { AreTables (meant tree.now.checked) tables.now }
-    requires stages { length (stages_of accepted.now) ≤ 2048 }
     ensures fault { IfOk result (λ fault. fault ≡ first_fault (meant tree.now.checked)
-        (stages_of accepted.now) tree.now.tree) }
+        (stages_of accepted.now.schedule) tree.now.tree) }
 {
+    is_sound(tree.checked());
+    let _limits = accepted.schedule();
     if is_far_from_limits(tables, tree) {
         return Ok(None);
     }

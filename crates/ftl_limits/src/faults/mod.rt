@@ -4,9 +4,13 @@
 
 mod bound;
 mod fault;
+mod laws;
 mod limits;
 mod reads;
+mod worked;
 
 pub use crate::reads::ReadTables;
 pub use fault::PlanFault;
+pub use laws::faults_are_of_stages;
 pub use limits::first_fault;
+pub use worked::limits_on_reads;

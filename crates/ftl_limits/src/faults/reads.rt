@@ -27,13 +27,14 @@ pub(crate) struct StageReads {
 pub(crate) fn stage_reads(
     alloc: Global,
     tables: &ReadTables,
-    accepted: &Accepted,
+    accepted: &Accepted<'_>,
     tree: &Tree<'_>,
 ) -> Result<Vec<StageReads>, AllocError>
     requires sound { IsSound (meant tree.now.checked) }
     requires tables { AreTables (meant tree.now.checked) tables.now }
-    ensures counts { IfOk result (λ v. AreCounts (meant tree.now.checked) (stages_of accepted.now)
-        tree.now.tree (instance_count (meant tree.now.checked) tree.now.tree) v.items) }
+    ensures counts { IfOk result (λ v. AreCounts (meant tree.now.checked)
+        (stages_of accepted.now.schedule) tree.now.tree
+        (instance_count (meant tree.now.checked) tree.now.tree) v.items) }
 {
     let stages = accepted.schedule().stages.len();
     let none = StageReads {
@@ -50,7 +51,7 @@ pub(crate) fn stage_reads(
 /// Counts what the instances of a node read.
 fn add_node(
     tables: &ReadTables,
-    accepted: &Accepted,
+    accepted: &Accepted<'_>,
     tree: &Tree<'_>,
     node: u32,
     counts: &mut [StageReads],
@@ -58,11 +59,11 @@ fn add_node(
     requires sound { IsSound (meant tree.now.checked) }
     requires tables { AreTables (meant tree.now.checked) tables.now }
     requires node { node < size tree.now.tree }
-    requires so_far { AreCounts (meant tree.now.checked) (stages_of accepted.now) tree.now.tree
-        (cells_before (meant tree.now.checked) tree.now.tree node) counts.old }
+    requires so_far { AreCounts (meant tree.now.checked) (stages_of accepted.now.schedule)
+        tree.now.tree (cells_before (meant tree.now.checked) tree.now.tree node) counts.old }
     requires room { HaveRoom (cells_before (meant tree.now.checked) tree.now.tree node) counts.old }
-    ensures so_far { AreCounts (meant tree.now.checked) (stages_of accepted.now) tree.now.tree
-        (cells_before (meant tree.now.checked) tree.now.tree (node + 1)) counts.new }
+    ensures so_far { AreCounts (meant tree.now.checked) (stages_of accepted.now.schedule)
+        tree.now.tree (cells_before (meant tree.now.checked) tree.now.tree (node + 1)) counts.new }
     ensures room { HaveRoom (cells_before (meant tree.now.checked) tree.now.tree (node + 1))
         counts.new }
 {
@@ -78,7 +79,7 @@ fn add_node(
 /// Counts what an instance reads, where a stage computes it; an input reads nothing.
 fn add_instance(
     tables: &ReadTables,
-    accepted: &Accepted,
+    accepted: &Accepted<'_>,
     tree: &Tree<'_>,
     node: u32,
     attr: u32,
@@ -89,8 +90,8 @@ fn add_instance(
     requires node { node < size tree.now.tree }
     requires attr { OfClass (meant tree.now.checked) (class_in tree.now node) attr }
     requires room { HaveRoom 33554432 counts.old }
-    ensures further { AreFurther (meant tree.now.checked) (stages_of accepted.now) tree.now.tree
-        (instance_in tree.now node attr) counts.old counts.new }
+    ensures further { AreFurther (meant tree.now.checked) (stages_of accepted.now.schedule)
+        tree.now.tree (instance_in tree.now node attr) counts.old counts.new }
     ensures little { AreLittleMore counts.old counts.new }
 {
     let stage = accepted.schedule_place(attr).stage;

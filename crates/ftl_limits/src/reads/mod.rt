@@ -3,7 +3,9 @@
 //! `specs/reads/ReadTables.antt` has the words.
 
 mod counts;
+mod sound;
 mod tables;
 
 pub use counts::instance_reads;
+pub use sound::is_sound;
 pub use tables::ReadTables;

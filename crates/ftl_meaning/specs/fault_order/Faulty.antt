@@ -1,12 +1,11 @@
 -- A grammar with two faults of one's choice, typed out by hand: of limits (1), names in one space (2), the root's name (3),
 -- names that stand for nothing (4), names within an interface (5), the root's attributes (6), a rule (7), and a missing
 -- rule (8).
-use Rattle.std.specs.Prelude.{ℕ, ◌==◌, ◌||◌, ◌++◌, Bool, false, List, [], ◌∷◌, replicate, codes, if◌then◌else◌}
+use Rattle.std.specs.Prelude.{ℕ, ◌==◌, ◌||◌, ◌++◌, false, List, [], ◌∷◌, replicate, codes, if◌then◌else◌}
 use Rattle.std.specs.Prelude.{filter, nat_lt}
 use Rattle.ftl_grammar.specs.syntax.Trees as trees
 use Rattle.ftl_grammar.specs.syntax.Trees.{NameText}
 use Rattle.ftl_grammar.specs.declared.syntax.expression.Read.TheVariants as reads
-use Rattle.ftl_grammar.specs.declared.syntax.rules.AttrDecl.{AttrDecl}
 use Rattle.ftl_grammar.specs.declared.syntax.rules.AttrKind.TheVariants as kinds
 use Rattle.ftl_grammar.specs.declared.syntax.rules.Class.{Class}
 use Rattle.ftl_grammar.specs.declared.syntax.rules.Grammar.{Grammar}

@@ -3,6 +3,7 @@ use Rattle.std.specs.Prelude.{ℕ, ◌+◌, ◌==◌, ◌&&◌, Bool, true, fals
 use Rattle.std.specs.Prelude.{length, map, filter, flat_map, Option, Some, None}
 use Rattle.std.specs.List.{list_any}
 use Rattle.std.specs.Option.{is_none, option_map, option_to_list}
+use Rattle.ftl_model.specs.layout.Limits.{most_attributes, most_children, most_classes, most_interfaces, most_owner_attributes, most_part_reads}
 use Rattle.ftl_grammar.specs.syntax.Trees.{NameText}
 use Rattle.ftl_grammar.specs.declared.syntax.expression.Expr.{Expr}
 use Rattle.ftl_grammar.specs.declared.syntax.rules.AttrDecl.{AttrDecl}
@@ -70,21 +71,21 @@ read_count e = length (filter is_counted (reads_of (formula_of e)))
 -- too many own attributes of a class, or too many children
 abbrev pub class_limits : Class → Option GrammarFault
 class_limits x =
-    first_there (too_many what.Attributes 64 (length x.attrs) ∷ too_many what.Children 16 (length x.children) ∷ [])
+    first_there (too_many what.Attributes most_owner_attributes (length x.attrs) ∷ too_many what.Children most_children (length x.children) ∷ [])
 
 -- too many reads in a rule
 abbrev pub read_limits : Rule → Option GrammarFault
-read_limits r = first_of (λ e. too_many what.Reads 256 (read_count e)) (expressions_of r.body)
+read_limits r = first_of (λ e. too_many what.Reads most_part_reads (read_count e)) (expressions_of r.body)
 
 -- more of anything than there may be
 abbrev pub limit_fault : Grammar → Option GrammarFault
 limit_fault g =
     first_there (
-    too_many what.Interfaces 128 (length g.interfaces)
-    ∷ too_many what.Classes 128 (length g.classes)
-    ∷ first_of (λ x. too_many what.Attributes 64 (length x.attrs)) g.interfaces
+    too_many what.Interfaces most_interfaces (length g.interfaces)
+    ∷ too_many what.Classes most_classes (length g.classes)
+    ∷ first_of (λ x. too_many what.Attributes most_owner_attributes (length x.attrs)) g.interfaces
     ∷ first_of class_limits g.classes
-    ∷ too_many what.AllAttributes 2048 (shared_count g.interfaces + own_count g.classes)
+    ∷ too_many what.AllAttributes most_attributes (shared_count g.interfaces + own_count g.classes)
     ∷ first_of (λ x. first_of read_limits x.rules) g.classes
     ∷ []
     )

@@ -109,6 +109,24 @@ many_inputs_and_children n m =
     (codes "i"))) [] ∷ [])
     (trees.class (codes "C") (codes "R") [] (replicate m (trees.child (codes "c") (codes "R") true)) [] ∷ [])
 
+-- `root R; class C : R { }` with the class as often as this
+abbrev pub many_classes : ℕ → Grammar
+many_classes n = trees.grammar (codes "R") [] (replicate n (trees.class (codes "C") (codes "R") [] [] []))
+
+-- `root R; class C : R { local i, .. c : [R]; .. }` with so many attributes and so many children, each of one name
+abbrev pub many_locals_and_children : (locals children : ℕ) → Grammar
+many_locals_and_children n m =
+    trees.grammar (codes "R") []
+    (trees.class (codes "C") (codes "R") (replicate n (trees.attr_decl kinds.Local (codes "i")))
+    (replicate m (trees.child (codes "c") (codes "R") true)) [] ∷ [])
+
+-- so many interfaces with so many inputs each, and a class with so many attributes of its own
+abbrev pub many_attributes : (interfaces inputs locals : ℕ) → Grammar
+many_attributes n m k =
+    trees.grammar (codes "R")
+    (replicate n (trees.interface (codes "R") (replicate m (trees.attr_decl kinds.Input (codes "i"))) []))
+    (trees.class (codes "C") (codes "R") (replicate k (trees.attr_decl kinds.Local (codes "i"))) [] [] ∷ [])
+
 -- `root R; interface R { syn a; } class R : R { }`
 abbrev pub class_named_as_interface : Grammar
 class_named_as_interface =

@@ -2,15 +2,16 @@
 //! a word that may stand there.
 
 ghost use Rattle.std.specs.Prelude.{ℕ, ◌<◌, ◌≤◌, length};
+ghost use Rattle.ftl_model.specs.layout.Limits.{most_page_bytes};
 ghost use Rattle.ftl_tokens.specs.reading.Reader.{Tokens};
 ghost use Rattle.ftl_tokens.specs.scanner.Tokenized.{AreTokensOf, Tokenized, symbols_of};
 ghost use Rattle.ftl_grammar.specs.declared.syntax.rules.Grammar as grammars;
+ghost use Rattle.ftl_grammar.specs.reading.Readable.{CanBeRead};
 ghost use Rattle.ftl_grammar.specs.syntax.GrammarSpelling.{SpellsGrammar};
 ghost use Rattle.ftl_meaning.specs.faults.Counts.{HasSmallCounts};
 ghost use Rattle.ftl_meaning.specs.faults.Kinds.{HasKinds};
 
 use ftl_grammar::Grammar;
-use ftl_tokens::Scanned;
 
 /// A law: a grammar has no more of anything than tokens spell it, each attribute is declared by a
 /// word that may stand there, and a text has no more tokens than bytes.
@@ -24,13 +25,13 @@ pub fn counts_of_spelled_grammars()
         → length (symbols_of scanned) ≤ length scanned.text }
 {}
 
-/// Says of a grammar that was read what its check asks for.
-pub fn small_counts(scanned: &Scanned, grammar: &Grammar)
-    requires short { length scanned.now.text ≤ 67108864 }
-    requires spelled { SpellsGrammar (symbols_of scanned.now) grammar.now }
+/// Says of a grammar that was read that 32 bits hold its counts, and by which words its attributes
+/// are declared.
+pub fn small_counts(grammar: &Grammar)
+    requires readable { CanBeRead grammar.now }
     ensures small { HasSmallCounts grammar.now }
     ensures kinds { HasKinds grammar.now }
 {
-    let _tokens = scanned.list();
+    let _ = grammar;
     counts_of_spelled_grammars();
 }

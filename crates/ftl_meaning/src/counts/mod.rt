@@ -1,6 +1,6 @@
-//! Counts of grammars that texts spell. Goes in: the tokens of a text of 64 MiB at most, and a
-//! grammar that they spell. Comes out: that 32 bits hold all counts of the grammar, and that each
-//! attribute is declared by a word that may stand there, which the check of grammars asks for.
+//! Counts of grammars that texts spell. Goes in: a grammar that was read. Comes out: that 32 bits
+//! hold all counts of the grammar, and that each attribute is declared by a word that may stand
+//! there.
 
 mod counts;
 

@@ -17,5 +17,6 @@ pub use kinds::words_of_attributes;
 pub use rule_name::RuleName;
 pub use worked::{
     bad_reads, faults_of_names, faults_of_one_child, faults_of_one_class, faults_of_targets,
-    grammars_without_a_fault, names_in_schedules, numbers_of_attributes, reads_by_name,
+    grammars_without_a_fault, limits_of_grammars, names_in_schedules, numbers_of_attributes,
+    reads_by_name,
 };

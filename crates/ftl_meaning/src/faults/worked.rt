@@ -1,15 +1,18 @@
 //! Laws that hold the first fault against grammars that were typed out by hand.
 
-ghost use Rattle.std.specs.Prelude.{◌≡◌, true, false, [], ◌∷◌, ◌++◌, map, Some, None, codes};
+ghost use Rattle.std.specs.Prelude.{◌≡◌, ◌+◌, ◌*◌, true, false, [], ◌∷◌, ◌++◌, map, Some, None, codes};
 ghost use Rattle.ftl_grammar.specs.declared.syntax.expression.Read.TheVariants as reads;
 ghost use Rattle.ftl_meaning.specs.declared.formulas.read_name.ReadName.TheVariants as names;
 ghost use Rattle.ftl_meaning.specs.declared.faults.fault.GrammarFault.TheVariants as fault;
 ghost use Rattle.ftl_meaning.specs.declared.faults.fault.What.TheVariants as what;
 ghost use Rattle.ftl_model.specs.layout.AttributeGrammar as reads_by;
+ghost use Rattle.ftl_model.specs.layout.Limits.{most_attributes, most_children, most_classes};
+ghost use Rattle.ftl_model.specs.layout.Limits.{most_interfaces, most_owner_attributes};
+ghost use Rattle.ftl_model.specs.layout.Limits.{most_part_reads};
 ghost use Rattle.ftl_meaning.specs.faults.Allowed as allowed;
 ghost use Rattle.ftl_meaning.specs.faults.Checked.{attribute_named};
 ghost use Rattle.ftl_meaning.specs.faults.Numbering as numbering;
-ghost use Rattle.ftl_meaning.specs.faults.FirstFault.{first_fault};
+ghost use Rattle.ftl_meaning.specs.faults.FirstFault.{first_fault, limit_fault, too_many};
 ghost use Rattle.ftl_meaning.specs.faults.Worked as worked;
 
 /// A law: faults in limits and names.
@@ -35,6 +38,32 @@ pub fn faults_of_names()
         "a")) }
     ensures inherits { first_fault worked.root_with_inherited ≡ Some (fault.RootInherits (codes
         "R")) }
+{}
+
+/// A law: how much there may be of anything, and one more than that.
+pub fn limits_of_grammars()
+    ensures interfaces { limit_fault (worked.many_interfaces most_interfaces) ≡ None }
+    ensures one_interface_more { limit_fault (worked.many_interfaces 129) ≡ Some (fault.TooMany
+        what.Interfaces 129) }
+    ensures classes { limit_fault (worked.many_classes most_classes) ≡ None }
+    ensures one_class_more { limit_fault (worked.many_classes 129) ≡ Some (fault.TooMany
+        what.Classes 129) }
+    ensures shared { limit_fault (worked.many_inputs most_owner_attributes) ≡ None }
+    ensures one_shared_more { limit_fault (worked.many_inputs 65) ≡ Some (fault.TooMany
+        what.Attributes 65) }
+    ensures own { limit_fault (worked.many_locals_and_children most_owner_attributes
+        most_children) ≡ None }
+    ensures one_own_more { limit_fault (worked.many_locals_and_children 65 16) ≡ Some
+        (fault.TooMany what.Attributes 65) }
+    ensures one_child_more { limit_fault (worked.many_locals_and_children 64 17) ≡ Some
+        (fault.TooMany what.Children 17) }
+    ensures attributes { limit_fault (worked.many_attributes 32 63 32) ≡ None }
+    ensures all_attributes { 32 * 63 + 32 ≡ most_attributes }
+    ensures one_attribute_more { limit_fault (worked.many_attributes 32 63 33) ≡ Some
+        (fault.TooMany what.AllAttributes 2049) }
+    ensures reads { too_many what.Reads most_part_reads 256 ≡ None }
+    ensures one_read_more { too_many what.Reads most_part_reads 257 ≡ Some (fault.TooMany what.Reads
+        257) }
 {}
 
 /// A law: faults in the rules of one class without children.

@@ -77,13 +77,21 @@ same_value (number a) (number b) = int_eq a b
 same_value overflow overflow = true
 same_value _ _ = false
 
--- the word of a value, the same for both widths: 1 to 281474976710656 for the numbers of the wide range, from the least
--- to the greatest, 281474976710657 for Overflow, and 0 for none, since 0 says that a cell is empty
+-- the word of 0
+abbrev pub zero_word : ℕ
+zero_word = 140737488355329
+
+-- the word of Overflow, which is the greatest
+abbrev pub overflow_word : ℕ
+overflow_word = 281474976710657
+
+-- the word of a value, the same for both widths: from 1 on for the numbers of the wide range, from the least to the
+-- greatest, then that of Overflow, and 0 for none, since 0 says that a cell is empty
 abbrev pub word_of_number : ℤ → ℕ
-word_of_number (pos n) = n + 140737488355329
-word_of_number (negsuc n) = 140737488355328 - n
+word_of_number (pos n) = n + zero_word
+word_of_number (negsuc n) = zero_word - 1 - n
 
 -- the word of a number, or that of Overflow
 abbrev pub word_of_value : Value → ℕ
 word_of_value (number n) = word_of_number n
-word_of_value overflow = 281474976710657
+word_of_value overflow = overflow_word

@@ -16,7 +16,7 @@ mod text;
 mod words;
 
 pub use fault::{PageFault, Section};
-pub use laws::law_of_lines;
+pub use laws::{faults_are_of_pages, law_of_lines};
 pub use page::{Need, Page};
 pub use split::split_page;
 pub use text::Text;

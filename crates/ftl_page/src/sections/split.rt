@@ -1,6 +1,7 @@
 //! The sections of a page, or its first fault.
 
 ghost use Rattle.std.specs.Prelude.{◌≡◌, ◌+◌, ◌<◌, ◌≤◌, ◌^◌, ◌⊎◌, true, length, option_map, IfOk};
+ghost use Rattle.ftl_model.specs.layout.Limits.{most_page_bytes};
 ghost use Rattle.ftl_model.specs.layout.Outcome.{Gives};
 ghost use Rattle.ftl_page.specs.declared.sections.fault.PageFault.TheVariants.{OutOfMemory};
 ghost use Rattle.ftl_page.specs.declared.sections.fault.Section.TheVariants.{Grammar, Schedule};
@@ -111,13 +112,13 @@ fn page_of_sections(
 /// heading's line up to the next heading, and what is not needed is not read. A page has 64 MiB at
 /// most, so that line numbers fit 32 bits.
 pub fn split_page(alloc: Global, bytes: &[u8], need: Need) -> Result<Page, PageFault>
-    requires limit { length bytes.now ≤ 67108864 }
+    requires limit { length bytes.now ≤ most_page_bytes }
 
     // The page, or its first fault.
     ensures exact { Gives OutOfMemory (λ page. page) result (page_of bytes.now need) }
 
     // What the tokens of each text ask.
-    ensures short { IfOk result (λ page. HasTextsUpTo 67108864 page) }
+    ensures short { IfOk result (λ page. HasTextsUpTo most_page_bytes page) }
 {
     let Ok(text) = str::from_utf8(bytes) else {
         return Err(PageFault::NotText);
@@ -136,7 +137,7 @@ fn width_of_line(line: &str) -> Option<Width>
 }
 
 fn page_of_text(alloc: Global, text: &str, need: Need) -> Result<Page, PageFault>
-    requires limit { length text.now ≤ 67108864 }
+    requires limit { length text.now ≤ most_page_bytes }
     ensures exact { Gives OutOfMemory (λ page. page) result
         (page_of_text need (lines_of text.now)) }
 {
@@ -148,7 +149,7 @@ fn page_of_text(alloc: Global, text: &str, need: Need) -> Result<Page, PageFault
 }
 
 fn page_of_lines(alloc: Global, width: Width, text: &str, need: Need) -> Result<Page, PageFault>
-    requires limit { length text.now ≤ 67108864 }
+    requires limit { length text.now ≤ most_page_bytes }
     ensures exact { Gives OutOfMemory (λ page. page) result
         (page_of_lines width need (lines_of text.now)) }
 {

@@ -39,7 +39,9 @@ use Rattle.ftl_visit.proofs.passes.pass_visits.PassVisits.TheSendSync as visits
 use Rattle.ftl_visit.proofs.passes.rule_target.RuleTarget.TheSendSync as rule_target
 use Rattle.ftl_cursors.proofs.sequence.block_places.SequencePlaces.TheSendSync as places
 use Rattle.ftl_cursors.specs.contracts.item_cursor.item.ItemTables as ItemTables
-use Rattle.ftl_schedule.proofs.check.accepted.Accepted.TheSendSync as accepted
+use Rattle.ftl_schedule.proofs.places.placed.Placed.TheSendSync as placed
+use Rattle.ftl_schedule.specs.contracts.check.accepted.Accepted as Accepted
+use Rattle.ftl_schedule.specs.contracts.check.accepted.Accepted.TheInside as accepted_inside
 use Rattle.ftl_visit.proofs.compiled.programs.Programs.TheSendSync as programs
 use Rattle.ftl_limits.proofs.reads.tables.ReadTables.TheSendSync as reads
 use Rattle.ftl_step_value.proofs.neighbours.parts.NeighbourParts.TheSendSync as neighbours
@@ -118,11 +120,17 @@ item_tables_sync κ =
 
 -- ---- the stage
 
+accepted_fields_sync : (κ : NamedLft) → AllSync (fields (accepted_inside.the_type κ))
+accepted_fields_sync κ = (search (checked_sync, sendable), (placed.the_sync, tt))
+
+accepted_sync : (κ : NamedLft) → IsSync (Accepted.the_field κ).row
+accepted_sync κ = let all = accepted_fields_sync κ in search sendable depth 30
+
 parts_sync : (κ : NamedLft) → IsSync (StageParts.the_field κ).row
 parts_sync κ =
     search (
       item_tables_sync,
-      accepted.the_sync,
+      accepted_sync,
       programs.the_sync,
       reads.the_field_sync,
       copy.the_sync,

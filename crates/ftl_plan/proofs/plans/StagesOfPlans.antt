@@ -36,9 +36,9 @@ use Rattle.ftl_plan.proofs.plans.RowsByStage.{zip_at, zip_long}
 abbrev passes_in_stage : Stage → List order.Pass
 passes_in_stage stage = map pass_of stage.passes
 
-module _ (p : Inside) (is : IsPlan p) (n : ℕ) (known : n < length (stages_of p.accepted.now)) where
+module _ (p : Inside) (is : IsPlan p) (n : ℕ) (known : n < length (stages_of p.accepted.now.schedule)) where
   abbrev stages : List Stage
-  stages = p.accepted.now.stages
+  stages = p.accepted.now.schedule.stages
 
   pub stage_known : n < length stages
   stage_known = let long = length-map stages passes_in_stage in omega (arith, long, known)
@@ -96,11 +96,11 @@ module _ (p : Inside) (is : IsPlan p) where
   -- a plan is of what can be planned
   pub can_be_planned : IsTreeOf (meant p.tree.now.checked) p.tree.now.tree → size p.tree.now.tree ≤ 1048576
       → instance_count (meant p.tree.now.checked) p.tree.now.tree ≤ 33554432
-      → CanBePlanned (meant p.checked.now) (stages_of p.accepted.now) p.tree.now.tree
+      → CanBePlanned (meant p.checked.now) (stages_of p.accepted.now.schedule) p.tree.now.tree
   can_be_planned fits nodes cells =
       record {
         law = is.sound.law;
-        ordered = is.may.ordered;
+        ordered = is.accepted.ordered;
         is_tree = subst (λ (c : CheckedGrammar). IsTreeOf (meant c) p.tree.now.tree) is.tree fits;
         nodes = nodes;
         cells =
@@ -110,17 +110,17 @@ module _ (p : Inside) (is : IsPlan p) where
 
   -- parts that are made of the fields are a stage
   pub stage_fits : (w : StageParts) → AreTablesOf (plan_inside p) w.stage w.item_tables
-      → w.accepted.now ≡ p.accepted.now → w.programs.now ≡ p.programs.now → w.read_tables.now ≡ p.tables
+      → w.accepted.now.schedule ≡ p.accepted.now.schedule → w.programs.now ≡ p.programs.now → w.read_tables.now ≡ p.tables
       → w.copies.now ≡ p.copies.items → w.neighbours.now ≡ p.neighbours.items
-      → CanBePlanned (meant p.checked.now) (stages_of p.accepted.now) p.tree.now.tree → IsStage w
+      → CanBePlanned (meant p.checked.now) (stages_of p.accepted.now.schedule) p.tree.now.tree → IsStage w
   stage_fits w at accepted programs tables copies neighbours can =
       let back : p.checked.now ≡ w.item_tables.items.rows.now.tree.now.checked = sym at.checked in
       record {
         sound = subst (λ (c : CheckedGrammar). IsSound (meant c)) back is.sound;
         can =
             subst
-            (λ (c : CheckedGrammar). CanBePlanned (meant c) (stages_of w.accepted.now) (forest_in w.item_tables)) back
-            (subst (CanBePlanned (meant p.checked.now) (stages_of w.accepted.now)) (sym at.tree)
+            (λ (c : CheckedGrammar). CanBePlanned (meant c) (stages_of w.accepted.now.schedule) (forest_in w.item_tables)) back
+            (subst (CanBePlanned (meant p.checked.now) (stages_of w.accepted.now.schedule)) (sym at.tree)
             (subst (λ (s : Schedule). CanBePlanned (meant p.checked.now) (stages_of s) p.tree.now.tree)
             (sym accepted) can));
         tables_are =
@@ -131,7 +131,7 @@ module _ (p : Inside) (is : IsPlan p) where
             (subst (IsCodeFor p.checked.now) (sym programs) (record {
               rules = is.may.rules;
               width = is.may.width;
-              compilable = is.may.code;
+              compilable = is.copies.compilable;
             }));
         passes = ap (λ (s : Schedule). passes_of (stages_of s) w.stage) accepted ∙ at.passes;
         items = at.tables;
@@ -145,9 +145,9 @@ module _ (p : Inside) (is : IsPlan p) where
 
   -- and are known by what the plan means
   pub stage_view : (n : ℕ) (x : ItemTables) → AreTablesOf (plan_inside p) n x
-      → view x.items.rows.now.tree.now.checked p.accepted.now (forest_in x) x.items.rows.now.grain n
+      → view x.items.rows.now.tree.now.checked p.accepted.now.schedule (forest_in x) x.items.rows.now.grain n
       p.programs.now.max_stack ≡ stage_in (plan_inside p) n
   stage_view n x at =
-      ap (λ c. view c p.accepted.now (forest_in x) x.items.rows.now.grain n p.programs.now.max_stack) at.checked
-      ∙ ap (λ t. view p.checked.now p.accepted.now t x.items.rows.now.grain n p.programs.now.max_stack) at.tree
-      ∙ ap (λ k. view p.checked.now p.accepted.now p.tree.now.tree k n p.programs.now.max_stack) at.grain
+      ap (λ c. view c p.accepted.now.schedule (forest_in x) x.items.rows.now.grain n p.programs.now.max_stack) at.checked
+      ∙ ap (λ t. view p.checked.now p.accepted.now.schedule t x.items.rows.now.grain n p.programs.now.max_stack) at.tree
+      ∙ ap (λ k. view p.checked.now p.accepted.now.schedule p.tree.now.tree k n p.programs.now.max_stack) at.grain

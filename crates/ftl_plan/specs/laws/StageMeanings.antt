@@ -1,5 +1,6 @@
 -- What a stage of a plan means: the work of the stage, with the solution of the tree.
 use Rattle.std.specs.Prelude.{◌≡◌, ℕ, ◌≤◌, length, None}
+use Rattle.ftl_model.specs.layout.Limits.{most_instances, most_nodes, most_passes, most_step_reads}
 use Rattle.ftl_cells.specs.shared.Shape.{listed}
 use Rattle.ftl_cells.specs.shared.Work.{IsLawfulWork, Meaning}
 use Rattle.ftl_items.specs.stage_items.Items.{passes_of}
@@ -17,17 +18,17 @@ use Rattle.ftl_order.specs.orders.Schedule.{Schedule}
 use Rattle.ftl_limits.specs.faults.PlanFaults.{first_fault}
 use Rattle.ftl_items.specs.solution.Solution.{solution}
 
--- what a stage means; no step reads more than 1048576 cells
+-- what a stage means; no step reads more cells than it may
 abbrev pub stage_meaning : AttributeGrammar → Schedule → Forest → (grain stage max_stack : ℕ) → Meaning
-stage_meaning g s t grain stage max_stack = listed (stage_work g s t grain stage (solution g t) 1048576 max_stack)
+stage_meaning g s t grain stage max_stack = listed (stage_work g s t grain stage (solution g t) most_step_reads max_stack)
 
 -- a lawful grammar, an ordered schedule and a tree within the limits, which have a plan
 pub record CanBePlanned (g : AttributeGrammar) (s : Schedule) (t : Forest) : Type 0 where
   pub law : IsLawful g
   pub ordered : IsOrdered g s
   pub is_tree : IsTreeOf g t
-  pub nodes : size t ≤ 1048576
-  pub cells : instance_count g t ≤ 33554432
+  pub nodes : size t ≤ most_nodes
+  pub cells : instance_count g t ≤ most_instances
   pub no_fault : first_fault g s t ≡ None
 
 -- of each of these
@@ -36,10 +37,10 @@ OfPlans P = (g : AttributeGrammar) (s : Schedule) (t : Forest) → CanBePlanned 
 
 -- no step reads too much
 abbrev pub StepsAreNarrow : AttributeGrammar → Schedule → Forest → Type 0
-StepsAreNarrow g s t = (i : Instance) → IsStep g t i → length (reads_of g t i) ≤ 1048576
+StepsAreNarrow g s t = (i : Instance) → IsStep g t i → length (reads_of g t i) ≤ most_step_reads
 
 -- each stage is lawful work, with at most so many passes
 abbrev pub StagesAreLawful : AttributeGrammar → Schedule → Forest → Type 0
 StagesAreLawful g s t =
-    (grain stage max_stack : ℕ) → length (passes_of s stage) ≤ 2048
+    (grain stage max_stack : ℕ) → length (passes_of s stage) ≤ most_passes
     → IsLawfulWork (stage_meaning g s t grain stage max_stack)

@@ -4,6 +4,7 @@ use Rattle.ftl_deps.specs.reads.Meant.{meant}
 use Rattle.ftl_limits.specs.reads.ReadTables.{AreTables, IsSound}
 use Rattle.ftl_cursors.specs.items.StageItems.{tree_in}
 use Rattle.ftl_step_value.specs.neighbours.NeighbourParts.{AreNeighbourParts}
+use Rattle.ftl_schedule.specs.check.AcceptedSchedule.{IsAccepted}
 use Rattle.ftl_schedule.specs.stages.Stages.{stages_of}
 use Rattle.ftl_step_value.specs.value.RuleCopies.{AreCopies}
 use Rattle.ftl_limits.specs.faults.PlanFaults.{first_fault}
@@ -16,7 +17,7 @@ abbrev pub plan_inside : Inside → PlanMeaning
 plan_inside p =
     record {
       checked = p.checked.now;
-      schedule = p.accepted.now;
+      schedule = p.accepted.now.schedule;
       programs = p.programs.now;
       tree = p.tree.now.tree;
       grain = p.items.grain;
@@ -25,6 +26,7 @@ plan_inside p =
 -- all belong to one grammar, each stage has its rows, and there is no fault
 pub record IsPlan (p : Inside) : Type 0 where
   pub tree : p.tree.now.checked ≡ p.checked.now
+  pub accepted : IsAccepted p.checked.now p.accepted.now.schedule
   pub may : MayBePlanned (plan_inside p)
   pub sound : IsSound (meant p.checked.now)
   pub tables : AreTables (meant p.checked.now) p.tables
@@ -32,5 +34,5 @@ pub record IsPlan (p : Inside) : Type 0 where
   pub targets : p.targets.items ≡ map target_of (meant p.checked.now).rules
   pub copies : AreCopies p.checked.now p.copies.items
   pub neighbours : AreNeighbourParts p.checked.now p.neighbours.items
-  pub rows : HaveRows (meant p.checked.now) (tree_in p.items) p.items.grain p.accepted.now.stages p.stages.items
-  pub no_fault : first_fault (meant p.checked.now) (stages_of p.accepted.now) p.tree.now.tree ≡ None
+  pub rows : HaveRows (meant p.checked.now) (tree_in p.items) p.items.grain p.accepted.now.schedule.stages p.stages.items
+  pub no_fault : first_fault (meant p.checked.now) (stages_of p.accepted.now.schedule) p.tree.now.tree ≡ None

@@ -1,14 +1,12 @@
 -- What a plan is made of, and whether there is one.
-use Rattle.std.specs.Prelude.{◌≡◌, ℕ, ◌≤◌, length, Option, Some, None, Result, Ok, Err}
+use Rattle.std.specs.Prelude.{◌≡◌, ℕ, ◌≤◌, Option, Some, None, Result, Ok, Err}
+use Rattle.ftl_model.specs.layout.Limits.{most_grain}
 use Rattle.ftl_model.specs.layout.Tree.{Forest}
-use Rattle.ftl_order.specs.orders.Ordered.{IsOrdered}
 use Rattle.ftl_meaning.specs.faults.Checked.{CheckedGrammar}
 use Rattle.ftl_deps.specs.reads.Meant.{meant}
-use Rattle.ftl_visit.specs.compiled.Compilable.{HasCode}
 use Rattle.ftl_visit.specs.compiled.RuleCode.{Compiled, rule_codes}
 use Rattle.ftl_schedule.specs.stages.Stages.{stages_of}
 use Rattle.ftl_schedule.specs.declared.stages.types.Schedule.{Schedule}
-use Rattle.ftl_plan.specs.plans.PlannedStages.{HaveFewPasses}
 use Rattle.ftl_limits.specs.faults.PlanFaults.{first_fault}
 use Rattle.ftl_limits.specs.declared.faults.fault.PlanFault.{PlanFault}
 
@@ -20,17 +18,12 @@ pub record PlanMeaning : Type 0 where
   pub tree : Forest
   pub grain : ℕ
 
--- the schedule is ordered, and the code is that of the grammar, which has some; there are at most so many stages with at
--- most so many passes each, and the grain is in range
+-- the code is that of the grammar, and the grain is in range
 pub record MayBePlanned (p : PlanMeaning) : Type 0 where
-  pub ordered : IsOrdered (meant p.checked) (stages_of p.schedule)
-  pub stages : length (stages_of p.schedule) ≤ 2048
-  pub passes : HaveFewPasses p.schedule.stages
-  pub code : HasCode p.checked.grammar
   pub rules : p.programs.rules ≡ rule_codes p.checked.grammar
   pub width : p.programs.width ≡ p.checked.width
   pub some_nodes : 1 ≤ p.grain
-  pub most_nodes : p.grain ≤ 1048576
+  pub most_nodes : p.grain ≤ most_grain
 
 -- a plan where there is no fault
 abbrev pub unless_fault : Option PlanFault → PlanMeaning → Result PlanMeaning PlanFault

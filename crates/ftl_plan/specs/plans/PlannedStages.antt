@@ -1,15 +1,16 @@
 -- What a plan keeps for its stages.
 use Rattle.std.specs.Prelude.{ℕ, ◌≤◌, List, length}
 use Rattle.std.specs.List.{All, AllZip}
+use Rattle.ftl_model.specs.layout.Limits.{most_passes}
 use Rattle.ftl_model.specs.layout.AttributeGrammar.{AttributeGrammar}
 use Rattle.ftl_model.specs.layout.Tree.{Forest}
 use Rattle.ftl_cursors.specs.stages.StageRows.{AreStageRows}
 use Rattle.ftl_cursors.specs.declared.stages.rows.StageRows.{StageRows}
 use Rattle.ftl_schedule.specs.declared.stages.types.Stage.{Stage}
 
--- no stage has more than 2048 passes
+-- no stage has more passes than a schedule may have
 abbrev pub HaveFewPasses : List Stage → Type 0
-HaveFewPasses stages = All (λ (stage : Stage). length stage.passes ≤ 2048) stages
+HaveFewPasses stages = All (λ (stage : Stage). length stage.passes ≤ most_passes) stages
 
 -- these are the rows of a stage
 abbrev pub AreRowsOf : AttributeGrammar → Forest → (grain : ℕ) → Stage → StageRows → Type 0

@@ -32,7 +32,7 @@ tree_of w = forest_in w.item_tables
 
 -- the schedule
 abbrev pub schedule_of : StageParts → order.Schedule
-schedule_of w = stages_of w.accepted.now
+schedule_of w = stages_of w.accepted.now.schedule
 
 -- how many nodes an item has at most
 abbrev pub grain_of : StageParts → ℕ
@@ -70,7 +70,7 @@ abbrev pub view_of : StageParts → StageView
 view_of w =
     record {
       checked = w.item_tables.items.rows.now.tree.now.checked;
-      schedule = w.accepted.now;
+      schedule = w.accepted.now.schedule;
       tree = tree_of w;
       grain = grain_of w;
       stage = w.stage;

@@ -15,7 +15,7 @@ use ftl_tree::Tree;
 /// The kind of a cell in a stage: an input is given, and what is computed is given after its
 /// stage.
 pub fn cell_kind(
-    accepted: &Accepted,
+    accepted: &Accepted<'_>,
     tables: &ReadTables,
     tree: &Tree<'_>,
     stage: u32,
@@ -24,7 +24,7 @@ pub fn cell_kind(
     requires sound { IsSound (meant tree.now.checked) }
     requires tables { AreTables (meant tree.now.checked) tables.now }
     requires cell { cell < instance_count (meant tree.now.checked) tree.now.tree }
-    ensures kind { result ≡ kind_of (meant tree.now.checked) (stages_of accepted.now) stage
+    ensures kind { result ≡ kind_of (meant tree.now.checked) (stages_of accepted.now.schedule) stage
         (slice_index_or (instances (meant tree.now.checked) tree.now.tree) cell no_instance) }
 {
     let attr = attr_of_cell(tables, tree, cell);

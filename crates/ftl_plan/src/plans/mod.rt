@@ -16,7 +16,6 @@ mod parts;
 mod phases;
 mod plan;
 mod running;
-mod sound;
 mod stages;
 mod steps;
 mod words;

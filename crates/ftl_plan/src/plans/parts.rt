@@ -17,7 +17,7 @@ use ftl_visit::Programs;
 /// What a plan keeps, for one stage.
 #[derive(Clone, Copy)]
 pub struct StageParts<'a> {
-    pub accepted: &'a Accepted,
+    pub accepted: &'a Accepted<'a>,
     pub programs: &'a Programs,
     pub read_tables: &'a ReadTables,
     pub item_tables: ItemTables<'a>,

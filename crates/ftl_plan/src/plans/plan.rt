@@ -10,13 +10,12 @@ ghost use Rattle.ftl_plan.specs.plans.StageTables.{AreTablesOf, stage_in};
 ghost use Rattle.ftl_limits.specs.declared.faults.fault.PlanFault.TheVariants.{OutOfMemory};
 
 use crate::plans::parts::StageParts;
-use crate::plans::sound::is_sound;
 use crate::plans::stages::rows_of_stages;
 use crate::plans::words::first_words;
 use crate::plans::work::StageWork;
 use ftl_checked::Checked;
 use ftl_cursors::{ItemRows, ItemTables, StageItems, StageRows};
-use ftl_limits::{PlanFault, ReadTables, first_fault};
+use ftl_limits::{PlanFault, ReadTables, first_fault, is_sound};
 use ftl_schedule::Accepted;
 use ftl_step_value::{NeighbourParts, RuleCopy, neighbour_parts, rule_copies};
 use ftl_tree::Tree;
@@ -30,7 +29,7 @@ use std::marker::Model;
 #[derive(Drop)]
 pub struct Plan<'a> {
     checked: &'a Checked,
-    accepted: &'a Accepted,
+    accepted: &'a Accepted<'a>,
     programs: &'a Programs,
     tree: &'a Tree<'a>,
     tables: ReadTables,
@@ -64,22 +63,23 @@ impl<'a> Plan<'a> {
     pub fn new(
         alloc: Global,
         checked: &'a Checked,
-        accepted: &'a Accepted,
+        accepted: &'a Accepted<'a>,
         programs: &'a Programs,
         tree: &'a Tree<'a>,
         grain: u32,
     ) -> Result<Plan<'a>, PlanFault>
+        requires accepted { accepted.now.checked ≡ checked.now }
         requires tree { tree.now.checked ≡ checked.now }
         requires may { MayBePlanned (record {
           checked = checked.now;
-          schedule = accepted.now;
+          schedule = accepted.now.schedule;
           programs = programs.now;
           tree = tree.now.tree;
           grain = grain;
         }) }
         ensures exact { Gives OutOfMemory (λ p. p) result (planned (record {
           checked = checked.now;
-          schedule = accepted.now;
+          schedule = accepted.now.schedule;
           programs = programs.now;
           tree = tree.now.tree;
           grain = grain;

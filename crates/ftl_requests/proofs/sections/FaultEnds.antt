@@ -4,7 +4,6 @@ use Rattle.ftl_base.specs.declared.width.Width.{Width}
 use Rattle.ftl_grammar.specs.declared.syntax.rules.Grammar.{Grammar}
 use Rattle.ftl_meaning.specs.faults.Checked.{CheckedGrammar, answer_by}
 use Rattle.ftl_meaning.specs.declared.faults.fault.GrammarFault.{GrammarFault}
-use Rattle.ftl_visit.specs.compiled.Compilable.{HasCode}
 use Rattle.ftl_answer.specs.answers.Answer.{Answer}
 use Rattle.ftl_answer.specs.answers.Stages.{Outcome, Stage, ends, hands_on, unless}
 use Rattle.ftl_answer.specs.answers.Texts.{checked_grammar}
@@ -34,19 +33,6 @@ pub grammar_handed : (tell : GrammarFault → Answer) (o : Option GrammarFault) 
 grammar_handed tell None w g c e = ap hands_on cc
 grammar_handed tell (Some x) w g c e = absurd cc
 
--- its code is kept
-abbrev grammar_or : Grammar → Result CheckedGrammar GrammarFault → Grammar
-grammar_or g (Ok c) = c.grammar
-grammar_or g (Err x) = g
-
-same_grammar : (o : Option GrammarFault) (w : Width) (g : Grammar) → grammar_or g (answer_by o g w) ≡ g
-same_grammar None w g = refl
-same_grammar (Some x) w g = refl
-
-pub code_kept : (o : Option GrammarFault) (w : Width) (g : Grammar) (c : CheckedGrammar)
-    → answer_by o g w ≡ Ok c → HasCode g → HasCode c.grammar
-code_kept o w g c is code = subst HasCode (sym (same_grammar o w g) ∙ ap (grammar_or g) is) code
-
 -- its fault is refused
 pub grammar_ends : (tell : GrammarFault → Answer) (o : Option GrammarFault) (w : Width) (g : Grammar) (x : GrammarFault)
     → answer_by o g w ≡ Err x → ended CheckedGrammar (tell x) ≡ unless tell o (checked_grammar w g)
@@ -54,4 +40,4 @@ grammar_ends tell None w g x e = absurd cc
 grammar_ends tell (Some y) w g x e = ap (λ (f : GrammarFault). ended CheckedGrammar (tell f)) cc
 
 -- the steps of a grammar that is checked
-pub ruleset grammar_steps = (may_refuse, code_kept, grammar_handed, grammar_ends)
+pub ruleset grammar_steps = (may_refuse, grammar_handed, grammar_ends)

@@ -1,6 +1,7 @@
 -- What words and a page ask for, what becomes of it, and what is written.
-use Rattle.std.specs.Prelude.{◌≡◌, ◌⊎◌, ◌<◌, ◌≤◌, ℕ, Bool, true, List, length, Option, Result, Ok, Err}
+use Rattle.std.specs.Prelude.{◌+◌, ◌≡◌, ◌⊎◌, ◌<◌, ◌≤◌, ℕ, Bool, true, List, length, Option, Result, Ok, Err}
 use Rattle.std.specs.Io.KnownBytes.{Appends}
+use Rattle.ftl_model.specs.layout.Limits.{most_page_bytes}
 use Rattle.ftl_answer.specs.answers.Answer.{Answer, refused}
 use Rattle.ftl_answer.specs.answers.Answers.{solved}
 use Rattle.ftl_answer.specs.answers.Stages.{Stage, ends}
@@ -41,7 +42,7 @@ IsTooLong (Solve p) = ⊥
 pub record IsAsked (stage : Stage ⊥) (bytes : List ℕ) (reads : Bool) (old new : ℕ) (q : Request) : Type 0 where
   pub comes : MayEndAs stage q
   pub counted : reads ≡ true → (IsTooLong q → ⊥) → RoseBy (length bytes) old new
-  pub over : reads ≡ true → 67108864 < length bytes → raised old 67108865 ≤ new
+  pub over : reads ≡ true → most_page_bytes < length bytes → raised old (most_page_bytes + 1) ≤ new
 
 -- ---- what becomes of it
 

@@ -1,13 +1,12 @@
 //! What is asked of the rules of a page.
 
 ghost use Rattle.std.specs.Prelude.{◌≡◌, ◌≤◌, length, IfOk, IfSome};
+ghost use Rattle.ftl_model.specs.layout.Limits.{most_page_bytes};
 ghost use Rattle.ftl_answer.specs.answers.Answers.{rules_alone};
 ghost use Rattle.ftl_answer.specs.answers.Stages.{Then, ends};
 ghost use Rattle.ftl_answer.specs.answers.Texts.{page, schedule};
-ghost use Rattle.ftl_deps.specs.reads.Meant.{meant};
 ghost use Rattle.ftl_page.specs.sections.Texts.{HasTextsUpTo};
-ghost use Rattle.ftl_order.specs.faults.FaultLaws.{AreComputed};
-ghost use Rattle.ftl_schedule.specs.stages.Stages.{stages_of};
+ghost use Rattle.ftl_schedule.specs.printing.WrittenOf.{AreStagesKnown};
 ghost use Rattle.ftl_requests.specs.sections.Outcomes.{answer_of};
 ghost use Rattle.ftl_requests.specs.requests.RulesAnswers.{EndsIn, output_text, rules_answer};
 ghost use Rattle.ftl_requests.specs.requests.RulesAnswers.{answer_of_page};
@@ -16,7 +15,7 @@ use crate::requests::ending::ended;
 use crate::sections::{Decided, Status, Undecided, grammar_of, read_page, schedule_of};
 use ftl_checked::Checked;
 use ftl_page::{Need, Page, Text};
-use ftl_schedule::{Schedule, known_entries, print_schedule};
+use ftl_schedule::{Schedule, print_schedule};
 use std::alloc::{AllocError, Global};
 
 /// What is asked of a grammar and a schedule.
@@ -57,7 +56,7 @@ fn answer_of_bytes(alloc: Global, output: RulesOutput, bytes: &[u8]) -> Result<D
 }
 
 fn answer_of_page(alloc: Global, output: RulesOutput, page: Page) -> Result<Decided, Undecided>
-    requires short { HasTextsUpTo 67108864 page }
+    requires short { HasTextsUpTo most_page_bytes page }
     ensures outcome { EndsIn (answer_of_page output page) result }
 {
     let Page {
@@ -79,7 +78,7 @@ fn answer_of_grammar(
     checked: &Checked,
     text: Option<Text>,
 ) -> Result<Decided, Undecided>
-    requires short { IfSome text (λ t. length t ≤ 67108864) }
+    requires short { IfSome text (λ t. length t ≤ most_page_bytes) }
     ensures outcome { EndsIn (Then (schedule checked.now text) (rules_answer output checked.now))
         result }
 {
@@ -95,7 +94,7 @@ fn answer_of_rules(
     checked: &Checked,
     schedule: &Schedule,
 ) -> Result<Decided, Undecided>
-    requires computed { AreComputed (meant checked.now) (stages_of schedule.now) }
+    requires known { AreStagesKnown checked.now.grammar schedule.now.stages }
     ensures outcome { EndsIn (rules_answer output checked.now schedule.now) result }
 {
     Ok(Decided {
@@ -110,14 +109,11 @@ fn output_text(
     checked: &Checked,
     schedule: &Schedule,
 ) -> Result<Vec<u8>, AllocError>
-    requires computed { AreComputed (meant checked.now) (stages_of schedule.now) }
+    requires known { AreStagesKnown checked.now.grammar schedule.now.stages }
     ensures text { IfOk result (λ v. v.items ≡ output_text output checked.now schedule.now) }
 {
     match output {
         RulesOutput::Verdict => Vec::from_slice(alloc, b"accepted\n"),
-        RulesOutput::Text => {
-            known_entries(checked, schedule);
-            Ok(print_schedule(alloc, checked, schedule)?.into_bytes())
-        }
+        RulesOutput::Text => Ok(print_schedule(alloc, checked, schedule)?.into_bytes()),
     }
 }

@@ -14,15 +14,12 @@ ghost use Rattle.ftl_requests.specs.sections.Outcomes.{answer_of};
 use crate::requests::request::{Problem, Request, Undone};
 use crate::requests::rules::{RulesOutput, rules_answered};
 use crate::requests::shown::Shown;
-use crate::sections::{Decided, Status};
+use crate::sections::{Decided, MOST_BYTES, Status};
 use ftl_boxes::{SampleFault, sample_page};
 use ftl_edge::{ReadAllFault, Source, read_all};
 use ftl_page::{Command, CommandFault, Solving, read_command};
 use ftl_tokens::Name;
 use std::alloc::{AllocError, Global};
-
-/// The most bytes of a page.
-const MOST_BYTES: usize = 67108864;
 
 /// What the words ask for, of the page that the source has left where they read one.
 pub fn requested<S: Source>(

@@ -1,13 +1,12 @@
 //! The grammar of a text, checked.
 
-ghost use Rattle.std.specs.Prelude.{◌≤◌, length, string_bytes, string_len, IfOk};
+ghost use Rattle.ftl_model.specs.layout.Limits.{most_page_bytes};
+ghost use Rattle.std.specs.Prelude.{◌≤◌, length, string_bytes, string_len};
 ghost use Rattle.ftl_answer.specs.answers.Answer as answer;
 ghost use Rattle.ftl_answer.specs.answers.Stages.{Then};
 ghost use Rattle.ftl_answer.specs.answers.Texts.{grammar, lawful_grammar, spelled_grammar};
-ghost use Rattle.ftl_meaning.specs.faults.Counts.{HasSmallCounts};
-ghost use Rattle.ftl_meaning.specs.faults.Kinds.{HasKinds};
+ghost use Rattle.ftl_grammar.specs.reading.Readable.{CanBeRead};
 ghost use Rattle.ftl_meaning.specs.declared.faults.fault.GrammarFault.TheVariants as faults;
-ghost use Rattle.ftl_visit.specs.compiled.Compilable.{HasCode};
 ghost use Rattle.ftl_answer.specs.refusals.GrammarLines.{grammar_line};
 ghost use Rattle.ftl_answer.specs.refusals.TextLines.{syntax_line};
 ghost use Rattle.ftl_requests.specs.sections.Outcomes.{Ends, IsOutcome};
@@ -20,27 +19,23 @@ use ftl_answer::{write_grammar_fault, write_syntax_fault};
 use ftl_base::Width;
 use ftl_checked::{Checked, check_grammar};
 use ftl_grammar::{Grammar, SyntaxFault, read_grammar};
-use ftl_meaning::{GrammarFault, small_counts};
+use ftl_meaning::GrammarFault;
 use ftl_page::{Section, Text};
 use ftl_tokens::Scanned;
-use ftl_visit::has_code;
 use std::alloc::Global;
 
 /// The lawful grammar that the text spells, in this width.
 #[inline(never)]
 pub fn grammar_of(alloc: Global, width: Width, text: Text) -> Result<Checked, Undecided>
-    requires short { length text ≤ 67108864 }
+    requires short { length text ≤ most_page_bytes }
     ensures outcome { IsOutcome (grammar width text) (λ c. c) result }
-    // what compiling its rules asks for
-    ensures code { IfOk result (λ c. HasCode c.grammar) }
 {
     grammar_of_text(alloc, width, text.into_string())
 }
 
 fn grammar_of_text(alloc: Global, width: Width, text: String) -> Result<Checked, Undecided>
-    requires short { string_len text ≤ 67108864 }
+    requires short { string_len text ≤ most_page_bytes }
     ensures outcome { IsOutcome (grammar width (string_bytes text)) (λ c. c) result }
-    ensures code { IfOk result (λ c. HasCode c.grammar) }
 {
     match section_tokens(alloc, Section::Grammar, text) {
         Ok(scanned) => grammar_of_tokens(alloc, width, &scanned),
@@ -50,17 +45,11 @@ fn grammar_of_text(alloc: Global, width: Width, text: String) -> Result<Checked,
 
 /// The lawful grammar that the tokens spell.
 fn grammar_of_tokens(alloc: Global, width: Width, scanned: &Scanned) -> Result<Checked, Undecided>
-    requires short { length scanned.now.text ≤ 67108864 }
     ensures outcome { IsOutcome (Then (spelled_grammar scanned.now) (lawful_grammar width))
         (λ c. c) result }
-    ensures code { IfOk result (λ c. HasCode c.grammar) }
 {
     match read_grammar(alloc, scanned) {
-        Ok(grammar) => {
-            small_counts(scanned, &grammar);
-            has_code(scanned, &grammar);
-            without_fault(alloc, width, grammar)
-        }
+        Ok(grammar) => without_fault(alloc, width, grammar),
         Err(SyntaxFault::OutOfMemory) => Err(Undecided::OutOfMemory),
         Err(fault) => Err(syntax_refused(alloc, fault)),
     }
@@ -69,11 +58,8 @@ fn grammar_of_tokens(alloc: Global, width: Width, scanned: &Scanned) -> Result<C
 /// The grammar, checked.
 #[tactic(auto, using(crate::proofs::sections::FaultEnds::grammar_steps))]
 fn without_fault(alloc: Global, width: Width, grammar: Grammar) -> Result<Checked, Undecided>
-    requires small { HasSmallCounts grammar }
-    requires kinds { HasKinds grammar }
-    requires code { HasCode grammar }
+    requires readable { CanBeRead grammar }
     ensures outcome { IsOutcome (lawful_grammar width grammar) (λ c. c) result }
-    ensures code { IfOk result (λ c. HasCode c.grammar) }
 {
     match check_grammar(alloc, grammar, width) {
         Ok(checked) => Ok(checked),

@@ -1,6 +1,7 @@
 //! The tree of a text.
 
 ghost use Rattle.std.specs.Prelude.{◌≡◌, ◌≤◌, length, None, string_bytes, string_len, IfOk};
+ghost use Rattle.ftl_model.specs.layout.Limits.{most_page_bytes};
 ghost use Rattle.ftl_answer.specs.answers.Answer as answer;
 ghost use Rattle.ftl_answer.specs.answers.Stages.{Then};
 ghost use Rattle.ftl_answer.specs.answers.Texts.{planned_tree, spelled_tree, tokens, tree};
@@ -33,17 +34,16 @@ use std::alloc::Global;
 pub fn tree_of<'a>(
     alloc: Global,
     checked: &'a Checked,
-    accepted: &Accepted,
+    accepted: &Accepted<'_>,
     text: String,
 ) -> Result<Tree<'a>, Undecided>
-    requires short { string_len text ≤ 67108864 }
-    requires few { length (stages_of accepted.now) ≤ 2048 }
-    ensures outcome { IsOutcome (tree checked.now accepted.now (string_bytes text))
+    requires short { string_len text ≤ most_page_bytes }
+    ensures outcome { IsOutcome (tree checked.now accepted.now.schedule (string_bytes text))
         (λ t. t.tree) result }
     ensures grammar { IfOk result (λ t. t.checked ≡ checked.now) }
     // what a plan of it asks for
-    ensures fits { IfOk result (λ t. first_fault (meant checked.now) (stages_of accepted.now)
-        t.tree ≡ None) }
+    ensures fits { IfOk result (λ t. first_fault (meant checked.now)
+        (stages_of accepted.now.schedule) t.tree ≡ None) }
 {
     match scanned_document(alloc, checked.width(), text) {
         Ok(scanned) => tree_of_tokens(alloc, checked, accepted, &scanned),
@@ -63,7 +63,7 @@ fn greatest_of(width: Width) -> u64
 
 /// The text of a document with its tokens.
 fn scanned_document(alloc: Global, width: Width, text: String) -> Result<WideScanned, Undecided>
-    requires short { string_len text ≤ 67108864 }
+    requires short { string_len text ≤ most_page_bytes }
     ensures outcome { IsOutcome
         (tokens section.Document (greatest_of_width width) (string_bytes text))
         (λ s. s.tokenized) result }
@@ -80,16 +80,15 @@ fn scanned_document(alloc: Global, width: Width, text: String) -> Result<WideSca
 fn tree_of_tokens<'a>(
     alloc: Global,
     checked: &'a Checked,
-    accepted: &Accepted,
+    accepted: &Accepted<'_>,
     scanned: &WideScanned,
 ) -> Result<Tree<'a>, Undecided>
-    requires few { length (stages_of accepted.now) ≤ 2048 }
     requires greatest { scanned.now.greatest ≡ greatest_of_width checked.now.width }
     ensures outcome { IsOutcome (Then (spelled_tree checked.now scanned.now)
-        (λ t. planned_tree checked.now accepted.now t.tree)) (λ t. t.tree) result }
+        (λ t. planned_tree checked.now accepted.now.schedule t.tree)) (λ t. t.tree) result }
     ensures grammar { IfOk result (λ t. t.checked ≡ checked.now) }
-    ensures fits { IfOk result (λ t. first_fault (meant checked.now) (stages_of accepted.now)
-        t.tree ≡ None) }
+    ensures fits { IfOk result (λ t. first_fault (meant checked.now)
+        (stages_of accepted.now.schedule) t.tree ≡ None) }
 {
     match read_document(alloc, checked, scanned) {
         Ok(tree) => within_limits(alloc, checked, accepted, tree),

@@ -1,11 +1,10 @@
 //! How much the stages of a tree read.
 
-ghost use Rattle.std.specs.Prelude.{◌≡◌, ◌≤◌, length, None, IfOk};
+ghost use Rattle.std.specs.Prelude.{◌≡◌, None, IfOk};
 ghost use Rattle.ftl_answer.specs.answers.Answer as answer;
 ghost use Rattle.ftl_answer.specs.answers.Texts.{planned_tree};
 ghost use Rattle.ftl_requests.specs.sections.Outcomes.{Ends, IsOutcome};
 ghost use Rattle.ftl_deps.specs.reads.Meant.{meant};
-ghost use Rattle.ftl_limits.specs.reads.ReadTables.{IsSound};
 ghost use Rattle.ftl_limits.specs.faults.PlanFaults.{first_fault};
 ghost use Rattle.ftl_answer.specs.refusals.PlanLines.{plan_line};
 ghost use Rattle.ftl_schedule.specs.stages.Stages.{stages_of};
@@ -15,7 +14,6 @@ use crate::sections::status::Status;
 use ftl_answer::write_plan_fault;
 use ftl_checked::Checked;
 use ftl_limits::{PlanFault, ReadTables, first_fault};
-use ftl_meaning::{faultless_grammars_are_lawful, faultless_grammars_are_small};
 use ftl_schedule::Accepted;
 use ftl_tree::Tree;
 use std::alloc::{AllocError, Global};
@@ -24,16 +22,15 @@ use std::alloc::{AllocError, Global};
 pub(crate) fn within_limits<'a>(
     alloc: Global,
     checked: &'a Checked,
-    accepted: &Accepted,
+    accepted: &Accepted<'_>,
     tree: Tree<'a>,
 ) -> Result<Tree<'a>, Undecided>
-    requires few { length (stages_of accepted.now) ≤ 2048 }
     requires grammar { tree.checked ≡ checked.now }
-    ensures outcome { IsOutcome (planned_tree checked.now accepted.now tree.entry.tree)
+    ensures outcome { IsOutcome (planned_tree checked.now accepted.now.schedule tree.entry.tree)
         (λ t. t.tree) result }
     ensures grammar { IfOk result (λ t. t.checked ≡ checked.now) }
-    ensures fits { IfOk result (λ t. first_fault (meant checked.now) (stages_of accepted.now)
-        t.tree ≡ None) }
+    ensures fits { IfOk result (λ t. first_fault (meant checked.now)
+        (stages_of accepted.now.schedule) t.tree ≡ None) }
 {
     match fault_of(alloc, checked, accepted, &tree)? {
         Some(fault) => Err(plan_refused(alloc, fault)),
@@ -45,26 +42,15 @@ pub(crate) fn within_limits<'a>(
 fn fault_of(
     alloc: Global,
     checked: &Checked,
-    accepted: &Accepted,
+    accepted: &Accepted<'_>,
     tree: &Tree<'_>,
 ) -> Result<Option<PlanFault>, AllocError>
-    requires few { length (stages_of accepted.now) ≤ 2048 }
     requires grammar { tree.now.checked ≡ checked.now }
     ensures fault { IfOk result (λ fault. fault
-        ≡ first_fault (meant checked.now) (stages_of accepted.now) tree.now.tree) }
+        ≡ first_fault (meant checked.now) (stages_of accepted.now.schedule) tree.now.tree) }
 {
-    is_sound(checked);
     let tables = ReadTables::new(alloc, checked)?;
     first_fault(alloc, &tables, accepted, tree)
-}
-
-/// A law: a checked grammar is lawful, and within the limits on counts.
-fn is_sound(checked: &Checked)
-    ensures sound { IsSound (meant checked.now) }
-{
-    let _ = checked.grammar();
-    faultless_grammars_are_lawful();
-    faultless_grammars_are_small();
 }
 
 fn plan_refused(alloc: Global, fault: PlanFault) -> Undecided

@@ -17,6 +17,7 @@ mod written;
 pub use checking::grammar_of;
 pub use decision::{Decided, Undecided};
 pub use growing::tree_of;
+pub(crate) use read::MOST_BYTES;
 pub use read::read_page;
 pub use scheduling::schedule_of;
 pub use status::Status;

@@ -1,6 +1,7 @@
 //! The first stages: the page, and the tokens of a section.
 
 ghost use Rattle.std.specs.Prelude.{◌≡◌, ◌≤◌, length, string_bytes, string_len, IfOk};
+ghost use Rattle.ftl_model.specs.layout.Limits.{most_page_bytes};
 ghost use Rattle.ftl_answer.specs.answers.Answer as answer;
 ghost use Rattle.ftl_answer.specs.answers.Texts.{page, status_of, tokens};
 ghost use Rattle.ftl_page.specs.sections.Texts.{HasTextsUpTo};
@@ -16,13 +17,13 @@ use ftl_tokens::{Scanned, TokenFault, tokens};
 use std::alloc::Global;
 
 /// The most bytes of a page.
-const MOST_BYTES: usize = 67108864;
+pub(crate) const MOST_BYTES: usize = 67108864;
 
 /// The sections of a page that are needed.
 #[inline(never)]
 pub fn read_page(alloc: Global, bytes: &[u8], need: Need) -> Result<Page, Undecided>
     ensures outcome { IsOutcome (page need bytes.now) (λ p. p) result }
-    ensures short { IfOk result (HasTextsUpTo 67108864) }
+    ensures short { IfOk result (HasTextsUpTo most_page_bytes) }
 {
     if bytes.len() > MOST_BYTES {
         return Err(too_long(alloc));
@@ -79,9 +80,9 @@ pub fn tokens_refused(alloc: Global, section: Section, fault: TokenFault) -> Und
 
 /// The text of a section with its tokens.
 pub fn section_tokens(alloc: Global, section: Section, text: String) -> Result<Scanned, Undecided>
-    requires short { string_len text ≤ 67108864 }
+    requires short { string_len text ≤ most_page_bytes }
     ensures outcome { IsOutcome (tokens section 2147483647 (string_bytes text)) (λ s. s) result }
-    ensures short { IfOk result (λ s. length s.text ≤ 67108864) }
+    ensures short { IfOk result (λ s. length s.text ≤ most_page_bytes) }
 {
     match tokens(alloc, text) {
         Ok(scanned) => Ok(scanned),

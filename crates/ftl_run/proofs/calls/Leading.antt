@@ -4,10 +4,9 @@ use Rattle.std.specs.Prelude.{IsErrAnd}
 use Rattle.std.proofs.lemmas.Result.{err_from_is_err_and}
 use Rattle.ftl_meaning.specs.faults.Checked.{CheckedGrammar}
 use Rattle.ftl_page.specs.declared.sections.page.Page.{Page}
-use Rattle.ftl_schedule.specs.declared.stages.types.Schedule.{Schedule}
-use Rattle.ftl_answer.specs.answers.Answers.{shown_by, text_or_none, whole_page}
+use Rattle.ftl_answer.specs.answers.Answers.{text_or_none, whole_page}
 use Rattle.ftl_answer.specs.answers.Stages.{Then, ends, hands_on}
-use Rattle.ftl_answer.specs.answers.Texts.{grammar, page, schedule, tree}
+use Rattle.ftl_answer.specs.answers.Texts.{grammar, page, schedule}
 use Rattle.ftl_requests.specs.sections.Outcomes.{IsOutcome, answer_of}
 use Rattle.ftl_requests.specs.declared.sections.decision.Decided.{Decided}
 use Rattle.ftl_requests.specs.declared.sections.decision.Undecided.{Undecided}
@@ -15,7 +14,7 @@ use Rattle.ftl_requests.specs.declared.sections.decision.Undecided.TheVariants.{
 use Rattle.ftl_requests.specs.requests.RulesAnswers.{EndsIn}
 use Rattle.ftl_requests.specs.requests.Requests.{IsAnsweredBy, problem_stage}
 use Rattle.ftl_requests.specs.requests.ShownTexts.{text_shown}
-use Rattle.ftl_run.specs.calls.SolvedPages.{LeadsTo, rules_stage}
+use Rattle.ftl_run.specs.calls.SolvedPages.{LeadsTo, document_stage, rules_stage}
 use Rattle.ftl_requests.specs.declared.requests.request.Problem.{Problem}
 use Rattle.ftl_requests.specs.declared.requests.request.Request.{Request}
 use Rattle.ftl_requests.specs.declared.requests.request.Request.TheVariants.{Solve}
@@ -47,29 +46,24 @@ module _ (bytes : List ℕ) (p : Page) (read : page whole_page bytes (hands_on p
   grammar_ends (Refused d) may = λ text. inr (p, read, inl (answer_of d, may, refl))
   grammar_ends OutOfMemory may = tt
 
-  pub schedule_ends : (c : CheckedGrammar) → grammar p.width p.grammar (hands_on c) → (u : Undecided)
-      → IsOutcome (schedule c p.schedule) (λ (s : Schedule). s) (failed Schedule u) → LeadsTo bytes (Err u)
-  schedule_ends c lawful (Refused d) may =
-      λ text. inr (p, read, inr (c, lawful, inl (answer_of d, may, refl)))
-  schedule_ends c lawful OutOfMemory may = tt
-
-  pub rules_lead : (r : Rules) → grammar p.width p.grammar (hands_on r.checked)
-      → schedule r.checked p.schedule (hands_on r.accepted) → r.document ≡ p.document → LeadsTo bytes (Ok r)
-  rules_lead r lawful ordered same =
-      λ text end document_stage.
+  pub rules_lead : (r : Rules) → grammar p.width p.grammar (hands_on r.checked) → r.schedule ≡ p.schedule
+      → r.document ≡ p.document → LeadsTo bytes (Ok r)
+  rules_lead r lawful schedules documents =
+      λ text end stage.
       inr (
         p,
         read,
         inr (
           r.checked,
           lawful,
-          inr (
-            r.accepted,
-            ordered,
-            subst
-                (λ document. Then (tree r.checked r.accepted (text_or_none document)) (shown_by text r.checked) end)
-                same document_stage,
-          ),
+          subst
+              (λ written.
+              Then (schedule r.checked written) (λ s. document_stage r.checked s (text_or_none p.document) text) end)
+              schedules
+              (subst
+              (λ document.
+              Then (schedule r.checked r.schedule) (λ s. document_stage r.checked s (text_or_none document) text) end)
+              documents stage),
         ),
       )
 

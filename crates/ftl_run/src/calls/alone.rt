@@ -1,6 +1,7 @@
 //! Pages that are solved on the calling thread.
 
 ghost use Rattle.std.specs.Prelude.{◌≡◌, ◌≤◌, None, string_bytes, string_len, IfOk};
+ghost use Rattle.ftl_model.specs.layout.Limits.{most_page_bytes};
 ghost use Rattle.ftl_answer.specs.answers.Answers.{shown_by};
 ghost use Rattle.ftl_deps.specs.reads.Meant.{meant};
 ghost use Rattle.ftl_limits.specs.faults.PlanFaults.{first_fault};
@@ -8,15 +9,16 @@ ghost use Rattle.ftl_requests.specs.requests.RulesAnswers.{EndsIn};
 ghost use Rattle.ftl_requests.specs.requests.Requests.{IsAnsweredBy, problem_stage};
 ghost use Rattle.ftl_requests.specs.requests.ShownTexts.{text_shown};
 ghost use Rattle.ftl_run.specs.calls.ShownTables.{IsSolvedBy};
-ghost use Rattle.ftl_run.specs.calls.SolvedPages.{AreReady, IsPlannable, document_stage};
-ghost use Rattle.ftl_run.specs.calls.SolvedPages.{rules_stage};
+ghost use Rattle.ftl_run.specs.calls.SolvedPages.{AreReady, document_stage, rules_stage};
 ghost use Rattle.ftl_schedule.specs.stages.Stages.{stages_of};
 
 use crate::calls::shown::table_shown;
 use crate::calls::solving::{Rules, is_solved, plan_of, rules_of, text_of};
 use ftl_checked::Checked;
 use ftl_plan::solve_alone;
-use ftl_requests::{Decided, Problem, Request, Shown, Undecided, Undone, ended, tree_of};
+use ftl_requests::{
+    Decided, Problem, Request, Shown, Undecided, Undone, ended, schedule_of, tree_of,
+};
 use ftl_schedule::Accepted;
 use ftl_tree::Tree;
 use ftl_visit::compile;
@@ -57,11 +59,14 @@ fn solved_rules(
 {
     let Rules {
         checked,
-        accepted,
+        schedule,
         document,
     } = rules;
     let document = text_of(alloc, document);
-    solved_document(alloc, shown, grain, &checked, &accepted, document)
+    match schedule_of(alloc, &checked, schedule) {
+        Ok(accepted) => solved_document(alloc, shown, grain, &checked, &accepted, document),
+        Err(end) => Err(end),
+    }
 }
 
 fn solved_document(
@@ -69,13 +74,13 @@ fn solved_document(
     shown: &Shown,
     grain: u32,
     checked: &Checked,
-    accepted: &Accepted,
+    accepted: &Accepted<'_>,
     document: String,
 ) -> Result<Decided, Undecided>
-    requires may { IsPlannable checked.now accepted.now }
-    requires short { string_len document ≤ 67108864 }
-    ensures outcome { EndsIn (document_stage checked.now accepted.now (string_bytes document)
-        (text_shown shown.now)) result }
+    requires accepted { accepted.now.checked ≡ checked.now }
+    requires short { string_len document ≤ most_page_bytes }
+    ensures outcome { EndsIn (document_stage checked.now accepted.now.schedule
+        (string_bytes document) (text_shown shown.now)) result }
 {
     match tree_of(alloc, checked, accepted, document) {
         Ok(tree) => solved_tree(alloc, shown, grain, checked, accepted, &tree),
@@ -88,12 +93,13 @@ fn solved_tree(
     shown: &Shown,
     grain: u32,
     checked: &Checked,
-    accepted: &Accepted,
+    accepted: &Accepted<'_>,
     tree: &Tree<'_>,
 ) -> Result<Decided, Undecided>
-    requires may { IsPlannable checked.now accepted.now }
+    requires accepted { accepted.now.checked ≡ checked.now }
     requires grammar { tree.now.checked ≡ checked.now }
-    requires fits { first_fault (meant checked.now) (stages_of accepted.now) tree.now.tree ≡ None }
+    requires fits { first_fault (meant checked.now) (stages_of accepted.now.schedule) tree.now.tree
+        ≡ None }
     ensures outcome { EndsIn (shown_by (text_shown shown.now) checked.now tree.now.tree) result }
 {
     let words = words_alone(alloc, grain, checked, accepted, tree)?;
@@ -105,12 +111,13 @@ fn words_alone(
     alloc: Global,
     grain: u32,
     checked: &Checked,
-    accepted: &Accepted,
+    accepted: &Accepted<'_>,
     tree: &Tree<'_>,
 ) -> Result<Vec<u64>, AllocError>
-    requires may { IsPlannable checked.now accepted.now }
+    requires accepted { accepted.now.checked ≡ checked.now }
     requires grammar { tree.now.checked ≡ checked.now }
-    requires fits { first_fault (meant checked.now) (stages_of accepted.now) tree.now.tree ≡ None }
+    requires fits { first_fault (meant checked.now) (stages_of accepted.now.schedule) tree.now.tree
+        ≡ None }
     ensures solved { IfOk result (λ v. IsSolvedBy tree.now v.items) }
 {
     let programs = compile(alloc, checked)?;

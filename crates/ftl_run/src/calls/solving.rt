@@ -1,6 +1,7 @@
 //! A page that is to be solved: its rules, and the plan of its tree.
 
 ghost use Rattle.std.specs.Prelude.{◌≡◌, ◌≤◌, length, None, string_bytes, string_len, IfOk, IfSome};
+ghost use Rattle.ftl_model.specs.layout.Limits.{most_page_bytes};
 ghost use Rattle.ftl_answer.specs.answers.Answers.{text_or_none, whole_page};
 ghost use Rattle.ftl_answer.specs.answers.Texts.{page, tree};
 ghost use Rattle.ftl_deps.specs.reads.Meant.{meant};
@@ -9,7 +10,7 @@ ghost use Rattle.ftl_page.specs.sections.Texts.{HasTextsUpTo};
 ghost use Rattle.ftl_visit.specs.compiled.RuleCode.{rule_codes};
 ghost use Rattle.ftl_limits.specs.faults.PlanFaults.{first_fault};
 ghost use Rattle.ftl_run.specs.calls.ShownTables.{IsSolvedBy};
-ghost use Rattle.ftl_run.specs.calls.SolvedPages.{AreReady, LeadsTo, IsPlannable};
+ghost use Rattle.ftl_run.specs.calls.SolvedPages.{AreReady, LeadsTo};
 ghost use Rattle.ftl_requests.specs.sections.Outcomes.{IsOutcome};
 ghost use Rattle.ftl_items.specs.solution.Solution.{solution};
 ghost use Rattle.ftl_schedule.specs.stages.Stages.{stages_of};
@@ -19,7 +20,7 @@ use ftl_items::solution_solves;
 use ftl_order::{reads_end_by_rank, values_are_in_range};
 use ftl_page::{Need, Page, Text};
 use ftl_plan::{Plan, PlanFault};
-use ftl_requests::{Undecided, grammar_of, read_page, schedule_of};
+use ftl_requests::{Undecided, grammar_of, read_page};
 use ftl_schedule::Accepted;
 use ftl_tree::Tree;
 use ftl_visit::Programs;
@@ -32,16 +33,16 @@ const WHOLE_PAGE: Need = Need {
     edits: false,
 };
 
-/// The grammar and the schedule of a page, and the text of its document.
+/// The grammar of a page, and the texts of its schedule and its document.
 #[derive(Drop)]
 pub(crate) struct Rules {
     pub checked: Checked,
-    pub accepted: Accepted,
+    pub schedule: Option<Text>,
     pub document: Option<Text>,
 }
 
-/// The rules of a page, or its refusal. The page's bytes are let go as soon as its sections are
-/// there.
+/// The grammar of a page, or the page's refusal. The page's bytes are let go as soon as its
+/// sections are there.
 pub(crate) fn rules_of(alloc: Global, bytes: Vec<u8>) -> Result<Rules, Undecided>
     ensures outcome { LeadsTo bytes.items result }
     ensures ready { IfOk result AreReady }
@@ -54,10 +55,9 @@ pub(crate) fn rules_of(alloc: Global, bytes: Vec<u8>) -> Result<Rules, Undecided
         edits: _,
     } = page_of(alloc, bytes)?;
     let checked = grammar_of(alloc, width, grammar)?;
-    let accepted = schedule_of(alloc, &checked, schedule)?;
     Ok(Rules {
         checked,
-        accepted,
+        schedule,
         document,
     })
 }
@@ -65,16 +65,16 @@ pub(crate) fn rules_of(alloc: Global, bytes: Vec<u8>) -> Result<Rules, Undecided
 /// The sections of a page, whose bytes are let go.
 fn page_of(alloc: Global, bytes: Vec<u8>) -> Result<Page, Undecided>
     ensures outcome { IsOutcome (page whole_page bytes.items) (λ p. p) result }
-    ensures short { IfOk result (HasTextsUpTo 67108864) }
+    ensures short { IfOk result (HasTextsUpTo most_page_bytes) }
 {
     read_page(alloc, bytes.as_slice(), WHOLE_PAGE)
 }
 
 /// The text of a section; empty where there is none.
 pub(crate) fn text_of(alloc: Global, text: Option<Text>) -> String
-    requires short { IfSome text (λ t. length t ≤ 67108864) }
+    requires short { IfSome text (λ t. length t ≤ most_page_bytes) }
     ensures text { string_bytes result ≡ text_or_none text }
-    ensures short { string_len result ≤ 67108864 }
+    ensures short { string_len result ≤ most_page_bytes }
 {
     match text {
         Some(text) => text.into_string(),
@@ -89,15 +89,16 @@ pub(crate) fn plan_of<'a>(
     alloc: Global,
     grain: u32,
     checked: &'a Checked,
-    accepted: &'a Accepted,
+    accepted: &'a Accepted<'a>,
     programs: &'a Programs,
     tree: &'a Tree<'a>,
 ) -> Result<Plan<'a>, AllocError>
-    requires may { IsPlannable checked.now accepted.now }
+    requires accepted { accepted.now.checked ≡ checked.now }
     requires rules { programs.now.rules ≡ rule_codes checked.now.grammar }
     requires width { programs.now.width ≡ checked.now.width }
     requires grammar { tree.now.checked ≡ checked.now }
-    requires fits { first_fault (meant checked.now) (stages_of accepted.now) tree.now.tree ≡ None }
+    requires fits { first_fault (meant checked.now) (stages_of accepted.now.schedule) tree.now.tree
+        ≡ None }
     ensures grammar { IfOk result (λ p. p.checked ≡ checked.now) }
     ensures tree { IfOk result (λ p. p.tree ≡ tree.now.tree) }
 {

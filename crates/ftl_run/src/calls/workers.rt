@@ -1,6 +1,7 @@
 //! Pages that are solved by workers in threads of their own.
 
 ghost use Rattle.std.specs.Prelude.{◌≡◌, ◌≤◌, None, string_bytes, string_len, IfOk};
+ghost use Rattle.ftl_model.specs.layout.Limits.{most_page_bytes};
 ghost use Rattle.ftl_answer.specs.answers.Answers.{shown_by};
 ghost use Rattle.ftl_deps.specs.reads.Meant.{meant};
 ghost use Rattle.ftl_limits.specs.faults.PlanFaults.{first_fault};
@@ -8,8 +9,7 @@ ghost use Rattle.ftl_requests.specs.requests.RulesAnswers.{EndsIn};
 ghost use Rattle.ftl_requests.specs.requests.Requests.{IsAnsweredBy, problem_stage};
 ghost use Rattle.ftl_requests.specs.requests.ShownTexts.{text_shown};
 ghost use Rattle.ftl_run.specs.calls.ShownTables.{IsSolvedBy};
-ghost use Rattle.ftl_run.specs.calls.SolvedPages.{AreReady, IsPlannable, document_stage};
-ghost use Rattle.ftl_run.specs.calls.SolvedPages.{rules_stage};
+ghost use Rattle.ftl_run.specs.calls.SolvedPages.{AreReady, document_stage, rules_stage};
 ghost use Rattle.ftl_schedule.specs.stages.Stages.{stages_of};
 
 use crate::calls::shown::table_shown;
@@ -18,7 +18,9 @@ use crate::solve::solve;
 use ftl_checked::Checked;
 use ftl_edge::Gate;
 use ftl_page::Solving;
-use ftl_requests::{Decided, Problem, Request, Shown, Undecided, Undone, ended, tree_of};
+use ftl_requests::{
+    Decided, Problem, Request, Shown, Undecided, Undone, ended, schedule_of, tree_of,
+};
 use ftl_schedule::Accepted;
 use ftl_tree::Tree;
 use ftl_visit::compile;
@@ -72,11 +74,16 @@ fn solved_rules<R: Threads + Wait + Sync, G: Gate>(
 {
     let Rules {
         checked,
-        accepted,
+        schedule,
         document,
     } = rules;
     let document = text_of(alloc, document);
-    solved_document(rt, alloc, shown, how, &checked, &accepted, document, gate)
+    match schedule_of(alloc, &checked, schedule) {
+        Ok(accepted) => {
+            solved_document(rt, alloc, shown, how, &checked, &accepted, document, gate)
+        }
+        Err(end) => Err(end),
+    }
 }
 
 fn solved_document<R: Threads + Wait + Sync, G: Gate>(
@@ -85,14 +92,14 @@ fn solved_document<R: Threads + Wait + Sync, G: Gate>(
     shown: &Shown,
     how: Solving,
     checked: &Checked,
-    accepted: &Accepted,
+    accepted: &Accepted<'_>,
     document: String,
     gate: &G,
 ) -> Result<Decided, Undecided>
-    requires may { IsPlannable checked.now accepted.now }
-    requires short { string_len document ≤ 67108864 }
-    ensures outcome { EndsIn (document_stage checked.now accepted.now (string_bytes document)
-        (text_shown shown.now)) result }
+    requires accepted { accepted.now.checked ≡ checked.now }
+    requires short { string_len document ≤ most_page_bytes }
+    ensures outcome { EndsIn (document_stage checked.now accepted.now.schedule
+        (string_bytes document) (text_shown shown.now)) result }
 {
     match tree_of(alloc, checked, accepted, document) {
         Ok(tree) => solved_tree(rt, alloc, shown, how, checked, accepted, &tree, gate),
@@ -106,13 +113,14 @@ fn solved_tree<R: Threads + Wait + Sync, G: Gate>(
     shown: &Shown,
     how: Solving,
     checked: &Checked,
-    accepted: &Accepted,
+    accepted: &Accepted<'_>,
     tree: &Tree<'_>,
     gate: &G,
 ) -> Result<Decided, Undecided>
-    requires may { IsPlannable checked.now accepted.now }
+    requires accepted { accepted.now.checked ≡ checked.now }
     requires grammar { tree.now.checked ≡ checked.now }
-    requires fits { first_fault (meant checked.now) (stages_of accepted.now) tree.now.tree ≡ None }
+    requires fits { first_fault (meant checked.now) (stages_of accepted.now.schedule) tree.now.tree
+        ≡ None }
     ensures outcome { EndsIn (shown_by (text_shown shown.now) checked.now tree.now.tree) result }
 {
     let words = words_by_workers(rt, alloc, how, checked, accepted, tree, gate)?;
@@ -125,13 +133,14 @@ fn words_by_workers<R: Threads + Wait + Sync, G: Gate>(
     alloc: Global,
     how: Solving,
     checked: &Checked,
-    accepted: &Accepted,
+    accepted: &Accepted<'_>,
     tree: &Tree<'_>,
     gate: &G,
 ) -> Result<Vec<u64>, AllocError>
-    requires may { IsPlannable checked.now accepted.now }
+    requires accepted { accepted.now.checked ≡ checked.now }
     requires grammar { tree.now.checked ≡ checked.now }
-    requires fits { first_fault (meant checked.now) (stages_of accepted.now) tree.now.tree ≡ None }
+    requires fits { first_fault (meant checked.now) (stages_of accepted.now.schedule) tree.now.tree
+        ≡ None }
     ensures solved { IfOk result (λ v. IsSolvedBy tree.now v.items) }
 {
     let programs = compile(alloc, checked)?;

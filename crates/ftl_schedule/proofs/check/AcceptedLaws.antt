@@ -14,6 +14,9 @@ use Rattle.ftl_deps.specs.reads.Meant.{meant}
 use Rattle.ftl_order.specs.orders.Schedule as order
 use Rattle.ftl_order.specs.orders.Schedule.{entries, placing_of}
 use Rattle.ftl_model.specs.layout.AttributeGrammar.{AttributeGrammar}
+use Rattle.ftl_order.specs.faults.FaultLaws.{AreComputed}
+use Rattle.ftl_schedule.specs.check.AcceptedSchedule.{IsAccepted}
+use Rattle.ftl_schedule.specs.stages.PassLimits.{IsWithinPassLimits}
 use Rattle.ftl_schedule.specs.stages.Stages.{stages_of}
 use Rattle.ftl_schedule.specs.declared.stages.types.Schedule.{Schedule}
 use Rattle.ftl_schedule.specs.places.Placed.{verdict, without_twice}
@@ -65,6 +68,17 @@ module _ (g : AttributeGrammar) (s p : Schedule) (placed : without_twice s ≡ O
             (subst (λ (x : Schedule). first_twice [] (entries (stages_of x)) ≡ None) same_schedule first_twice_none) both.first;
         pairs = pairs_ordered g (placing_of (stages_of p)) lawful both.later;
       }
+
+-- what was asked of the schedule that was looked at holds of the accepted one
+pub is_accepted : (c : CheckedGrammar) (s p : Schedule) → without_twice s ≡ Ok p → AreComputed (meant c) (stages_of s)
+    → IsWithinPassLimits (stages_of s) → IsLawful (meant c) → later_fault (meant c) (stages_of p) ≡ None → IsAccepted c p
+is_accepted c s p placed computed limits law none =
+    let same = same_schedule (meant c) s p placed in
+    record {
+      computed = subst (λ (x : Schedule). AreComputed (meant c) (stages_of x)) same computed;
+      limits = subst (λ (x : Schedule). IsWithinPassLimits (stages_of x)) same limits;
+      ordered = is_ordered (meant c) s p placed law none;
+    }
 
 pub lawful_of : (c : CheckedGrammar) → grammar.first_fault c.grammar ≡ None → HasKinds c.grammar → IsLawful (meant c)
 lawful_of c none kinds = faultless_lawful c.grammar c.width (record { faults = none; kinds = kinds })

@@ -1,5 +1,6 @@
--- How many passes a schedule may have: 2048 in all, and 4 in one stage.
+-- How many passes a schedule may have, in all and in one stage.
 use Rattle.std.specs.Prelude.{ℕ, ◌+◌, nat_lt, if◌then◌else◌, List, [], ◌∷◌, length, Option, Some, None}
+use Rattle.ftl_model.specs.layout.Limits.{most_passes, most_stage_passes}
 use Rattle.ftl_schedule.specs.declared.syntax.types.WrittenStage.{WrittenStage}
 use Rattle.ftl_schedule.specs.declared.names.fault.ScheduleFault.{ScheduleFault}
 use Rattle.ftl_schedule.specs.declared.names.fault.ScheduleFault.TheVariants.{TooManyBeside, TooManyPasses}
@@ -9,13 +10,13 @@ abbrev pub pass_count : List WrittenStage → ℕ
 pass_count [] = 0
 pass_count (s ∷ more) = length s.passes + pass_count more
 
--- the first stage with more than 4 passes, where the first has this number
+-- the first stage with too many passes, where the first has this number
 abbrev pub beside_fault : (stage : ℕ) → List WrittenStage → Option ScheduleFault
 beside_fault n [] = None
 beside_fault n (s ∷ more) =
-    if nat_lt 4 (length s.passes) then Some (TooManyBeside n (length s.passes)) else beside_fault (n + 1) more
+    if nat_lt most_stage_passes (length s.passes) then Some (TooManyBeside n (length s.passes)) else beside_fault (n + 1) more
 
--- more than 2048 passes, or else that stage; stages are counted from 1
+-- too many passes in all, or else that stage; stages are counted from 1
 abbrev pub limit_fault : List WrittenStage → Option ScheduleFault
 limit_fault stages =
-    if nat_lt 2048 (pass_count stages) then Some (TooManyPasses (pass_count stages)) else beside_fault 1 stages
+    if nat_lt most_passes (pass_count stages) then Some (TooManyPasses (pass_count stages)) else beside_fault 1 stages

@@ -4,6 +4,7 @@ ghost use Rattle.std.specs.Prelude.{◌≡◌, IfOk};
 ghost use Rattle.ftl_model.specs.layout.Outcome.{Gives};
 ghost use Rattle.ftl_order.specs.orders.OrderLaws.{LegalOrderExists, OneListSolves, OneTableSolves};
 ghost use Rattle.ftl_order.specs.orders.OrderLaws.{WritersStandBefore};
+ghost use Rattle.ftl_schedule.specs.stages.PassLimits.{IsWithinPassLimits};
 ghost use Rattle.ftl_schedule.specs.stages.Stages.{stages_of};
 ghost use Rattle.ftl_deps.specs.reads.DepRows.{dep_rows};
 ghost use Rattle.ftl_deps.specs.reads.Meant.{meant};
@@ -23,30 +24,33 @@ use ftl_order::VerifyFault;
 use std::alloc::Global;
 
 /// The schedule as one that is accepted, or its first fault.
-pub fn verify(
+pub fn verify<'a>(
     alloc: Global,
-    checked: &Checked,
+    checked: &'a Checked,
     deps: &DepTable,
     schedule: Schedule,
-) -> Result<Accepted, VerifyFault>
+) -> Result<Accepted<'a>, VerifyFault>
     requires table { deps.now ≡ dep_rows (meant checked.now) }
     requires computed { AreComputed (meant checked.now) (stages_of schedule) }
-    ensures exact { Gives OutOfMemory (λ a. a) result (verified_as (meant checked.now) schedule) }
+    requires limits { IsWithinPassLimits (stages_of schedule) }
+    ensures exact { Gives OutOfMemory (λ a. a.schedule) result
+        (verified_as (meant checked.now) schedule) }
+    ensures grammar { IfOk result (λ a. a.checked ≡ checked.now) }
     // what an accepted schedule gives
     ensures one_table { IfOk result
-        (λ a. OnEachTree (meant checked.now) (stages_of a) OneTableSolves) }
+        (λ a. OnEachTree (meant checked.now) (stages_of a.schedule) OneTableSolves) }
     ensures one_list { IfOk result
-        (λ a. OnEachTree (meant checked.now) (stages_of a) OneListSolves) }
+        (λ a. OnEachTree (meant checked.now) (stages_of a.schedule) OneListSolves) }
     ensures legal_order { IfOk result
-        (λ a. OnEachTree (meant checked.now) (stages_of a) LegalOrderExists) }
+        (λ a. OnEachTree (meant checked.now) (stages_of a.schedule) LegalOrderExists) }
     ensures writers_before { IfOk result
-        (λ a. OnEachTree (meant checked.now) (stages_of a) WritersStandBefore) }
+        (λ a. OnEachTree (meant checked.now) (stages_of a.schedule) WritersStandBefore) }
 {
     let _ = checked.grammar();
     let placed = Placed::new(alloc, attribute_count(checked), schedule)?;
     match later_fault(checked, deps, &placed) {
         Some(fault) => Err(fault),
-        None => Ok(Accepted::new(placed)),
+        None => Ok(Accepted::new(checked, placed)),
     }
 }
 

@@ -1,24 +1,18 @@
 //! Laws of printed schedules.
 
-ghost use Rattle.ftl_deps.specs.reads.Meant.{meant};
-ghost use Rattle.ftl_order.specs.faults.FaultLaws.{AreComputed};
-ghost use Rattle.ftl_schedule.specs.printing.ReadBack.{PrintedAreReadBack};
-ghost use Rattle.ftl_schedule.specs.printing.WrittenOf.{AreStagesKnown};
-ghost use Rattle.ftl_schedule.specs.stages.Stages.{stages_of};
+ghost use Rattle.ftl_schedule.specs.printing.ReadBack.{OfTextsAreReadBack, PrintedAreReadBack};
+ghost use Rattle.ftl_schedule.specs.printing.ReadBack.{ReadAreReadBack};
 
-use crate::stages::Schedule;
 use crate::text::canonical_schedules;
-use ftl_checked::Checked;
+use ftl_meaning::faultless_grammars_are_lawful;
 
-/// A law: a schedule's canonical text is read as the schedule again.
+/// A law: a schedule's canonical text is read as the schedule again, where it can be written, where
+/// it may be accepted for a grammar that was read from a text, and where it was read itself.
 pub fn printed_schedules()
     ensures read_back { PrintedAreReadBack }
+    ensures of_texts { OfTextsAreReadBack }
+    ensures read { ReadAreReadBack }
 {
     canonical_schedules();
+    faultless_grammars_are_lawful();
 }
-
-/// Says of a schedule of computed attributes what its printing asks for.
-pub fn known_entries(checked: &Checked, schedule: &Schedule)
-    requires computed { AreComputed (meant checked.now) (stages_of schedule.now) }
-    ensures known { AreStagesKnown checked.now.grammar schedule.now.stages }
-{}

@@ -5,5 +5,5 @@
 mod laws;
 mod print;
 
-pub use laws::{known_entries, printed_schedules};
+pub use laws::printed_schedules;
 pub use print::print_schedule;

@@ -4,8 +4,12 @@
 //! attribute that names no computed one. `specs/reading/Limits.antt` and `specs/reading/Read.antt`
 //! define them.
 
+mod laws;
 mod limits;
 mod read;
+mod worked;
 
 pub use crate::names::ScheduleFault;
+pub use laws::{faults_are_of_schedules, one_schedule};
 pub use read::read_schedule;
+pub use worked::limits_of_schedules;

@@ -1,10 +1,16 @@
 //! The reader of schedules of a grammar.
 
-ghost use Rattle.std.specs.Prelude.{◌<◌, ◌≤◌, length};
+ghost use Rattle.std.specs.Prelude.{◌<◌, ◌≤◌, length, IfOk};
+ghost use Rattle.ftl_model.specs.layout.Limits.{most_page_bytes};
+ghost use Rattle.ftl_deps.specs.reads.Meant.{meant};
 ghost use Rattle.ftl_model.specs.layout.Outcome.{Gives};
+ghost use Rattle.ftl_order.specs.faults.FaultLaws.{AreComputed};
 ghost use Rattle.ftl_schedule.specs.declared.names.fault.ScheduleFault.TheVariants.{OutOfMemory};
+ghost use Rattle.ftl_schedule.specs.printing.WrittenOf.{AreStagesKnown};
 ghost use Rattle.ftl_schedule.specs.reading.Limits.{pass_count};
 ghost use Rattle.ftl_schedule.specs.reading.Read.{Answers, schedule_of};
+ghost use Rattle.ftl_schedule.specs.stages.PassLimits.{IsWithinPassLimits};
+ghost use Rattle.ftl_schedule.specs.stages.Stages.{stages_of};
 
 use crate::names::{ScheduleFault, schedule_named};
 use crate::reading::limits::limit_fault;
@@ -22,8 +28,13 @@ pub fn read_schedule(
     checked: &Checked,
     scanned: &Scanned,
 ) -> Result<Schedule, ScheduleFault>
-    requires short { length scanned.now.text ≤ 67108864 }
+    requires short { length scanned.now.text ≤ most_page_bytes }
     ensures answer { Answers checked.now.grammar scanned.now result }
+    // what its check asks for
+    ensures computed { IfOk result (λ s. AreComputed (meant checked.now) (stages_of s)) }
+    ensures limits { IfOk result (λ s. IsWithinPassLimits (stages_of s)) }
+    // what its printing asks for
+    ensures known { IfOk result (λ s. AreStagesKnown checked.now.grammar s.stages) }
 {
     let _tokens = scanned.list();
     counts_of_spelled_grammars();

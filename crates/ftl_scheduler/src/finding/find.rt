@@ -2,7 +2,9 @@
 
 ghost use Rattle.std.specs.Prelude.{◌≡◌, IfErr, IfOk};
 ghost use Rattle.ftl_order.specs.automatic.Automatic.{IsAutomatic, SomeScheduleIsOrdered};
+ghost use Rattle.ftl_order.specs.faults.FaultLaws.{AreComputed};
 ghost use Rattle.ftl_order.specs.orders.Ordered.{IsOrdered};
+ghost use Rattle.ftl_schedule.specs.stages.PassLimits.{IsWithinPassLimits};
 ghost use Rattle.ftl_schedule.specs.stages.Stages.{stages_of};
 ghost use Rattle.ftl_deps.specs.reads.DepRows.{dep_rows};
 ghost use Rattle.ftl_deps.specs.reads.Meant.{meant};
@@ -16,20 +18,24 @@ use crate::finding::tables::tables_of;
 use crate::outcomes::{Outcome, find_outcome};
 use ftl_checked::Checked;
 use ftl_deps::DepTable;
+use ftl_meaning::faultless_grammars_are_small;
 use ftl_order::faultless_is_ordered;
 use ftl_schedule::{Accepted, VerifyFault, attribute_count, verify};
 use std::alloc::{AllocError, Global};
 
 /// The automatic schedule, accepted, or the attributes that are left where there is none.
-pub fn find_schedule(
+pub fn find_schedule<'a>(
     alloc: Global,
-    checked: &Checked,
+    checked: &'a Checked,
     deps: &DepTable,
-) -> Result<Accepted, FindFault>
+) -> Result<Accepted<'a>, FindFault>
     requires table { deps.now ≡ dep_rows (meant checked.now) }
     // where a schedule is found
-    ensures found { IfOk result (λ a. IsAutomatic (meant checked.now) (stages_of a)) }
-    ensures ordered { IfOk result (λ a. IsOrdered (meant checked.now) (stages_of a)) }
+    ensures grammar { IfOk result (λ a. a.checked ≡ checked.now) }
+    ensures found { IfOk result (λ a. IsAutomatic (meant checked.now) (stages_of a.schedule)) }
+    ensures ordered { IfOk result (λ a. IsOrdered (meant checked.now) (stages_of a.schedule)) }
+    ensures computed { IfOk result (λ a. AreComputed (meant checked.now) (stages_of a.schedule)) }
+    ensures limits { IfOk result (λ a. IsWithinPassLimits (stages_of a.schedule)) }
     ensures exists { IfOk result (λ a. SomeScheduleIsOrdered (meant checked.now)) }
     // where there is none
     ensures stuck { IfErr result (IsStuckBy (meant checked.now)) }
@@ -37,6 +43,7 @@ pub fn find_schedule(
 {
     let _ = checked.grammar();
     faultless_is_ordered();
+    faultless_grammars_are_small();
     let outcome = outcome_of(alloc, checked, deps)?;
     match outcome {
         Outcome::Stuck(attrs) => Err(FindFault::Stuck { attrs }),

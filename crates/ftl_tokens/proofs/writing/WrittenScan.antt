@@ -62,7 +62,7 @@ longer_front text (c ∷ cs) kind k is apart past within =
     by (suc n) some = stays text kind c (take n cs) is apart
 
 -- the front of a text that begins with a token that stands apart
-token_in_front : (c : ℕ) (cs rest : List ℕ) (kind : Kind) → kind_of (c ∷ cs) ≡ Some kind → StandsApart (c ∷ cs) rest
+pub token_in_front : (c : ℕ) (cs rest : List ℕ) (kind : Kind) → kind_of (c ∷ cs) ≡ Some kind → StandsApart (c ∷ cs) rest
     → front_of (c ∷ (cs ++ rest)) ≡ token kind (suc (length cs))
 unfolding front_of longest_token
 token_in_front c cs rest kind is apart =

@@ -1,6 +1,7 @@
 //! The tokens of a text.
 
 ghost use Rattle.std.specs.Prelude.{◌≡◌, ◌≤◌, length, string_bytes, string_len, IfOk};
+ghost use Rattle.ftl_model.specs.layout.Limits.{most_page_bytes};
 ghost use Rattle.ftl_model.specs.layout.Outcome.{Gives};
 ghost use Rattle.ftl_tokens.specs.scanner.Scan.{scan};
 ghost use Rattle.ftl_tokens.specs.scanner.Tokenized.{IsGreatestNumber, AreTokensOf};
@@ -16,7 +17,7 @@ use std::alloc::Global;
 /// The tokens of a text, which is kept beside them. A text has 64 MiB at most, so that places fit
 /// 32 bits. One pass, which allocates nothing but the list.
 pub fn tokens(alloc: Global, text: String) -> Result<Scanned, TokenFault>
-    requires short { string_len text ≤ 67108864 }
+    requires short { string_len text ≤ most_page_bytes }
     ensures exact { Gives OutOfMemory (λ scanned. scanned.tokens) result
         (scan 2147483647 (string_bytes text)) }
     ensures text { IfOk result (λ scanned. scanned.text ≡ string_bytes text) }
@@ -30,7 +31,7 @@ pub fn document_tokens(
     text: String,
     greatest: u64,
 ) -> Result<WideScanned, TokenFault>
-    requires short { string_len text ≤ 67108864 }
+    requires short { string_len text ≤ most_page_bytes }
     requires limit { IsGreatestNumber greatest }
     ensures exact { Gives OutOfMemory (λ scanned. scanned.tokenized.tokens) result
         (scan greatest (string_bytes text)) }
@@ -42,7 +43,7 @@ pub fn document_tokens(
 }
 
 fn tokenized_text(alloc: Global, text: String, greatest: u64) -> Result<TokenizedText, TokenFault>
-    requires short { string_len text ≤ 67108864 }
+    requires short { string_len text ≤ most_page_bytes }
     requires limit { greatest ≤ 140737488355327 }
     ensures exact { Gives OutOfMemory (λ tokenized. tokenized.tokens) result
         (scan greatest (string_bytes text)) }
@@ -55,7 +56,7 @@ fn tokenized_text(alloc: Global, text: String, greatest: u64) -> Result<Tokenize
 }
 
 fn token_list(alloc: Global, text: &str, greatest: u64) -> Result<Vec<Token>, TokenFault>
-    requires short { length text.now ≤ 67108864 }
+    requires short { length text.now ≤ most_page_bytes }
     requires limit { greatest ≤ 140737488355327 }
     ensures exact { Gives OutOfMemory (λ list. list.items) result (scan greatest text.now) }
 {

@@ -43,6 +43,13 @@ impl Scanned {
         &self.tokenized
     }
 
+    /// The text.
+    pub fn text(&self) -> &str
+        ensures text { result.now ≡ self.now.text }
+    {
+        self.tokenized().text()
+    }
+
     /// The tokens, in order.
     pub fn list(&self) -> &[Token]
         ensures list { result.now ≡ self.now.tokens }

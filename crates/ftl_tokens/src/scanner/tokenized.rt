@@ -37,6 +37,13 @@ impl TokenizedText {
         TokenizedText { text, list }
     }
 
+    /// The text.
+    pub fn text(&self) -> &str
+        ensures text { result.now ≡ self.now.text }
+    {
+        self.text.as_str()
+    }
+
     /// The tokens, in order.
     pub fn list(&self) -> &[Token]
         ensures list { result.now ≡ self.now.tokens }

@@ -2,6 +2,7 @@
 -- nodes one after another.
 use Rattle.std.specs.Prelude.{◌≡◌, ℕ, ◌+◌, ◌-◌, ◌≤◌, List, [], ◌∷◌, length, map, take, drop, ℤ}
 use Rattle.std.specs.List.{flat_map}
+use Rattle.ftl_model.specs.layout.Limits.{most_instances, most_nodes}
 use Rattle.ftl_model.specs.layout.AttributeGrammar.{AttributeGrammar, attributes_of, class_inputs}
 use Rattle.ftl_model.specs.layout.Path.{Path, child_at, class_at, down, inputs_at, kid_at, number_of, preorder, size_at, top}
 use Rattle.ftl_model.specs.layout.Shape.{Shape, forest_of, shape}
@@ -65,8 +66,8 @@ pub record AreRowsOf (g : AttributeGrammar) (t : Forest) (rows : List NodeRow) (
   pub rows_are : rows ≡ rows_of t
   pub sizes_are : sizes ≡ sizes_of t
   pub inputs_are : inputs ≡ all_inputs t
-  pub few_nodes : size t ≤ 1048576
-  pub few_instances : instance_count g t ≤ 33554432
+  pub few_nodes : size t ≤ most_nodes
+  pub few_instances : instance_count g t ≤ most_instances
 
 -- ---- where the attributes, inputs and children of each node begin
 
@@ -85,8 +86,8 @@ starts_by width rows = sums_from 0 (map (λ row. width row.class) rows)
 pub record AreTreeRows (g : AttributeGrammar) (t : Forest) (rows : List NodeRow) : Type 0 where
   pub is_tree : IsTreeOf g t
   pub rows_are : rows ≡ rows_of t
-  pub few_nodes : size t ≤ 1048576
-  pub few_instances : instance_count g t ≤ 33554432
+  pub few_nodes : size t ≤ most_nodes
+  pub few_instances : instance_count g t ≤ most_instances
 
 -- the rows are those of some tree of the grammar
 abbrev pub IsPreorder : AttributeGrammar → List NodeRow → Type 0

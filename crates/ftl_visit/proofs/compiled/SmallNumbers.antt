@@ -1,6 +1,7 @@
 -- The numbers of a text's tokens are small.
-use Rattle.std.proofs.Common.{◌≡◌, ℕ, ◌<◌, ◌≤◌, false, List, [], ◌∷◌, ◌++◌, map, arith}
+use Rattle.std.proofs.Common.{◌≡◌, ℕ, ◌≤◌, false, List, [], ◌∷◌, ◌++◌, map, arith}
 use Rattle.std.specs.Prelude.{nat_lt}
+use Rattle.std.specs.List.{AllByRecursion}
 use Rattle.std.specs.Str.Parse.{digits_value}
 use Rattle.ftl_tokens.specs.declared.scanner.kind.Kind.{Kind}
 use Rattle.ftl_tokens.specs.declared.scanner.kind.Kind.TheVariants.{Name, Number}
@@ -8,6 +9,7 @@ use Rattle.ftl_tokens.specs.declared.scanner.kind.Token.{Token}
 use Rattle.ftl_tokens.specs.scanner.Scan.{is_too_large}
 use Rattle.ftl_tokens.specs.scanner.Tokenized.{AreTokensOf, Symbol, Tokenized, fixed, name, number, symbol, symbol_of, symbols_of, token_text}
 use Rattle.ftl_tokens.specs.reading.Reader.{Tokens}
+use Rattle.ftl_tokens.specs.writing.Written.{CanBeSaid}
 
 -- a token that is a number is a small one
 abbrev pub IsSmallNumber : Symbol → Type 0
@@ -48,3 +50,10 @@ small_from text at (t ∷ ts) h =
 pub small_numbers : (scanned : Tokenized) → AreTokensOf 2147483647 scanned.text 0 scanned.tokens
     → AreSmallNumbers (symbols_of scanned)
 small_numbers scanned h = small_from scanned.text 0 scanned.tokens h
+
+-- and of tokens that a text can have
+pub said_small : (tokens : Tokens) → AllByRecursion (CanBeSaid 2147483647) tokens → AreSmallNumbers tokens
+said_small [] said = tt
+said_small (name text ∷ ts) said = (tt, said_small ts said.1)
+said_small (number n ∷ ts) said = (said.0, said_small ts said.1)
+said_small (fixed kind ∷ ts) said = (tt, said_small ts said.1)

@@ -1,6 +1,6 @@
 -- The code of an expression has no more instructions than tokens spell it, and divides by their numbers alone.
-use Rattle.std.proofs.Common.{◌≡◌, ℕ, ◌+◌, ◌≤◌, ◌<◌, true, false, List, [], ◌∷◌, ◌++◌, length, map, refl, sym, subst, ap, length-append, arith}
-use Rattle.std.specs.List.{All, AllByRecursion, fold}
+use Rattle.std.proofs.Common.{◌≡◌, ℕ, ◌+◌, ◌≤◌, ◌<◌, true, false, List, [], ◌∷◌, ◌++◌, length, map, sym, subst, length-append, arith}
+use Rattle.std.specs.List.{AllByRecursion, fold}
 use Rattle.std.proofs.lemmas.List.Elements.{All-from_recursion}
 use Rattle.ftl_tokens.specs.declared.scanner.kind.Kind.TheVariants as kind
 use Rattle.ftl_tokens.specs.scanner.Tokenized.{AreTokensOf, Tokenized, fixed, symbols_of}
@@ -21,6 +21,7 @@ use Rattle.ftl_grammar.specs.declared.syntax.rules.Class.{Class}
 use Rattle.ftl_grammar.specs.declared.syntax.rules.Grammar.{Grammar}
 use Rattle.ftl_grammar.specs.declared.syntax.rules.Interface.{Interface}
 use Rattle.ftl_grammar.specs.declared.syntax.rules.Rule.{Rule}
+use Rattle.ftl_grammar.specs.reading.Readable.{CanBeRead}
 use Rattle.ftl_grammar.specs.syntax.GrammarSpelling.{SpellsChildBody, SpellsClass, SpellsDeclarations, SpellsGrammar, SpellsOwnBody, SpellsRule, SpellsRules}
 use Rattle.ftl_grammar.specs.syntax.GrammarSpelling.{child_plain, child_rule, class_declared, class_of, first_then, fold as folds, grammar_of, interface_declared, more_rules, no_declarations, no_rules, own_plain, own_rule}
 use Rattle.ftl_grammar.specs.syntax.Spelling.{SpellsRead, SpellsPlain, SpellsAtom, SpellsUnary, SpellsTerm, SpellsFactors, SpellsFactor, SpellsSum, SpellsSignedTerms, SpellsSignedTerm, SpellsTest, SpellsConj, SpellsAndTests, SpellsCond, SpellsOrConjs, SpellsExpr}
@@ -36,7 +37,7 @@ use Rattle.ftl_visit.specs.declared.rule_code.instruction.Instruction.{Instructi
 use Rattle.ftl_visit.specs.declared.rule_code.instruction.Instruction.TheVariants as instruction
 use Rattle.ftl_visit.specs.compiled.Compilable.{AsksLasts, HasCode, HasLasts, IsCompilable, IsCompilableClass, IsCompilableRule}
 use Rattle.ftl_visit.specs.compiled.RuleCode.{is_accumulator}
-use Rattle.ftl_visit.proofs.compiled.SmallNumbers.{AreSmallNumbers, back_small, front_small, small_numbers}
+use Rattle.ftl_visit.proofs.compiled.SmallNumbers.{AreSmallNumbers, back_small, front_small, said_small, small_numbers}
 use Rattle.ftl_meaning.proofs.counts.TokenCounts.{few_tokens}
 
 abbrev code : Number → List Instruction
@@ -400,3 +401,7 @@ pub spelled_has_code : (scanned : Tokenized) (g : Grammar)
 spelled_has_code scanned g tokens short s =
     in_grammar (symbols_of scanned) g s (small_numbers scanned tokens)
     (omega (arith, short, few_tokens 2147483647 scanned tokens))
+
+-- and so has a grammar that can be read
+pub readable_has_code : (g : Grammar) → CanBeRead g → HasCode g
+readable_has_code g is = in_grammar is.tokens g is.spells (said_small is.tokens is.said) is.few

@@ -1,5 +1,5 @@
 -- The instructions of a formula's postfix code are the code of the formula.
-use Rattle.std.proofs.Common.{◌≡◌, ℕ, List, [], ◌∷◌, ◌++◌, map, refl, sym, ◌∙◌, ap, ap₂}
+use Rattle.std.proofs.Common.{◌≡◌, List, [], ◌∷◌, ◌++◌, map, refl, ◌∙◌, ap, ap₂}
 use Rattle.std.proofs.lemmas.List.{map-append}
 use Rattle.ftl_grammar.specs.declared.syntax.expression.Expr.{Expr}
 use Rattle.ftl_meaning.specs.formulas.Expressions.{formula_of}

@@ -14,6 +14,10 @@ use Rattle.ftl_visit.specs.declared.rule_code.instruction.Instruction.TheVariant
 use Rattle.ftl_visit.specs.rule_code.Code.{code_of, code_in, taken_by, taken_in, HasDivisors, AsksDivisors, IsDivisor}
 use Rattle.ftl_visit.specs.rule_code.Machine.{Computes, state, run, is_there, is_divisor}
 
+-- a number by which code can divide passes the test
+pub divides : (n : ℕ) → IsDivisor n → is_divisor n ≡ true
+divides n h = grind (arith, h)
+
 module _ {R : Type 0} (g : ℕ) (acc : Value) (a : R → Bool) (look : R → Option Value)
     (so_far : (r : R) → a r ≡ true → look r ≡ Some acc) where
   -- before other code and reads, code takes its reads and does this to the stacks
@@ -77,10 +81,6 @@ module _ {R : Type 0} (g : ℕ) (acc : Value) (a : R → Bool) (look : R → Opt
   two_truths c d i rs ss t u x p q =
       then_does (c ++ d) i (rs ++ ss) (λ vs. vs) (λ vs. vs) (λ ts. u ∷ t ∷ ts) (λ ts. x ∷ ts)
       (both_do c d rs ss (λ vs. vs) (λ vs. vs) (λ ts. t ∷ ts) (λ ts. u ∷ ts) p q)
-
-  -- a number by which code can divide passes the test
-  divides : (n : ℕ) → IsDivisor n → is_divisor n ≡ true
-  divides n h = grind (arith, h)
 
   -- a value that is read, or that of what stands for it
   there_or : (r : Option Value) (v : Value) → choice_of (is_there r) (unwrap_or r overflow) v ≡ unwrap_or r v

@@ -1,7 +1,7 @@
 -- What the names in an expression stand for, as its code reads them.
 use Rattle.std.proofs.Common.{◌≡◌, ℕ, true, false, Bool, cond, if◌then◌else◌, refl, sym, ◌∙◌, ap, ap₂, subst, arith, List, [], ◌∷◌, ◌++◌, map, flat_map, append_assoc, length, Contains, Option, Some, None}
 use Rattle.std.specs.Option.{is_some, option_and_then, option_map, option_to_list}
-use Rattle.std.proofs.lemmas.List.{length-append, length-map, map-append}
+use Rattle.std.proofs.lemmas.List.{length-map, map-append}
 use Rattle.std.proofs.lemmas.List.Elements.{Contains-append_left, Contains-append_right}
 use Rattle.std.proofs.lemmas.Grind.{flat_map-append}
 use Rattle.ftl_model.proofs.lists.Elements.{here_in, later_in}
@@ -20,7 +20,7 @@ use Rattle.ftl_meaning.specs.declared.formulas.read_name.ReadName.TheVariants as
 use Rattle.ftl_meaning.specs.faults.Allowed.{Leaf, Position, accumulator, last_leaf, leaf_by, leaf_of, may_read_acc, may_read_last, of_read, prev_form, single_leaf, this_form}
 use Rattle.ftl_meaning.specs.faults.Numbering.{child_at, child_attributes, class_attributes, find_attribute, find_child}
 use Rattle.ftl_meaning.specs.grammars.Meaning.{Sight, expression_reads, expression_value, leaf_value, look_up, read_of, value_by, value_seen}
-use Rattle.ftl_visit.specs.rule_code.Code.{code_of, taken_by, taken_in}
+use Rattle.ftl_visit.specs.rule_code.Code.{taken_by, taken_in}
 use Rattle.ftl_visit.specs.rule_code.Machine.{Computes}
 use Rattle.ftl_visit.proofs.rule_code.RunLemmas.{formula_computes}
 use Rattle.ftl_meaning.proofs.lawful.ValueOf.{value_same}

@@ -1,5 +1,5 @@
 -- The rules of all classes by number.
-use Rattle.std.proofs.Common.{◌≡◌, ℕ, suc, ◌<◌, refl, sym, ◌∙◌, ap, ap₂, subst, ⊎_elim, arith, List, [], ◌∷◌, ◌++◌, map, flat_map, length, get_or, Contains, Option, Some, None}
+use Rattle.std.proofs.Common.{◌≡◌, ℕ, suc, ◌<◌, refl, sym, ◌∙◌, ap, ap₂, subst, ⊎_elim, arith, List, [], ◌∷◌, ◌++◌, map, flat_map, length, get_or, Contains, Some}
 use Rattle.std.specs.List.{slice_get}
 use Rattle.std.specs.Option.{option_map}
 use Rattle.std.proofs.lemmas.List.{map-append}
@@ -13,7 +13,7 @@ use Rattle.ftl_grammar.specs.declared.syntax.rules.Rule.{Rule}
 use Rattle.ftl_meaning.specs.faults.Checked.{all_rules}
 use Rattle.ftl_meaning.specs.faults.Numbering.{class_at, numbered}
 use Rattle.ftl_meaning.specs.lawful.Kept.{StandsAt}
-use Rattle.ftl_meaning.proofs.lawful.Numbers.{Stands, in_numbered}
+use Rattle.ftl_meaning.proofs.lawful.Numbers.{in_numbered}
 use Rattle.ftl_visit.specs.compiled.RuleCode.{RuleCode, class_codes, rule_code, rule_codes}
 
 -- the code of a rule with its class

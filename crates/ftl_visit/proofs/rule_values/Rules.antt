@@ -1,7 +1,7 @@
 -- The parts of rules, by the forms of the rules.
 use mathlib.Core.Path.{fun_ext}
-use Rattle.std.proofs.Common.{◌≡◌, ℕ, zero, suc, ◌<◌, Bool, true, false, cond, if◌then◌else◌, refl, sym, ◌∙◌, ap, ap₂, subst, arith, List, [], ◌∷◌, map, length, Option, Some, None}
-use Rattle.std.specs.List.{All, slice_get}
+use Rattle.std.proofs.Common.{◌≡◌, ℕ, zero, suc, Bool, true, false, cond, if◌then◌else◌, refl, sym, ◌∙◌, ap, ap₂, subst, arith, List, [], ◌∷◌, map, length, Option, Some, None}
+use Rattle.std.specs.List.{All}
 use Rattle.std.specs.Option.{is_some, option_and_then, option_map}
 use Rattle.std.proofs.lemmas.List.Elements.{All-contains}
 use Rattle.std.proofs.lemmas.Option.{get_or_from_slice_get, same_Some, slice_get-map, slice_get_within}
@@ -20,9 +20,8 @@ use Rattle.ftl_meaning.specs.formulas.Expressions.{formula_of}
 use Rattle.ftl_meaning.specs.formulas.Formula.{reads_of}
 use Rattle.ftl_meaning.specs.faults.Allowed.{Position, for_kids, for_later, for_self, for_single, in_step, leaf_of}
 use Rattle.ftl_meaning.specs.faults.Checked.{CheckedGrammar, all_rules, info_by, rule_info, rule_info_at}
-use Rattle.ftl_meaning.specs.faults.FirstFault.{first_fault}
 use Rattle.ftl_meaning.specs.faults.Numbering.{child_at, class_at, find_child}
-use Rattle.ftl_meaning.specs.faults.RuleForms.{Form, Slot, expressions_of, first_form, fold_form, fold_over_list, form_of, kid_slot, one_form, own_slot, parts_of, slot_of}
+use Rattle.ftl_meaning.specs.faults.RuleForms.{Form, Slot, expressions_of, first_form, fold_form, fold_over_list, form_of, kid_slot, one_form, own_slot, slot_of}
 use Rattle.ftl_meaning.specs.grammars.GrammarOf.{name_of_rule}
 use Rattle.ftl_meaning.specs.grammars.Meaning.{Sight, form_parts, form_value, rule_of_form, sight}
 use Rattle.ftl_visit.specs.rule_code.Machine.{Computes}
@@ -34,7 +33,8 @@ use Rattle.ftl_visit.specs.compiled.Compilable.{HasCode, IsCompilable}
 use Rattle.ftl_visit.specs.compiled.RuleCode.{RuleCode, expression_code, first_then_code, fold_code, part_code, plain_code, read_count, rule_code}
 use Rattle.ftl_visit.specs.declared.compiled.part.Part.{Part}
 use Rattle.ftl_visit.specs.declared.compiled.part.Part.TheVariants as part
-use Rattle.ftl_visit.specs.rule_values.PartValues.{IsCodeOf, IsRuleOf, code_of_part, form_part_value, rule_form_at, has_part, meant_rule, name_of_info, part_of, part_value, part_value_by, value_by_parts, values_read}
+use Rattle.ftl_deps.specs.reads.Products.{name_of_info}
+use Rattle.ftl_visit.specs.rule_values.PartValues.{IsRuleOf, code_of_part, form_part_value, rule_form_at, has_part, meant_rule, part_of, part_value, part_value_by, value_by_parts, values_read}
 use Rattle.ftl_visit.proofs.rule_values.Names.{AreKnown, expression_computes, expression_takes}
 use Rattle.ftl_visit.proofs.rule_values.Numbered.{HasRule, code_stands_at, code_with, has_rule}
 

@@ -1,18 +1,14 @@
 -- How much reads are of.
-use Rattle.std.proofs.Common.{◌≡◌, inl, ℕ, zero, suc, ◌+◌, ◌*◌, ◌-◌, ◌<◌, ◌≤◌, ◌==◌, Bool, true, false, if◌then◌else◌, List, [], ◌∷◌, ◌++◌, flat_map, length, map, refl, sym, ◌∙◌, ap, ap₂, arith, length-append}
+use Rattle.std.proofs.Common.{◌≡◌, inl, ℕ, zero, suc, ◌+◌, ◌*◌, ◌-◌, ◌<◌, ◌≤◌, ◌==◌, true, false, if◌then◌else◌, List, [], ◌∷◌, ◌++◌, flat_map, length, refl, sym, ◌∙◌, ap, ap₂, arith, length-append}
 use Rattle.std.specs.List.{range_with_len}
-use Rattle.std.proofs.lemmas.List.{length-map}
-use Rattle.ftl_model.specs.layout.AttributeGrammar.{AttributeGrammar, Occurrence, Part, Parts, Read, each_read, first_part, first_then, fold_over, from_part, last_read, plain, plain_part, prev_read, reads_in, seen_by, self_read, single_read, then_part, this_read, with_part, occurrences}
-use Rattle.ftl_model.specs.layout.Path.{Has, Path, at, down, kids_at, node_at, number_of, size_at, top}
+use Rattle.ftl_model.specs.layout.AttributeGrammar.{AttributeGrammar, Read, each_read, last_read, prev_read, seen_by, self_read, single_read, this_read, occurrences}
+use Rattle.ftl_model.specs.layout.Path.{Has, Path, at, down, kids_at, node_at, size_at, top}
 use Rattle.ftl_model.specs.layout.Tree.{Forest, below_of, none, tree, count_in, size}
 use Rattle.ftl_model.specs.layout.TreeOf.{IsTreeOf}
 use Rattle.ftl_model.proofs.layout.Numbering.{has-node_at}
 use Rattle.ftl_model.proofs.layout.Standing.{has_parent}
 use Rattle.ftl_order.proofs.orders.Kids.{root_there}
 use Rattle.ftl_order.proofs.orders.Ranges.{above_range}
-use Rattle.ftl_deps.specs.parts.RuleParts.{parts_meant, read_meant}
-use Rattle.ftl_deps.specs.declared.parts.part_read.PartRead.{PartRead}
-use Rattle.ftl_visit.specs.step_reads.StepReads.{HasFewReads}
 
 -- at each later kid a read is of as many as at the first of these
 one_later : (kids : ℕ → ℕ) (n : ℕ) (r : Read)

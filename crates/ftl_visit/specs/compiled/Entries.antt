@@ -1,6 +1,5 @@
 -- The code of postfix entries, whose names are gone.
-use Rattle.std.specs.Prelude.{ℕ, ◌+◌, ◌-◌, ◌≤◌, if◌then◌else◌, List, take, drop, length, map}
-use Rattle.std.specs.List.{All}
+use Rattle.std.specs.Prelude.{if◌then◌else◌}
 use Rattle.ftl_meaning.specs.declared.postfix_code.entry.Entry.{Entry}
 use Rattle.ftl_meaning.specs.declared.postfix_code.entry.Entry.TheVariants as entry
 use Rattle.ftl_visit.specs.declared.rule_code.instruction.Instruction.{Instruction}

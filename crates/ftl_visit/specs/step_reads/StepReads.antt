@@ -1,5 +1,6 @@
 -- How much a rule reads at a node of a tree, by its parts.
 use Rattle.std.specs.Prelude.{ℕ, ◌<◌, ◌≤◌, length}
+use Rattle.ftl_model.specs.layout.Limits.{most_part_reads}
 use Rattle.ftl_model.specs.layout.AttributeGrammar.{Parts, Read, each_read, first_then, fold_over}
 use Rattle.ftl_model.specs.layout.AttributeGrammar.{last_read, plain, prev_read, read_occurrences, self_read}
 use Rattle.ftl_model.specs.layout.AttributeGrammar.{single_read, this_read}
@@ -37,9 +38,9 @@ AreOfChildren n (fold_over c start step) = (c < n) × EachMay (IsOfChildren n) s
 
 -- each part has at most so many reads
 abbrev pub HasFewReads : Parts → Type 0
-HasFewReads (plain reads) = length reads ≤ 256
-HasFewReads (first_then first later) = (length first ≤ 256) × (length later ≤ 256)
-HasFewReads (fold_over c start step) = (length start ≤ 256) × (length step ≤ 256)
+HasFewReads (plain reads) = length reads ≤ most_part_reads
+HasFewReads (first_then first later) = (length first ≤ most_part_reads) × (length later ≤ most_part_reads)
+HasFewReads (fold_over c start step) = (length start ≤ most_part_reads) × (length step ≤ most_part_reads)
 
 -- the parts may stand in a rule of a node's class
 pub record MayStandAt (t : CheckedTree) (node : ℕ) (parts : Parts) : Type 0 where

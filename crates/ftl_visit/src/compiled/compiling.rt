@@ -7,17 +7,21 @@ ghost use Rattle.ftl_visit.specs.compiled.RuleCode.{class_codes, rule_code, rule
 
 use crate::compiled::built::{Built, push_rule};
 use crate::compiled::programs::Programs;
+use crate::compiled::spelled::has_code;
 use ftl_checked::Checked;
 use ftl_grammar::{Class, Rule};
 use std::alloc::{AllocError, Global};
 
 /// Makes the code of each part of each rule.
 pub fn compile(alloc: Global, checked: &Checked) -> Result<Programs, AllocError>
-    requires code { HasCode checked.now.grammar }
     ensures width { IfOk result (λ p. p.width ≡ checked.now.width) }
     ensures rules { IfOk result (λ p. p.rules ≡ rule_codes checked.now.grammar) }
+    // what a plan asks for
+    ensures code { HasCode checked.now.grammar }
 {
-    let built = build(alloc, checked.grammar().classes.as_slice())?;
+    let grammar = checked.grammar();
+    has_code(grammar);
+    let built = build(alloc, grammar.classes.as_slice())?;
     Ok(Programs::new(checked.width(), built))
 }
 

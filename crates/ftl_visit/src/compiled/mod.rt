@@ -1,7 +1,7 @@
 //! The code of rules. Goes in: a grammar that `ftl_checked::grammars` accepted. Comes out:
 //! `Programs`, the code of `rule_code` for each part of each rule, in one row of instructions.
 //! `specs/compiled/RuleCode.antt` says which code that is, `specs/compiled/Compilable.antt` what
-//! the call asks for, and `has_code` gives it for a grammar that was read.
+//! is needed of a grammar, and `has_code` that each that was read has it.
 
 mod built;
 mod compiling;

@@ -2,7 +2,7 @@ use Rattle.std.proofs.Common.{◌≡◌, ◌-◌, List, length, ap, ◌∙◌, a
 use Rattle.ftl_tokens.specs.scanner.Tokenized.{Tokenized}
 use Rattle.ftl_tokens.specs.declared.scanner.kind.Token.{Token}
 use Rattle.ftl_tokens.specs.reading.Place.{place_of}
-use Rattle.ftl_document.proofs.syntax.CountLemmas.{tokens-le-place}
+use Rattle.ftl_tokens.proofs.reading.TokenCounts.{tokens-le-place}
 use Rattle.ftl_document.proofs.syntax.counts.token_count.Goals as goal
 
 pub returns : goal.returns

@@ -3,7 +3,8 @@ use Rattle.ftl_tokens.specs.scanner.Tokenized.{Tokenized, symbols_of}
 use Rattle.ftl_tokens.specs.reading.Reader.{Tokens, AreAtMost}
 use Rattle.ftl_tokens.specs.reading.Depth.{IsShallow}
 use Rattle.ftl_tokens.specs.reading.Place.{place_of}
-use Rattle.ftl_document.specs.syntax.Braces.{braces, most_nodes}
+use Rattle.ftl_model.specs.layout.Limits.{most_nodes}
+use Rattle.ftl_document.specs.syntax.Braces.{braces}
 use Rattle.ftl_document.specs.syntax.Read.{IsNotTooDeep, opened_in}
 use Rattle.ftl_document.specs.syntax.RowReading.{document}
 use Rattle.ftl_document.proofs.syntax.Documents.{is_document, is_no_document}

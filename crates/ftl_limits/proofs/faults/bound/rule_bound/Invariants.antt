@@ -1,10 +1,10 @@
 use Rattle.std.proofs.Common.{All, take}
 use Rattle.ftl_deps.specs.parts.RuleParts.{parts_meant}
-use Rattle.ftl_limits.specs.faults.ReadBound.{IsSmall, PartsWithin}
+use Rattle.ftl_limits.specs.faults.ReadBound.{IsWithinReadLimit, PartsWithin}
 use Rattle.ftl_limits.proofs.faults.bound.rule_bound.Given as goal
 
 abbrev pub invariant-loop-parts : goal.invariant-loop-parts
 invariant-loop-parts l = record {
   within : All (λ parts. PartsWithin l.bound (parts_meant parts)) (take l.parts-index l.rows);
-  small : IsSmall l.bound;
+  small : IsWithinReadLimit l.bound;
 }

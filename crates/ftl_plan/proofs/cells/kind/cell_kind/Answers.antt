@@ -12,7 +12,7 @@ pub returns-then-is_input : goal.returns-then-is_input
 returns-then-is_input c =
     let t = c.args.tree.now in
     let g = meant t.checked in
-    let s = stages_of c.args.accepted.now in
+    let s = stages_of c.args.accepted.now.schedule in
     let a = c.attr_of_cell-attr.result in
     let is : is_input (g.sort a) ≡ true =
     ap (λ (x : CheckedGrammar). is_input ((meant x).sort a)) (sym c.checked.ensures.grammar)
@@ -29,7 +29,7 @@ pub returns : goal.returns
 returns c =
     let t = c.args.tree.now in
     let g = meant t.checked in
-    let s = stages_of c.args.accepted.now in
+    let s = stages_of c.args.accepted.now.schedule in
     let a = c.attr_of_cell-attr.result in
     let is : is_input (g.sort a) ≡ false =
     ap (λ (x : CheckedGrammar). is_input ((meant x).sort a)) (sym c.checked.ensures.grammar)

@@ -1,6 +1,6 @@
-use Rattle.std.proofs.Common.{arith}
+use Rattle.std.proofs.Common.{arith, length}
 use Rattle.ftl_cursors.proofs.items.Starts.{few_items}
-use Rattle.ftl_items.specs.stage_items.Items.{passes_of}
+use Rattle.ftl_items.specs.stage_items.Items.{cut_of, passes_of}
 use Rattle.ftl_items.specs.solution.Solution.{solution}
 use Rattle.ftl_plan.proofs.laws.InRange.{in_range}
 use Rattle.ftl_plan.proofs.laws.Narrow.{narrow}
@@ -20,7 +20,9 @@ returns c = record {
             (c.solution_solves.ensures.ordered g s t can.law can.ordered can.is_tree);
         cells = (let cells = can.cells in omega (arith, cells));
         items =
-            (let most = few_items g t can.is_tree can.nodes grain (passes_of s stage) few in omega (arith, most));
+            (let most =
+            few_items g t can.is_tree can.nodes (cut_of (passes_of s stage) t grain) (length (passes_of s stage)) few in
+            omega (arith, most));
         reads = λ i step of_stage.
             narrow g s t can.no_fault
             (λ stage. c.steps.ensures.one_item g s t can.law can.ordered can.is_tree 1 stage) i step;

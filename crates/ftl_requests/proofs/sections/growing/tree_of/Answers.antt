@@ -13,7 +13,7 @@ use Rattle.ftl_requests.proofs.sections.growing.tree_of.Goals as goal
 pub returns-in-Ok-clause-outcome : goal.returns-in-Ok-clause-outcome
 returns-in-Ok-clause-outcome c =
     let k = c.args.checked.now in
-    let s = c.args.accepted.now in
+    let s = c.args.accepted.now.schedule in
     let y = c.in-Ok.scanned.tokenized in
     let after : ℕ → Tokenized → Stage Forest =
     λ greatest scanned. Then (spelled_tree k (wide greatest scanned)) (λ t. planned_tree k s t.tree) in

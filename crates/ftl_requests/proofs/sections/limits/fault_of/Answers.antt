@@ -11,6 +11,6 @@ returns c = record {
       subst
       (λ (k : CheckedGrammar).
       IfOk c.first_fault.result
-      (λ fault. fault ≡ first_fault (meant k) (stages_of c.args.accepted.now) c.args.tree.now.tree))
+      (λ fault. fault ≡ first_fault (meant k) (stages_of c.args.accepted.now.schedule) c.args.tree.now.tree))
       c.requires.grammar c.first_fault.ensures.fault;
 }

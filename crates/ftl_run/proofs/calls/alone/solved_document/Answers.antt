@@ -8,7 +8,7 @@ use Rattle.ftl_run.proofs.calls.alone.solved_document.Goals as goal
 pub returns-in-Ok : goal.returns-in-Ok
 returns-in-Ok c = record {
   outcome =
-      end_second (tree c.args.checked.now c.args.accepted.now (string_bytes c.args.document))
+      end_second (tree c.args.checked.now c.args.accepted.now.schedule (string_bytes c.args.document))
       (shown_by (text_shown c.args.shown.now) c.args.checked.now) c.in-Ok.tree.tree c.solved_tree.result
       c.in-Ok.ensures.outcome c.solved_tree.ensures.outcome;
 }

@@ -1,16 +1,9 @@
-use Rattle.ftl_run.proofs.calls.Passes.{few_passes}
 use Rattle.ftl_run.proofs.calls.solving.plan_of.Goals as goal
 
 pub new-requires-clause-may : goal.new-requires-clause-may
-new-requires-clause-may c =
-    let may = c.requires.may in
-    record {
-      ordered = may.ordered;
-      stages = may.small.stages;
-      passes = few_passes c.args.accepted.now may.small;
-      code = may.code;
-      rules = c.requires.rules;
-      width = c.requires.width;
-      some_nodes = c.in_range-grain.ensures.some;
-      most_nodes = c.in_range-grain.ensures.most;
-    }
+new-requires-clause-may c = record {
+  rules = c.requires.rules;
+  width = c.requires.width;
+  some_nodes = c.in_range-grain.ensures.some;
+  most_nodes = c.in_range-grain.ensures.most;
+}

@@ -1,4 +1,4 @@
-use Rattle.std.proofs.Common.{◌≡◌, ℕ, ◌+◌, ◌-◌, ◌<◌, length, take}
+use Rattle.std.proofs.Common.{◌≡◌, ◌+◌, ◌-◌, ◌<◌, length, take}
 use Rattle.std.specs.List.{sum_by}
 use Rattle.ftl_visit.proofs.rule_values.places.step_place.Given as goal
 

@@ -1,5 +1,6 @@
 use Rattle.std.proofs.Common.{◌≡◌, ◌<◌, List, get_or, length, map, ap, ◌∙◌, sym, subst}
 use Rattle.ftl_cursors.specs.declared.item_cursor.item.ItemTables.{ItemTables}
+use Rattle.ftl_cursors.specs.items.RowsCut.{cut_in}
 use Rattle.ftl_cursors.specs.items.RowsFit.{AreStarts}
 use Rattle.ftl_cursors.specs.items.StageItems.{tree_in}
 use Rattle.ftl_plan.specs.plans.Planned.{PlanMeaning}
@@ -15,7 +16,7 @@ pub bounds-stages-stage : goal.bounds-stages-stage
 bounds-stages-stage c =
     let p = c.self.inside in
     let n = c.args.stage in
-    let known : n < length (stages_of p.accepted.now) =
+    let known : n < length (stages_of p.accepted.now.schedule) =
     subst (λ (q : PlanMeaning). n < length (stages_of q.schedule)) (sym c.self.view_is) c.requires.stage in
     subst (λ (xs : List StageRows). n < length xs) (sym c.as_slice-stages.ensures.value)
     (rows_known p c.self.invariant n known)
@@ -24,7 +25,7 @@ pub bounds-as_slice-stage : goal.bounds-as_slice-stage
 bounds-as_slice-stage c =
     let p = c.self.inside in
     let n = c.args.stage in
-    let known : n < length (stages_of p.accepted.now) =
+    let known : n < length (stages_of p.accepted.now.schedule) =
     subst (λ (q : PlanMeaning). n < length (stages_of q.schedule)) (sym c.self.view_is) c.requires.stage in
     subst (λ (xs : List Stage). n < length xs)
     (sym (c.as_slice.ensures ∙ ap (λ (x : Schedule). x.stages) c.schedule.ensures.schedule))
@@ -34,12 +35,12 @@ pub new-requires : goal.new-requires
 new-requires c =
     let p = c.self.inside in
     let n = c.args.stage in
-    let known : n < length (stages_of p.accepted.now) =
+    let known : n < length (stages_of p.accepted.now.schedule) =
     subst (λ (q : PlanMeaning). n < length (stages_of q.schedule)) (sym c.self.view_is) c.requires.stage in
     let s = c.index-as_slice-stage.result in
     let r = c.index-stages-stage.result in
     let passes = c.as_slice-passes.result.now in
-    let passes_eq : passes ≡ (get_or p.accepted.now.stages n s).passes =
+    let passes_eq : passes ≡ (get_or p.accepted.now.schedule.stages n s).passes =
     c.as_slice-passes.ensures
     ∙ ap (λ (xs : List Stage). (get_or xs n s).passes)
     (c.as_slice.ensures ∙ ap (λ (x : Schedule). x.stages) c.schedule.ensures.schedule) in
@@ -47,7 +48,8 @@ new-requires c =
     c.index-stages-stage.is ∙ ap (λ (xs : List StageRows). get_or xs n r) c.as_slice-stages.ensures.value in
     record {
       starts =
-          subst (AreStarts (map pass_of passes) (tree_in p.items) p.items.grain) (sym c.as_slice-2.ensures.value)
+          subst
+          (AreStarts (length (map pass_of passes)) (cut_in p.items (map pass_of passes)) (tree_in p.items)) (sym c.as_slice-2.ensures.value)
           (rows_are p c.self.invariant n known s r passes passes_eq row).starts;
     }
 
@@ -55,11 +57,11 @@ pub returns : goal.returns
 returns c =
     let p = c.self.inside in
     let n = c.args.stage in
-    let known : n < length (stages_of p.accepted.now) =
+    let known : n < length (stages_of p.accepted.now.schedule) =
     subst (λ (q : PlanMeaning). n < length (stages_of q.schedule)) (sym c.self.view_is) c.requires.stage in
     let s = c.index-as_slice-stage.result in
     let r = c.index-stages-stage.result in
-    let passes_eq : c.as_slice-passes.result.now ≡ (get_or p.accepted.now.stages n s).passes =
+    let passes_eq : c.as_slice-passes.result.now ≡ (get_or p.accepted.now.schedule.stages n s).passes =
     c.as_slice-passes.ensures
     ∙ ap (λ (xs : List Stage). (get_or xs n s).passes)
     (c.as_slice.ensures ∙ ap (λ (x : Schedule). x.stages) c.schedule.ensures.schedule) in

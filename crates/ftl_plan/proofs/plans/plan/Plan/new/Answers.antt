@@ -1,17 +1,21 @@
 use Rattle.std.proofs.Common.{◌≡◌, ◌≤◌, ap, ◌∙◌, sym, subst, rules, Option, Some, None, refl}
 use Rattle.ftl_meaning.specs.faults.Checked.{CheckedGrammar}
 use Rattle.ftl_deps.specs.reads.Meant.{meant}
+use Rattle.ftl_schedule.specs.check.AcceptedSchedule.{IsAccepted}
 use Rattle.ftl_schedule.specs.stages.Stages.{stages_of}
 use Rattle.ftl_limits.specs.faults.PlanFaults.{first_fault}
 use Rattle.ftl_limits.specs.declared.faults.fault.PlanFault.{PlanFault}
+use Rattle.ftl_schedule.specs.declared.stages.types.Schedule.{Schedule}
 use Rattle.ftl_plan.specs.plans.Planned.{PlanMeaning, unless_fault}
+use Rattle.ftl_plan.specs.plans.PlannedStages.{HaveFewPasses}
+use Rattle.ftl_plan.proofs.plans.FewPasses.{few_passes}
 use Rattle.ftl_plan.proofs.plans.plan.Plan.new.Goals as goal
 
 pub returns-in-Some : goal.returns-in-Some
 returns-in-Some c =
     let p : PlanMeaning = record {
       checked = c.args.checked.now;
-      schedule = c.args.accepted.now;
+      schedule = c.args.accepted.now.schedule;
       programs = c.args.programs.now;
       tree = c.args.tree.now.tree;
       grain = c.args.grain;
@@ -23,6 +27,14 @@ returns-in-Some c =
     ∙ ap (λ (x : CheckedGrammar). first_fault (meant x) (stages_of p.schedule) p.tree) c.requires.tree) in
     record { exact = λ other. ap (λ (o : Option PlanFault). unless_fault o p) found }
 
+-- the stages of an accepted schedule have few passes
+pub rows_of_stages-requires : goal.rows_of_stages-requires
+rows_of_stages-requires c = record {
+  few =
+      subst HaveFewPasses (sym (c.as_slice.ensures ∙ ap (λ (x : Schedule). x.stages) c.schedule.ensures.schedule))
+      (few_passes c.args.accepted.now.schedule c.schedule.ensures.limits);
+}
+
 -- none of the faults is none
 none_is : (o : Option PlanFault) → ((fault : PlanFault) → o ≡ Some fault → ⊥) → o ≡ None
 none_is None h = refl
@@ -33,13 +45,17 @@ pub invariant_of-result : goal.invariant_of-result
 invariant_of-result c =
     let may = c.requires.may in
     let made = c.in_ok-items.ensures.made in
+    let accepted : IsAccepted c.args.checked.now c.args.accepted.now.schedule =
+    subst (λ (x : CheckedGrammar). IsAccepted x c.args.accepted.now.schedule) c.requires.accepted
+    (record {
+      computed = c.schedule.ensures.computed;
+      limits = c.schedule.ensures.limits;
+      ordered = c.schedule.ensures.ordered;
+    }) in
     record {
       tree = c.requires.tree;
+      accepted = accepted;
       may = record {
-        ordered = may.ordered;
-        stages = may.stages;
-        passes = may.passes;
-        code = may.code;
         rules = may.rules;
         width = may.width;
         some_nodes = subst (λ n. 1 ≤ n) (sym made.grain_is) may.some_nodes;
@@ -53,7 +69,7 @@ invariant_of-result c =
       neighbours = c.in_ok-neighbours.ensures.parts;
       rows = search rules;
       no_fault =
-          ap (λ (x : CheckedGrammar). first_fault (meant x) (stages_of c.args.accepted.now) c.args.tree.now.tree)
+          ap (λ (x : CheckedGrammar). first_fault (meant x) (stages_of c.args.accepted.now.schedule) c.args.tree.now.tree)
           (sym c.requires.tree)
           ∙ sym
           (sym (none_is c.in_ok-fault.field-0 c.in_default.not-Some)
@@ -64,7 +80,7 @@ pub returns : goal.returns
 returns c =
     let p : PlanMeaning = record {
       checked = c.args.checked.now;
-      schedule = c.args.accepted.now;
+      schedule = c.args.accepted.now.schedule;
       programs = c.args.programs.now;
       tree = c.args.tree.now.tree;
       grain = c.args.grain;
