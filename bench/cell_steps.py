@@ -3,10 +3,10 @@
 shipped grammars. Prints the milliseconds of processor time of all stages that have several items: alone, by workers that
 take turns on one processor, which is what the steps themselves and the items cost, and by workers on all processors,
 where they also wait for what others write; and the ratios of these. The time of workers is that of all together, with
-the start and end of their threads. What is done beside them by one thread is told beside it: with ranges the items of
-the first and the last phase; with shared cells opening and closing these and dealing the items.
-So of a stage by ranges the time of workers is only what they do of it. A stage of one item is computed on plain words
-by either. Of several runs the quickest counts, stage by stage.
+the start and end of their threads. What is done beside them is told beside it: opening and closing shared cells and
+dealing the items; with lots the items of the first and the last phase too, and the way of the words back from the
+lots. So of a stage by lots the time of workers is only what they do of it. A stage of one item is computed on plain
+words by either. Of several runs the quickest counts, stage by stage.
 
 usage: bench/cell_steps.py [WORKERS [PROGRAM]]     2 workers, and the proved program, which ./prove builds, if left out
 """
@@ -22,10 +22,9 @@ from stops import addresses, timed_calls
 PIECES = 200_000
 RUNS = 7
 FUNCTIONS = {
-    "words": r"^ftl_plan::plans::plan::Plan::first_words",
+    "words": r"^ftl_plan::plans::words::first_words",
     "alone": r"^ftl_steal::alone::run_alone",
     "workers": r"^std::thread::fork::chunks_from",
-    "ranges": r"^ftl_ranges::ranges::fill_ranges",
     "show": PARTS["show"],
 }
 
@@ -33,7 +32,7 @@ FUNCTIONS = {
 def stages_of(program, page, workers, functions, processors=None, more=()):
     """For each stage how it was run and how long, and the time beside them from the first words to the last."""
     calls = timed_calls(program, ["run", "--workers", str(workers), *more], page, functions, processors)
-    stages = [(name, ended - began) for name, began, ended in calls if name in ("alone", "workers", "ranges")]
+    stages = [(name, ended - began) for name, began, ended in calls if name in ("alone", "workers")]
     first = next(ended for name, _, ended in calls if name == "words")
     last = next(began for name, began, _ in calls if name == "show")
     return stages, last - first - sum(time for _, time in stages)

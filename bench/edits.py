@@ -19,7 +19,7 @@ import sys
 import tempfile
 
 TOP = os.path.dirname(os.path.dirname(os.path.abspath(__file__)))
-MOST = 100  # how many edits may stand in the gate
+MOST = 120  # how many edits may stand in the gate
 
 
 def crates():

@@ -78,11 +78,19 @@ inorder { K.a K.b }
 C { kids = [ L { } L { } L { } ] }
 """
 
+EDITED = TWO_WORDS + b"""%edits
+2.iw = 50;
+2.ih = 11;
+"""
+
 # The words of the layout program, and its input.
 CASES = [
     (["run"], TWO_WORDS),
     (["run", "--workers", "2", "--grain", "1"], TWO_WORDS),
     (["run"], CHAIN),
+    (["demand"], TWO_WORDS),
+    (["edit"], EDITED),
+    (["edit", "--workers", "2", "--grain", "1"], EDITED),
     (["sample", "2"], b""),
 ]
 

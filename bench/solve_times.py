@@ -20,7 +20,7 @@ from stops import Stopped, addresses, timed_calls
 PIECES = 200_000
 WORKERS = [1, 2, 4]
 AT_ONCE = 4
-FUNCTIONS = {"words": r"^ftl_plan::plans::plan::Plan::first_words", "show": PARTS["show"]}
+FUNCTIONS = {"words": r"^ftl_plan::plans::words::first_words", "show": PARTS["show"]}
 
 
 def solving(program, page, workers, functions):

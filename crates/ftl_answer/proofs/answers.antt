@@ -3,5 +3,8 @@ pub mod DocumentBytes
 pub mod StagesBack
 pub mod Rules
 pub mod TreesRead
+pub mod Circles
+pub mod TreesEdited
+pub mod Touched
 pub mod Commands
 pub mod WorkedRefusals

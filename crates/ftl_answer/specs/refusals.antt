@@ -2,7 +2,9 @@ pub mod Names
 pub mod PageLines
 pub mod TextLines
 pub mod GrammarLines
+pub mod CircularLines
 pub mod ScheduleLines
 pub mod DocumentLines
 pub mod PlanLines
+pub mod EditLines
 pub mod WorkedRules

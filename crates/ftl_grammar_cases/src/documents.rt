@@ -4,8 +4,9 @@
 //! document, `built` for a document whose lines say how often a piece of it comes, of which only
 //! the counts are printed, `set` for inputs that are set to other numbers, which lines behind `==`
 //! name by node, field and number; of their tree only the text is printed; `bare` for the tree with
-//! the same rows and every input 0; and `instances` for a line for each node with its first
-//! instance, and each child's kids with theirs.
+//! the same rows and every input 0; `instances` for a line for each node with its first instance,
+//! and each child's kids with theirs; and `relaid` for which instances edits touch, and how often
+//! code is run for them (`src/documents/relaid.rt`).
 
 ghost use Rattle.std.specs.Prelude.{◌≡◌};
 ghost use Rattle.ftl_base.specs.Widths.{greatest_of_width};
@@ -14,6 +15,8 @@ ghost use Rattle.ftl_tokens.specs.scanner.Tokenized.{IsGreatestNumber};
 mod edits;
 mod instances;
 mod nodes;
+mod relaid;
+mod values;
 pub(crate) mod way;
 
 use edits::set_inputs;
@@ -26,6 +29,7 @@ use ftl_tokens::{TokenFault, WideScanned, document_tokens};
 use ftl_tree::Tree;
 use instances::write_instances;
 use nodes::{write_bare, write_counts, write_nodes, write_text};
+use relaid::write_relaid;
 use std::alloc::{AllocError, Global};
 use std::fmt::Write;
 use way::{Way, built};
@@ -42,7 +46,7 @@ pub(crate) fn write_document(
         Way::Plain | Way::Wide | Way::Bare | Way::Instances => {
             write_one(alloc, out, way, checked, document, "")
         }
-        Way::Set => {
+        Way::Set | Way::Relaid => {
             let (document, edits) = document.split_once("==").unwrap_or((document, ""));
             write_one(alloc, out, way, checked, document, edits)
         }
@@ -100,7 +104,7 @@ fn write_of_tokens(
     requires width { scanned.now.greatest ≡ greatest_of_width checked.now.width }
 {
     match read_document(alloc, checked, scanned) {
-        Ok(mut tree) => write_tree(alloc, out, way, &mut tree, scanned, edits),
+        Ok(mut tree) => write_tree(alloc, out, way, checked, &mut tree, scanned, edits),
         Err(DocFault::OutOfMemory) => Err(AllocError),
         Err(fault) => write_fault_line(alloc, out, checked, &fault),
     }
@@ -110,15 +114,19 @@ fn write_tree(
     alloc: Global,
     out: &mut String,
     way: Way,
+    checked: &Checked,
     tree: &mut Tree,
     scanned: &WideScanned,
     edits: &str,
-) -> Result<(), AllocError> {
+) -> Result<(), AllocError>
+    requires grammar { tree.old.checked ≡ checked.now }
+{
     match way {
         Way::Plain | Way::Wide | Way::Cut => write_nodes(alloc, out, tree, scanned),
         Way::Built => write_counts(out, tree),
         Way::Bare => write_bare(alloc, out, tree),
         Way::Instances => write_instances(out, tree),
+        Way::Relaid => write_relaid(alloc, out, checked, tree, edits),
         Way::Set => {
             if !set_inputs(tree, edits) {
                 out.push_str("no input\n")?;

@@ -1,6 +1,7 @@
-//! Gates that see which workers begin items of a page. A top call that solves every page on the
-//! calling thread never has two workers meet here; one that never shares cells has none meet at
-//! nodes alone; and where each worker keeps to the items that it was dealt, none is stolen.
+//! Gates that see which workers begin items of a page, and lots of one. A top call that solves every
+//! page on the calling thread never has two workers meet here; one that never shares cells has none
+//! meet at nodes alone; where each worker keeps to the items or lots that it was dealt, none is
+//! stolen; and where workers claim items one by one on a large page, there are more calls.
 
 use crate::{READ_BYTES, WRITE_BYTES, printed};
 use ftl_edge::{Gate, MemSink, MemSource};
@@ -113,18 +114,20 @@ impl Watching for MeetingOfRoots {
     }
 }
 
-/// Waits at the first item of even number until a worker begins one that was dealt to the other, as
-/// by two workers every second of these is.
+/// Waits at the first item until a worker begins one that was dealt to the other, as by two workers
+/// every second of those is that wait for none. These have the numbers that divide by the stride.
 #[derive(Drop)]
 struct Stealing {
+    stride: u32,
     held: AtomicU64,
     stolen: AtomicU64,
     seen: AtomicU64,
 }
 
 impl Stealing {
-    fn new() -> Stealing {
+    fn new(stride: u32) -> Stealing {
         Stealing {
+            stride,
             held: AtomicU64::new(0),
             stolen: AtomicU64::new(0),
             seen: AtomicU64::new(0),
@@ -141,10 +144,11 @@ impl Watching for Stealing {
 
 impl Gate for Stealing {
     fn before(&self, worker: u32, item: u32) {
-        if item % 2 != 0 {
+        let stride = self.stride.max(1);
+        if item % stride != 0 {
             return;
         }
-        if item / 2 % 2 != worker {
+        if item / stride % 2 != worker {
             self.stolen.store(1, Ordering::SeqCst);
         }
         if self.held.swap(1, Ordering::SeqCst) == 1 {
@@ -198,28 +202,42 @@ fn answer_to<R: Threads + Wait + Sync, G: Gate>(
     printed(alloc, &sink, status)
 }
 
-/// Prints whether two workers began an item each, on cells that they shared, on ranges of their own
-/// and at nodes alone, whether one began an item of the other, and how often one worker called the
-/// gate, with what was written.
+/// Prints whether two workers began an item each, on a small page, on a large one, which they fill
+/// by lots, and at nodes alone, whether one began an item or a lot of the other, and how often one
+/// worker called the gate, and two on the large page, with what was written.
 pub(crate) fn print_gates<R: Threads + Wait + Sync + Print + AllocGlobal>(
     rt: &R,
 ) -> io::Result<()> {
     let two = ["run", "--workers", "2", "--grain", "1"];
-    let ranges = ["sample", "20000", "--grammar", "table", "--workers", "2"];
+    let lots = ["sample", "20000", "--grammar", "table", "--workers", "2"];
     let one = ["run", "--workers", "1", "--grain", "1"];
     let (each, root) = (
         "two workers began an item each",
         "two workers began a root each",
     );
-    let other = "a worker began a root of the other";
+    let (other, taken) = (
+        "a worker began a root of the other",
+        "a worker began a lot of the other",
+    );
     print_seen(rt, each, &two, PAGE, &Meeting::new())?;
-    print_seen(rt, each, &ranges, PAGE, &Meeting::new())?;
+    print_seen(rt, each, &lots, PAGE, &Meeting::new())?;
     print_seen(rt, root, &two, PASSES, &MeetingOfRoots::new())?;
-    print_seen(rt, other, &two, PASSES, &Stealing::new())?;
+    print_seen(rt, other, &two, PASSES, &Stealing::new(2))?;
+    print_seen(rt, taken, &lots, PAGE, &Stealing::new(1))?;
+    print_calls(rt, "one worker called the gate", &one)?;
+    print_calls(rt, "two workers called the gate for lots", &lots)
+}
+
+/// Prints how often the gate was called while a command was obeyed, and what was written.
+fn print_calls<R: Threads + Wait + Sync + Print + AllocGlobal>(
+    rt: &R,
+    what: &str,
+    command: &[&str],
+) -> io::Result<()> {
     let counting = Counting::new();
-    let answer = answer_to(rt, rt.alloc(), &one, PAGE, &counting)?;
+    let answer = answer_to(rt, rt.alloc(), command, PAGE, &counting)?;
     let calls = counting.calls.load(Ordering::SeqCst);
-    println!(rt; "one worker called the gate: {calls}")?;
+    println!(rt; "{what}: {calls}")?;
     print!(rt; "{answer}")
 }
 

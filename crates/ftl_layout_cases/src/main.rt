@@ -6,12 +6,15 @@
 //! line of a page that begins with `*N` and a space stands there N times. Printed is the line, the
 //! text that was written, and the status, of a page of chains and with `brief` the number of lines
 //! with the first and the last two; and where one thread alone answers otherwise than the workers
-//! that the words ask for, what it answers. Before the cases stands what gates saw of the workers.
+//! that the words ask for, what it answers. Before the cases stands what gates saw of the workers,
+//! and which numbers of workers and grains agree with one thread.
 #![tactic(auto)]
 
+mod agreeing;
 mod case;
 mod gates;
 
+use agreeing::print_agreeing;
 use case::Case;
 use ftl_edge::{MemSink, MemSource, OpenGate, StdSource, read_all};
 use ftl_run::{Status, layout_alone, layout_top};
@@ -60,7 +63,7 @@ fn sink_of(alloc: Global, case: &Case) -> Result<MemSink, AllocError> {
 }
 
 /// What is written in a case, and its status.
-fn answer<R: Threads + Wait + Sync>(
+pub(crate) fn answer<R: Threads + Wait + Sync>(
     rt: &R,
     alloc: Global,
     case: &Case,
@@ -72,7 +75,7 @@ fn answer<R: Threads + Wait + Sync>(
 }
 
 /// The same by one thread alone.
-fn answer_alone(alloc: Global, case: &Case) -> Result<String, AllocError> {
+pub(crate) fn answer_alone(alloc: Global, case: &Case) -> Result<String, AllocError> {
     let (mut source, mut sink) = (source_of(alloc, case)?, sink_of(alloc, case)?);
     let status = layout_alone(alloc, case.words.as_slice(), &mut source, &mut sink);
     printed(alloc, &sink, status)
@@ -100,6 +103,7 @@ fn main(rt: HostRuntime) -> io::Result<()> {
         return Ok(());
     };
     print_gates(&rt)?;
+    print_agreeing(&rt)?;
     for case in text.as_str().split("=== ").skip(1) {
         let (heading, page) = case.split_once('\n').unwrap_or((case, ""));
         let case = Case::new(rt.alloc(), heading, page)?;

@@ -2,13 +2,19 @@
 //! words and a source. Comes out: the answer, where nothing is left to be solved, or the page that
 //! is to be solved; and the answer in a sink.
 //!
-//! - `sections`: `read_page`, `grammar_of`, `schedule_of`, `tree_of`: from the bytes of a page to
-//!   its tree
+//! - `sections`: `read_page`, `grammar_of`, `schedule_of`, `tree_of`, `edits_of`: from the bytes of
+//!   a page to its tree and its edits; `noncircular_of`, `grown_tree_of`: where no schedule plays a
+//!   part
 //! - `requests`: `requested`, `written`
 #![tactic(auto)]
 
 pub mod requests;
 pub mod sections;
 
-pub use requests::{Problem, Request, Shown, Undone, ended, requested, written};
-pub use sections::{Decided, Status, Undecided, grammar_of, read_page, schedule_of, tree_of};
+pub use requests::{
+    EditedPage, Evaluation, Problem, Request, Shown, Undone, ended, requested, written,
+};
+pub use sections::{
+    Decided, Status, Undecided, edits_of, grammar_of, grown_tree_of, noncircular_of, read_page,
+    schedule_of, tree_of,
+};

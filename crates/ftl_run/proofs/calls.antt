@@ -2,3 +2,5 @@ mod Words
 mod Solved
 mod Leading
 mod Matching
+mod Mapped
+mod Changed

@@ -1,2 +1,4 @@
 pub mod ShownTables
 pub mod SolvedPages
+pub mod ChangedTrees
+pub mod DemandedPages

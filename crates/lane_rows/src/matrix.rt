@@ -45,6 +45,7 @@ impl BitMatrix {
     /// How many rows there are.
     pub fn size(&self) -> u32
         ensures rows { result ≡ length self.now }
+        ensures few { length self.now ≤ 2048 }
     {
         self.rows.len() as u32
     }

@@ -1,4 +1,4 @@
-ghost use Rattle.std.specs.Prelude.{◌≡◌, ◌<◌, ◌↔◌, IsNone, IfSome};
+ghost use Rattle.std.specs.Prelude.{◌≡◌, ◌<◌, ◌≤◌, ◌↔◌, IsNone, IfSome};
 ghost use Rattle.std.specs.FinSet as set;
 ghost use Rattle.lane_rows.specs.Least.{IsLeastOf};
 ghost use Rattle.lane_rows.specs.Words.{row_of};
@@ -82,6 +82,7 @@ impl BitRow {
     /// How many numbers are in the set.
     pub fn count(&self) -> u32
         ensures numbers { result ≡ set.len self.now }
+        ensures few { result ≤ 2048 }
     {
         words::count(self.lanes())
     }

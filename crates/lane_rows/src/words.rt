@@ -1,5 +1,5 @@
 // Rows as lanes: what is done to all of them at once.
-ghost use Rattle.std.specs.Prelude.{◌≡◌, ◌↔◌, IsNone, IfSome};
+ghost use Rattle.std.specs.Prelude.{◌≡◌, ◌≤◌, ◌↔◌, IsNone, IfSome};
 ghost use Rattle.std.specs.FinSet as set;
 ghost use Rattle.lane_rows.specs.Least.{IsLeastOf};
 ghost use Rattle.lane_rows.specs.Words.{row_of};
@@ -22,6 +22,7 @@ pub(crate) fn minus(words: u64x32, other: u64x32) -> u64x32
 
 pub(crate) fn count(words: u64x32) -> u32
     ensures numbers { result ≡ set.len (row_of words) }
+    ensures few { result ≤ 2048 }
 {
     words.count_ones().reduce_sum() as u32
 }

@@ -35,8 +35,10 @@ use Rattle.ftl_answer.specs.refusals.DocumentLines.{document_line}
 use Rattle.ftl_answer.specs.refusals.PlanLines.{plan_line}
 use Rattle.ftl_answer.specs.refusals.TextLines.{token_line}
 use Rattle.ftl_answer.specs.answers.Answer.{refused}
-use Rattle.ftl_answer.specs.answers.Stages.{Stage, Then, hands_on}
-use Rattle.ftl_answer.specs.answers.Texts.{planned_tree, scanned_as, spelled_tree, status_of, tokenized, tokens, tree, wide}
+use Rattle.ftl_answer.specs.answers.Stages.{Is, Stage, Then, hands_on}
+use Rattle.ftl_answer.specs.answers.Texts.{grown_tree, planned_tree, scanned_as, spelled_tree, status_of, tokenized}
+use Rattle.ftl_answer.specs.answers.Texts.{tokens}
+use Rattle.ftl_answer.specs.answers.Texts.{tree, wide}
 use Rattle.ftl_answer.proofs.answers.Ones.{HasOne, end_is_no_value, handed, is_one, same_value, then_handed, then_one, result_one}
 
 -- ---- tokens
@@ -64,7 +66,7 @@ pub record AreFew (s : WideTokenized) : Type 0 where
   pub few : length s.tokenized.tokens ≤ 4294967295
   pub numbers : AreAtMost s.greatest (symbols_of s.tokenized)
 
-few_of : (greatest : ℕ) (text : List ℕ) (scanned : Tokenized) → AreScanned greatest text scanned
+pub few_of : (greatest : ℕ) (text : List ℕ) (scanned : Tokenized) → AreScanned greatest text scanned
     → length text ≤ 67108864 → IsUtf8 text → AreFew (wide greatest scanned)
 few_of greatest text scanned are short utf8 =
     let of_text : AreTokensOf greatest text 0 scanned.tokens = are_tokens_of greatest text scanned.tokens utf8 are.found in
@@ -79,7 +81,7 @@ few_of greatest text scanned are short utf8 =
 
 -- ---- the tree
 
-module _ (c : CheckedGrammar) (s : Schedule) (text : List ℕ) (short : length text ≤ 67108864) (utf8 : IsUtf8 text) where
+module _ (c : CheckedGrammar) (text : List ℕ) (short : length text ≤ 67108864) (utf8 : IsUtf8 text) where
   few_in : (scanned : Tokenized) → tokens section.Document (greatest_of_width c.width) text (hands_on scanned)
       → AreFew (wide (greatest_of_width c.width) scanned)
   few_in scanned is =
@@ -88,17 +90,20 @@ module _ (c : CheckedGrammar) (s : Schedule) (text : List ℕ) (short : length t
 
   abbrev after : Tokenized → Stage Forest
   after scanned =
-      Then (spelled_tree c (wide (greatest_of_width c.width) scanned)) (λ (t : CheckedTree). planned_tree c s t.tree)
+      Then (spelled_tree c (wide (greatest_of_width c.width) scanned)) (λ (t : CheckedTree). Is (hands_on t.tree))
 
-  pub tree_one : HasOne (tree c s text)
-  tree_one =
+  pub grown_one : HasOne (grown_tree c text)
+  grown_one =
       then_one (tokens section.Document (greatest_of_width c.width) text) after (is_one _)
       (λ scanned is.
       let w = wide (greatest_of_width c.width) scanned in
-      then_one (spelled_tree c w) (λ (t : CheckedTree). planned_tree c s t.tree)
+      then_one (spelled_tree c w) (λ (t : CheckedTree). Is (hands_on t.tree))
       (result_one document.OutOfMemory (λ fault. refused 7 (document_line c.grammar fault)) (ReadsTree c w)
       (some_tree c w (few_in scanned is).few (few_in scanned is).numbers) (any_two_trees c w))
       (λ t read. is_one _))
+
+  pub tree_one : (s : Schedule) → HasOne (tree c s text)
+  tree_one s = then_one (grown_tree c text) (planned_tree c s) grown_one (λ t grown. is_one _)
 
   -- a document without a fault has no node with one
   nodes_fine : (o more : Option DocFault) → first_there (o ∷ more ∷ []) ≡ None → o ≡ None
@@ -115,10 +120,16 @@ module _ (c : CheckedGrammar) (s : Schedule) (text : List ℕ) (short : length t
       (nodes_fine (first_node_fault c.grammar read.node) (too_many_instances (instance_count_of c.grammar read.node)) read.none)
       (subst (λ n. IsWithin n read.node) width (fields_within w.greatest read.node.fields within)))
 
-  pub tree_fits : IsFaultless c.grammar → (t : Forest) → tree c s text (hands_on t) → IsTreeOf (meant c) t
-  tree_fits law t all =
+  pub grown_fits : IsFaultless c.grammar → (t : Forest) → grown_tree c text (hands_on t) → IsTreeOf (meant c) t
+  grown_fits law t all =
       let a = then_handed (tokens section.Document (greatest_of_width c.width) text) after t all in
       let w = wide (greatest_of_width c.width) a.0 in
-      let b = then_handed (spelled_tree c w) (λ (x : CheckedTree). planned_tree c s x.tree) t a.2 in
-      let d = handed (λ fault. refused 7 (plan_line fault)) (first_fault (meant c) (stages_of s) b.0.tree) b.0.tree t b.2 in
-      subst (IsTreeOf (meant c)) (sym d.1) (read_is_tree law w refl (few_in a.0 a.1) b.0 b.1)
+      let b = then_handed (spelled_tree c w) (λ (x : CheckedTree). Is (hands_on x.tree)) t a.2 in
+      subst (IsTreeOf (meant c)) (sym (same_value t b.0.tree b.2)) (read_is_tree law w refl (few_in a.0 a.1) b.0 b.1)
+
+  pub tree_fits : (s : Schedule) → IsFaultless c.grammar → (t : Forest) → tree c s text (hands_on t)
+      → IsTreeOf (meant c) t
+  tree_fits s law t all =
+      let a = then_handed (grown_tree c text) (planned_tree c s) t all in
+      let d = handed (λ fault. refused 7 (plan_line fault)) (first_fault (meant c) (stages_of s) a.0) a.0 t a.2 in
+      subst (IsTreeOf (meant c)) (sym d.1) (grown_fits law a.0 a.1)

@@ -1,5 +1,6 @@
 -- No other words and no other pages are refused by the lines that refuse words and pages that are too long.
-use Rattle.std.proofs.Common.{◌≡◌, ⊎_elim, inl, inr, refl, sym, ap, subst, ℕ, ◌<◌, Bool, true, false, List, length, Option, Some, None, Result, Ok, Err, arith, ◌∙◌}
+use Rattle.std.proofs.Common.{◌≡◌, ⊎_elim, inl, inr, refl, sym, ap, ℕ, ◌<◌, Bool, true, false, List, length, Option}
+use Rattle.std.proofs.Common.{Some, None, Result, Ok, Err, arith, ◌∙◌}
 use Rattle.std.specs.Prelude.{nat_lt, slice_index_or}
 use Rattle.std.proofs.lemmas.Bool.{ltb-true}
 use Rattle.ftl_boxes.specs.SamplePage.{sample_page_of}
@@ -15,16 +16,16 @@ use Rattle.ftl_page.specs.declared.sections.page.Need.{Need}
 use Rattle.ftl_page.specs.declared.sections.page.Page.{Page}
 use Rattle.ftl_page.proofs.commands.Samples.{sample_is_made}
 use Rattle.ftl_answer.specs.answers.Answer.{Answer, answer, refused}
-use Rattle.ftl_answer.specs.answers.Answers.{IsAnswer, command_in, obeyed}
-use Rattle.ftl_answer.specs.answers.Stages.{Is, Then, ends, hands_on}
+use Rattle.ftl_answer.specs.answers.Answers.{command_in, obeyed}
+use Rattle.ftl_answer.specs.answers.Stages.{Is, Then, ends}
 use Rattle.ftl_answer.specs.answers.Texts.{page}
 use Rattle.ftl_answer.specs.headline.Headline.{may_read, reads_page}
 use Rattle.ftl_answer.specs.headline.Promises.{IsSectionStatus, NoneButLongPagesAreRefused, NoneButWordsAreRefused}
 use Rattle.ftl_answer.specs.refusals.PageLines.{page_line, too_long_line, words_line}
-use Rattle.ftl_answer.proofs.answers.Ones.{end_is_no_value, same_end, same_value}
+use Rattle.ftl_answer.proofs.answers.Ones.{end_is_no_value, same_value}
 use Rattle.ftl_answer.proofs.headline.EachAnswer.{Unmade, of_command, of_reading}
-use Rattle.ftl_answer.proofs.headline.Refusals.{ended, result_ends, same}
-use Rattle.ftl_answer.proofs.headline.Shown.{command_from, page_outcome}
+use Rattle.ftl_answer.proofs.headline.Refusals.{ended, result_ends}
+use Rattle.ftl_answer.proofs.headline.Shown.{page_outcome}
 
 -- ---- words
 
@@ -36,7 +37,8 @@ section_not : (s : ℕ) → IsSectionStatus s → (text : List ℕ) → NotOfWor
 section_not s is text =
     λ e.
     ⊎_elim (λ (p : s ≡ 5). omega (arith, e, p))
-    (⊎_elim (λ (p : s ≡ 6). omega (arith, e, p)) (λ (p : s ≡ 7). omega (arith, e, p))) is
+    (⊎_elim (λ (p : s ≡ 6). omega (arith, e, p))
+    (⊎_elim (λ (p : s ≡ 7). omega (arith, e, p)) (λ (p : s ≡ 10). omega (arith, e, p)))) is
 
 page_not : (text : List ℕ) → NotOfWords (refused 4 text)
 page_not text = λ e. omega (arith, e)
@@ -56,6 +58,8 @@ unmade : (words : List (List ℕ)) (c : Command) → command_of words ≡ Some c
 unmade words (command.Run how) is = tt
 unmade words command.Check is = tt
 unmade words command.Schedule is = tt
+unmade words command.Demand is = tt
+unmade words (command.Edit how) is = tt
 unmade words (command.Sample pieces name how) is =
     is_made (sample_page_of name pieces) (sample_is_made words pieces name how is)
 
@@ -96,7 +100,8 @@ module _ (bytes : List ℕ) where
       λ e.
       let four = ap (λ (a : Answer). a.status) e in
       absurd (⊎_elim (λ (p : s ≡ 5). omega (arith, four, p))
-      (⊎_elim (λ (p : s ≡ 6). omega (arith, four, p)) (λ (p : s ≡ 7). omega (arith, four, p))) is)
+      (⊎_elim (λ (p : s ≡ 6). omega (arith, four, p))
+      (⊎_elim (λ (p : s ≡ 7). omega (arith, four, p)) (λ (p : s ≡ 10). omega (arith, four, p)))) is)
 
   shown_long : (text : List ℕ) → LongAlone (answer 0 text)
   shown_long text = λ e. let four = ap (λ (a : Answer). a.status) e in omega (arith, four)

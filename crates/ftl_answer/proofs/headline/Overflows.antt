@@ -1,12 +1,12 @@
 -- A table shows Overflow exactly where its summary counts some.
-use Rattle.std.proofs.Common.{◌≡◌, refl, sym, ap, ℕ, Bool, true, false, List, [], ◌∷◌, ◌++◌, map, length, ◌∙◌, arith}
+use Rattle.std.proofs.Common.{◌≡◌, refl, ap, Bool, true, false, List, [], ◌∷◌, map, length, ◌∙◌, arith}
 use Rattle.std.specs.Prelude.{◌||◌, filter, flat_map, if◌then◌else◌, nat_lt}
 use Rattle.std.specs.List.{list_any}
 use Rattle.std.proofs.lemmas.Bool.{lt-ltb}
 use Rattle.std.proofs.lemmas.List.Folds.{list_any-append}
 use Rattle.ftl_deps.specs.reads.Meant.{meant}
 use Rattle.ftl_meaning.specs.grammars.GrammarOf.{names_of}
-use Rattle.ftl_model.specs.layout.Boxes.{Names, is_overflow, shows_overflow}
+use Rattle.ftl_model.specs.layout.Boxes.{Names, is_overflow}
 use Rattle.ftl_model.specs.layout.Path.{Path, class_at, preorder}
 use Rattle.ftl_model.specs.layout.Solves.{Instance, instance_of}
 use Rattle.ftl_model.specs.layout.Table.{value_in}

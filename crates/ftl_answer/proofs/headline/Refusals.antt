@@ -7,10 +7,18 @@ use Rattle.ftl_page.specs.declared.commands.command.Command.{Command}
 use Rattle.ftl_deps.specs.reads.Meant.{meant}
 use Rattle.ftl_document.specs.reading.ReadTree.{ReadsTree}
 use Rattle.ftl_document.specs.declared.faults.fault.DocFault.TheVariants as document
+use Rattle.ftl_edits.specs.declared.meaning.types.Edit.{Edit}
+use Rattle.ftl_edits.specs.declared.meaning.fault.EditFault.TheVariants as changes
+use Rattle.ftl_edits.specs.reading.Read.{ReadsEdits}
 use Rattle.ftl_grammar.specs.reading.Read.{ReadsGrammar}
 use Rattle.ftl_grammar.specs.declared.reading.fault.SyntaxFault.TheVariants as syntax
 use Rattle.ftl_meaning.specs.faults.Checked.{CheckedGrammar}
 use Rattle.ftl_meaning.specs.faults.FirstFault as grammars
+use Rattle.ftl_model.specs.layout.Tree.{Forest}
+use Rattle.ftl_model.specs.layout.Values.{Value}
+use Rattle.ftl_noncircular.specs.grammars.Noncircular.{IsNoncircular}
+use Rattle.ftl_noncircular.specs.search.Circles.{TellsCircles}
+use Rattle.ftl_noncircular.specs.declared.search.fault.CircularFault.TheVariants as circles
 use Rattle.ftl_page.specs.sections.Page.{page_of}
 use Rattle.ftl_page.specs.declared.sections.fault.PageFault.{PageFault}
 use Rattle.ftl_page.specs.declared.sections.fault.Section.{Section}
@@ -18,7 +26,9 @@ use Rattle.ftl_page.specs.declared.sections.fault.Section.TheVariants as section
 use Rattle.ftl_page.specs.declared.sections.page.Need.{Need}
 use Rattle.ftl_page.specs.declared.sections.page.Page.{Page}
 use Rattle.ftl_limits.specs.faults.PlanFaults as plans
+use Rattle.ftl_answer.specs.refusals.CircularLines.{circular_line}
 use Rattle.ftl_answer.specs.refusals.DocumentLines.{document_line}
+use Rattle.ftl_answer.specs.refusals.EditLines.{edit_line}
 use Rattle.ftl_answer.specs.refusals.GrammarLines.{grammar_line}
 use Rattle.ftl_answer.specs.refusals.PageLines.{page_line, too_long_line, words_line}
 use Rattle.ftl_answer.specs.refusals.PlanLines.{plan_line}
@@ -36,11 +46,14 @@ use Rattle.ftl_tokens.specs.declared.scanner.fault.TokenFault.{TokenFault}
 use Rattle.ftl_tokens.specs.declared.scanner.kind.Token.{Token}
 use Rattle.ftl_tree.specs.trees.CheckedTree.{CheckedTree}
 use Rattle.ftl_answer.specs.answers.Answer.{Answer, refused}
-use Rattle.ftl_answer.specs.answers.Answers.{command_in, with_rules}
-use Rattle.ftl_answer.specs.answers.Stages.{Outcome, Stage, Then, ResultStage, ends, hands_on, result_outcome, unless}
-use Rattle.ftl_answer.specs.answers.Texts.{checked_grammar, grammar, lawful_grammar, ordered_schedule}
+use Rattle.ftl_answer.specs.answers.Answers.{command_in, document_text, edited_by, edited_page, edited_tree_shown}
+use Rattle.ftl_answer.specs.answers.Answers.{edits_text, shown_by, solved_anew, solved_by_demand, unscheduled_page}
+use Rattle.ftl_answer.specs.answers.Answers.{with_rules}
+use Rattle.ftl_answer.specs.answers.Stages.{Is, Outcome, Stage, Then, ResultStage, ends, hands_on, result_outcome, unless}
+use Rattle.ftl_answer.specs.answers.Texts.{checked_grammar, edits, grammar, grown_tree, lawful_grammar, noncircular_grammar}
+use Rattle.ftl_answer.specs.answers.Texts.{ordered_schedule}
 use Rattle.ftl_answer.specs.answers.Texts.{page, planned_tree, scanned_as, schedule, spelled_grammar, spelled_schedule}
-use Rattle.ftl_answer.specs.answers.Texts.{spelled_tree, status_of, tokenized, tokens, tree, wide}
+use Rattle.ftl_answer.specs.answers.Texts.{spelled_edits, spelled_tree, status_of, tokenized, tokens, tree, wide}
 use Rattle.ftl_model.specs.layout.Limits.{most_page_bytes}
 use Rattle.ftl_answer.specs.headline.Promises.{IsRefusalStatus, IsSectionStatus}
 use Rattle.ftl_answer.proofs.answers.Ones.{end_is_no_value, same_end}
@@ -62,7 +75,10 @@ of_schedule_status : IsSectionStatus 6
 of_schedule_status = inr (inl refl)
 
 of_document_status : IsSectionStatus 7
-of_document_status = inr (inr refl)
+of_document_status = inr (inr (inl refl))
+
+of_edits_status : IsSectionStatus 10
+of_edits_status = inr (inr (inr refl))
 
 -- a section's refusal is one
 pub of_section : (s : ℕ) → IsSectionStatus s → IsRefusalStatus s
@@ -154,20 +170,40 @@ module _ (Fine : Answer → Type 0) (line : (s : ℕ) → IsSectionStatus s → 
       (λ fault. line 6 of_schedule_status (verify_line c.grammar fault)) (orders.first_fault (meant c) (stages_of s)) s))
       a p
 
-  pub of_tree : (c : CheckedGrammar) (s : Schedule) (text : List ℕ) (a : Answer) → tree c s text (ends a) → Fine a
-  of_tree c s text =
+  pub of_noncircular : (c : CheckedGrammar) (a : Answer) → noncircular_grammar c (ends a) → Fine a
+  of_noncircular c =
+      call_ends Fine circles.OutOfMemory (λ fault. refused 5 (circular_line c.grammar fault)) (TellsCircles c)
+      (λ fault. line 5 of_grammar_status (circular_line c.grammar fault))
+
+  pub of_grown : (c : CheckedGrammar) (text : List ℕ) (a : Answer) → grown_tree c text (ends a) → Fine a
+  of_grown c text =
       two Fine (tokens section.Document (greatest_of_width c.width) text)
       (λ scanned. Then (spelled_tree c (wide (greatest_of_width c.width) scanned))
-      (λ (t : CheckedTree). planned_tree c s t.tree))
+      (λ (t : CheckedTree). Is (hands_on t.tree)))
       (of_tokens section.Document of_document_status (greatest_of_width c.width) text)
       (λ scanned read.
-      two Fine (spelled_tree c (wide (greatest_of_width c.width) scanned)) (λ (t : CheckedTree). planned_tree c s t.tree)
+      two Fine (spelled_tree c (wide (greatest_of_width c.width) scanned)) (λ (t : CheckedTree). Is (hands_on t.tree))
       (call_ends Fine document.OutOfMemory (λ fault. refused 7 (document_line c.grammar fault))
       (ReadsTree c (wide (greatest_of_width c.width) scanned))
       (λ fault. line 7 of_document_status (document_line c.grammar fault)))
-      (λ (t : CheckedTree) spelled.
+      (λ (t : CheckedTree) spelled a is. absurd (end_is_no_value a t.tree is)))
+
+  pub of_tree : (c : CheckedGrammar) (s : Schedule) (text : List ℕ) (a : Answer) → tree c s text (ends a) → Fine a
+  of_tree c s text =
+      two Fine (grown_tree c text) (planned_tree c s) (of_grown c text)
+      (λ (t : Forest) grown.
       fault_ends Fine (λ fault. refused 7 (plan_line fault)) (λ fault. line 7 of_document_status (plan_line fault))
-      (plans.first_fault (meant c) (stages_of s) t.tree) t.tree))
+      (plans.first_fault (meant c) (stages_of s) t) t)
+
+  pub of_edits : (c : CheckedGrammar) (t : Forest) (text : List ℕ) (a : Answer) → edits c t text (ends a) → Fine a
+  of_edits c t text =
+      two Fine (tokens section.Edits (greatest_of_width c.width) text)
+      (λ scanned. spelled_edits c t (wide (greatest_of_width c.width) scanned))
+      (of_tokens section.Edits of_edits_status (greatest_of_width c.width) text)
+      (λ scanned read.
+      call_ends Fine changes.OutOfMemory (λ fault. refused 10 (edit_line fault))
+      (ReadsEdits (record { checked = c; tree = t }) (wide (greatest_of_width c.width) scanned))
+      (λ fault. line 10 of_edits_status (edit_line fault)))
 
   -- a grammar and a schedule, and what goes on with them
   pub of_rules : (need : Need) (bytes : List ℕ) (next : CheckedGrammar → Schedule → Page → Stage ⊥)
@@ -186,3 +222,42 @@ module _ (Fine : Answer → Type 0) (line : (s : ℕ) → IsSectionStatus s → 
       (λ c lawful.
       two Fine (schedule c p.schedule) (λ s. next c s p) (of_schedule c p.schedule)
       (λ s ordered. each c s p read lawful ordered)))
+
+  -- a noncircular grammar and a tree, and what goes on with them
+  pub of_demand : (bytes : List ℕ) (text : CheckedGrammar → Forest → List Value → List ℕ)
+      → ((c : CheckedGrammar) (p : Page) (t : Forest) → page unscheduled_page bytes (hands_on p)
+      → grammar p.width p.grammar (hands_on c) → IsNoncircular (meant c) → grown_tree c (document_text p) (hands_on t)
+      → (a : Answer) → shown_by text c t (ends a) → Fine a)
+      → ((a : Answer) → page unscheduled_page bytes (ends a) → Fine a)
+      → (a : Answer) → solved_by_demand bytes text (ends a) → Fine a
+  of_demand bytes text each paged =
+      two Fine (page unscheduled_page bytes)
+      (λ p. Then (grammar p.width p.grammar)
+      (λ c. Then (noncircular_grammar c) (λ _. Then (grown_tree c (document_text p)) (shown_by text c))))
+      paged
+      (λ p read.
+      two Fine (grammar p.width p.grammar)
+      (λ c. Then (noncircular_grammar c) (λ _. Then (grown_tree c (document_text p)) (shown_by text c)))
+      (of_grammar p.width p.grammar)
+      (λ c lawful.
+      two Fine (noncircular_grammar c) (λ _. Then (grown_tree c (document_text p)) (shown_by text c))
+      (of_noncircular c)
+      (λ k told.
+      two Fine (grown_tree c (document_text p)) (shown_by text c) (of_grown c (document_text p))
+      (λ t grown. each c p t read lawful told.1 grown))))
+
+  -- a tree with edits of it, and what goes on with them
+  pub of_anew : (bytes : List ℕ)
+      → ((c : CheckedGrammar) (s : Schedule) (p : Page) (t : Forest) (es : List Edit) → page edited_page bytes (hands_on p)
+      → grammar p.width p.grammar (hands_on c) → schedule c p.schedule (hands_on s)
+      → tree c s (document_text p) (hands_on t) → edits c t (edits_text p) (hands_on es)
+      → (a : Answer) → edited_by c t es (ends a) → Fine a)
+      → ((a : Answer) → page edited_page bytes (ends a) → Fine a)
+      → (a : Answer) → solved_anew bytes (ends a) → Fine a
+  of_anew bytes each =
+      of_rules edited_page bytes (λ c s p. Then (tree c s (document_text p)) (edited_tree_shown p c))
+      (λ c s p read lawful ordered.
+      two Fine (tree c s (document_text p)) (edited_tree_shown p c) (of_tree c s (document_text p))
+      (λ t spelled.
+      two Fine (edits c t (edits_text p)) (edited_by c t) (of_edits c t (edits_text p))
+      (λ es changed. each c s p t es read lawful ordered spelled changed)))

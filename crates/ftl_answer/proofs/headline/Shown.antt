@@ -1,7 +1,7 @@
 -- What is accepted is shown, and every other answer is one line that refuses.
 use Rattle.std.proofs.Common.{◌≡◌, ◌⊎◌, inl, inr, refl, sym, ap, ℕ, ◌<◌, Bool, true, false, List, length, Option, Some, None, Result, Ok, Err}
 use Rattle.std.proofs.lemmas.Bool.{lt-ltb}
-use Rattle.std.specs.Prelude.{codes, if◌then◌else◌, nat_lt}
+use Rattle.std.specs.Prelude.{codes, if◌then◌else◌}
 use Rattle.ftl_boxes.specs.SamplePage.{sample_page_of}
 use Rattle.ftl_boxes.specs.declared.fault.SampleFault.{SampleFault}
 use Rattle.ftl_page.specs.commands.Commands.{command_of}
@@ -22,17 +22,20 @@ use Rattle.ftl_model.specs.layout.Values.{Value}
 use Rattle.ftl_schedule.specs.printing.WrittenOf.{written_of}
 use Rattle.ftl_schedule.specs.text.ScheduleText.{schedule_text}
 use Rattle.ftl_answer.specs.answers.Answer.{Answer, answer, refused}
-use Rattle.ftl_answer.specs.answers.Answers.{IsAnswer, boxes_of, command_in, document_text, obeyed, rules_alone}
-use Rattle.ftl_answer.specs.answers.Answers.{shown_answer, shown_by, solved, summary_of, whole_page}
+use Rattle.ftl_answer.specs.answers.Answers.{IsAnswer, boxes_of, command_in, document_text, edited_answer, edited_page}
+use Rattle.ftl_answer.specs.answers.Answers.{obeyed, rules_alone, shown_answer, shown_by, solved, solved_anew}
+use Rattle.ftl_answer.specs.answers.Answers.{solved_by_demand, summary_of}
+use Rattle.ftl_answer.specs.answers.Answers.{unscheduled_page, whole_page}
 use Rattle.ftl_answer.specs.answers.Stages.{Is, Outcome, Then, ends, hands_on, result_outcome}
 use Rattle.ftl_answer.specs.answers.Texts.{page, tree}
-use Rattle.ftl_answer.specs.headline.Headline.{may_read, reads_page}
-use Rattle.ftl_answer.specs.headline.Promises.{IsRefusal, IsRefusalStatus, IsShown, IsTableShown, LongPagesAreRefused}
-use Rattle.ftl_answer.specs.headline.Promises.{OverflowHasAStatus, WordsAreRefused}
+use Rattle.ftl_answer.specs.headline.Headline.{IsAcceptedForDemand, may_read, reads_page}
+use Rattle.ftl_answer.specs.headline.Promises.{IsChangeShown, IsRefusal, IsRefusalStatus, IsShown, IsTableShown, IsTableShownWhere}
+use Rattle.ftl_answer.specs.headline.Promises.{LongPagesAreRefused, OverflowHasAStatus, WordsAreRefused}
 use Rattle.ftl_answer.specs.refusals.PageLines.{page_line, too_long_line, words_line}
 use Rattle.ftl_answer.proofs.answers.Ones.{end_is_no_value, same_end, same_value}
 use Rattle.ftl_model.specs.layout.Limits.{most_page_bytes}
-use Rattle.ftl_answer.proofs.headline.Refusals.{ended, of_page, of_page_status, of_rules, of_section, of_tree, of_words}
+use Rattle.ftl_answer.proofs.headline.Refusals.{ended, of_anew, of_demand, of_page, of_page_status, of_rules, of_section, of_tree}
+use Rattle.ftl_answer.proofs.headline.Refusals.{of_words}
 use Rattle.ftl_answer.proofs.headline.Refusals.{of_words_status, result_ends, two}
 
 -- ---- what is accepted is shown
@@ -46,6 +49,36 @@ table_is_shown text bytes a (c, t, values, x, solves, is) =
       inr (c, x.lawful, inr (x.order, x.ordered, inr (t, x.spelled, (values, solves, ap (ended ⊥) is)))),
     )
 
+demanded_is_shown : (text : CheckedGrammar → Forest → List Value → List ℕ) (bytes : List ℕ) (a : Answer)
+    → IsTableShownWhere IsAcceptedForDemand text bytes a → solved_by_demand bytes text (ends a)
+demanded_is_shown text bytes a (c, t, values, x, solves, is) =
+    inr (
+      x.sections,
+      x.read,
+      inr (
+        c,
+        x.lawful,
+        inr (c, (refl, x.noncircular), inr (t, x.spelled, (values, solves, ap (ended ⊥) is))),
+      ),
+    )
+
+change_is_shown : (bytes : List ℕ) (a : Answer) → IsChangeShown bytes a → solved_anew bytes (ends a)
+change_is_shown bytes a (c, t, es, values, touched, x, anew, is) =
+    let y = x.accepted in
+    inr (
+      y.sections,
+      y.read,
+      inr (
+        c,
+        y.lawful,
+        inr (
+          y.order,
+          y.ordered,
+          inr (t, y.spelled, inr (es, x.read, (values, touched, anew, ap (ended ⊥) is))),
+        ),
+      ),
+    )
+
 abbrev sample_outcome : Result (List ℕ) SampleFault → Outcome (List ℕ)
 sample_outcome r = result_outcome (λ fault. refused 2 words_line) r
 
@@ -55,6 +88,8 @@ is_obeyed command.Check bytes a (c, s, x, is) =
     inr (x.sections, x.read, inr (c, x.lawful, inr (s, x.ordered, ap (ended ⊥) is)))
 is_obeyed command.Schedule bytes a (c, s, x, is) =
     inr (x.sections, x.read, inr (c, x.lawful, inr (s, x.ordered, ap (ended ⊥) is)))
+is_obeyed command.Demand bytes a x = demanded_is_shown boxes_of bytes a x
+is_obeyed (command.Edit how) bytes a x = change_is_shown bytes a x
 is_obeyed (command.Sample pieces name how) bytes a (text, is, x) =
     inr (text, sym (ap sample_outcome is), table_is_shown (summary_of name) text a x)
 
@@ -102,6 +137,54 @@ module _ (text : CheckedGrammar → Forest → List Value → List ℕ) (bytes :
       )))
       (of_page Either (either_line 4 of_page_status) whole_page bytes)
 
+module _ (text : CheckedGrammar → Forest → List Value → List ℕ) (bytes : List ℕ) where
+  abbrev EitherByDemand : Answer → Type 0
+  EitherByDemand a = IsTableShownWhere IsAcceptedForDemand text bytes a ⊎ IsRefusal a
+
+  demand_line : (s : ℕ) → IsRefusalStatus s → (line : List ℕ) → EitherByDemand (refused s line)
+  demand_line s is line = inr (refusal s is line)
+
+  demanded_or_refused : (a : Answer) → solved_by_demand bytes text (ends a) → EitherByDemand a
+  demanded_or_refused =
+      of_demand EitherByDemand (λ s is. demand_line s (of_section s is)) bytes text
+      (λ c p t read lawful none grown a shows.
+      inl (
+        c,
+        t,
+        shows.0,
+        record { sections = p; read = read; lawful = lawful; noncircular = none; spelled = grown },
+        shows.1,
+        same_end a (shown_answer text c t shows.0) shows.2,
+      ))
+      (of_page EitherByDemand (demand_line 4 of_page_status) unscheduled_page bytes)
+
+module _ (bytes : List ℕ) where
+  abbrev EitherAnew : Answer → Type 0
+  EitherAnew a = IsChangeShown bytes a ⊎ IsRefusal a
+
+  anew_line : (s : ℕ) → IsRefusalStatus s → (line : List ℕ) → EitherAnew (refused s line)
+  anew_line s is line = inr (refusal s is line)
+
+  change_or_refused : (a : Answer) → solved_anew bytes (ends a) → EitherAnew a
+  change_or_refused =
+      of_anew EitherAnew (λ s is. anew_line s (of_section s is)) bytes
+      (λ c s p t es read lawful ordered spelled changed a shows.
+      inl (
+        c,
+        t,
+        es,
+        shows.0,
+        shows.1,
+        record {
+          accepted =
+              record { sections = p; read = read; lawful = lawful; order = s; ordered = ordered; spelled = spelled };
+          read = changed;
+        },
+        shows.2,
+        same_end a (edited_answer c t es shows.0 shows.1) shows.3,
+      ))
+      (of_page EitherAnew (anew_line 4 of_page_status) edited_page bytes)
+
 module _ (bytes : List ℕ) (how : Command) where
   abbrev Shown : Answer → Type 0
   Shown a = IsShown how bytes a ⊎ IsRefusal a
@@ -139,6 +222,8 @@ shown_or_refused command.Schedule bytes =
       same_end a (answer 0 (schedule_text (written_of c.grammar s))) is,
     ))
     (of_page (Shown bytes command.Schedule) (shown_line bytes command.Schedule 4 of_page_status) rules_alone bytes)
+shown_or_refused command.Demand bytes = demanded_or_refused boxes_of bytes
+shown_or_refused (command.Edit how) bytes = change_or_refused bytes
 shown_or_refused (command.Sample pieces name how) bytes =
     let Fine = Shown bytes (command.Sample pieces name how) in
     let line = shown_line bytes (command.Sample pieces name how) in
@@ -183,6 +268,8 @@ long_command : (c : Command) (bytes : List ℕ) → reads_page c ≡ true → mo
 long_command (command.Run how) bytes reads long = inl (refused 4 too_long_line, long_page whole_page bytes long, refl)
 long_command command.Check bytes reads long = inl (refused 4 too_long_line, long_page rules_alone bytes long, refl)
 long_command command.Schedule bytes reads long = inl (refused 4 too_long_line, long_page rules_alone bytes long, refl)
+long_command command.Demand bytes reads long = inl (refused 4 too_long_line, long_page unscheduled_page bytes long, refl)
+long_command (command.Edit how) bytes reads long = inl (refused 4 too_long_line, long_page edited_page bytes long, refl)
 long_command (command.Sample pieces name how) bytes reads long = absurd cc
 
 long_by : (o : Option Command) (bytes : List ℕ) → may_read o ≡ true → most_page_bytes < length bytes

@@ -31,19 +31,22 @@ refusal s is = record {
       ⊎_elim (λ (p : s ≡ 2). omega (arith, e, p))
       (⊎_elim (λ (p : s ≡ 4). omega (arith, e, p))
       (⊎_elim (λ (p : s ≡ 5). omega (arith, e, p))
-      (⊎_elim (λ (p : s ≡ 6). omega (arith, e, p)) (λ (p : s ≡ 7). omega (arith, e, p))))) is;
+      (⊎_elim (λ (p : s ≡ 6). omega (arith, e, p))
+      (⊎_elim (λ (p : s ≡ 7). omega (arith, e, p)) (λ (p : s ≡ 10). omega (arith, e, p)))))) is;
   no_read_fault =
       λ e.
       ⊎_elim (λ (p : s ≡ 2). omega (arith, e, p))
       (⊎_elim (λ (p : s ≡ 4). omega (arith, e, p))
       (⊎_elim (λ (p : s ≡ 5). omega (arith, e, p))
-      (⊎_elim (λ (p : s ≡ 6). omega (arith, e, p)) (λ (p : s ≡ 7). omega (arith, e, p))))) is;
+      (⊎_elim (λ (p : s ≡ 6). omega (arith, e, p))
+      (⊎_elim (λ (p : s ≡ 7). omega (arith, e, p)) (λ (p : s ≡ 10). omega (arith, e, p)))))) is;
   no_want =
       λ e.
       ⊎_elim (λ (p : s ≡ 2). omega (arith, e, p))
       (⊎_elim (λ (p : s ≡ 4). omega (arith, e, p))
       (⊎_elim (λ (p : s ≡ 5). omega (arith, e, p))
-      (⊎_elim (λ (p : s ≡ 6). omega (arith, e, p)) (λ (p : s ≡ 7). omega (arith, e, p))))) is;
+      (⊎_elim (λ (p : s ≡ 6). omega (arith, e, p))
+      (⊎_elim (λ (p : s ≡ 7). omega (arith, e, p)) (λ (p : s ≡ 10). omega (arith, e, p)))))) is;
 }
 
 line : (s : ℕ) → IsRefusalStatus s → (text : List ℕ) → Fine (refused s text)
@@ -67,6 +70,8 @@ unmade : (c : Command) → Unmade Fine section_line shown overflowed c
 unmade (command.Run how) = tt
 unmade command.Check = tt
 unmade command.Schedule = tt
+unmade command.Demand = tt
+unmade (command.Edit how) = tt
 unmade (command.Sample pieces name how) = λ fault is. line 2 of_words_status words_line
 
 pub answer_status : (words : List (List ℕ)) (bytes : List ℕ) (a : Answer) → IsAnswer words bytes a → IsAnswered a.status

@@ -1,35 +1,45 @@
 -- What a call writes and reads, from the four promises of it.
-use Rattle.std.proofs.Common.{◌≡◌, ◌≢◌, ◌⊎◌, inl, inr, ⊎_elim, refl, sym, ◌∙◌, ap, subst, ℕ, ◌<◌, ◌≤◌, Bool, true, false}
-use Rattle.std.proofs.Common.{List, [], length, ◌++◌, Option, Some, None}
+use Rattle.std.proofs.Common.{◌≡◌, ◌≢◌, ◌⊎◌, inl, inr, ⊎_elim, refl, sym, ◌∙◌, ap, subst, ℕ, ◌<◌, Bool, true, false}
+use Rattle.std.proofs.Common.{List, [], length, Option, Some, None}
 use Rattle.std.specs.Prelude.{IfSome}
 use Rattle.ftl_deps.specs.reads.Meant.{meant}
-use Rattle.ftl_edge.specs.Counts.{RoseBy, raised}
+use Rattle.ftl_edge.specs.Counts.{RoseBy}
 use Rattle.ftl_edge.specs.MemSink.{SinkState}
 use Rattle.ftl_edge.specs.MemSource.{SourceState}
 use Rattle.ftl_meaning.specs.faults.Checked.{CheckedGrammar}
 use Rattle.ftl_model.specs.layout.Table.{SolvesList}
 use Rattle.ftl_model.specs.layout.Tree.{Forest}
 use Rattle.ftl_model.specs.layout.Values.{Value}
-use Rattle.ftl_order.specs.orders.OneTable.{ExactlyOneList}
 use Rattle.ftl_page.specs.commands.Commands.{command_of}
 use Rattle.ftl_page.specs.declared.commands.command.Command.{Command}
 use Rattle.ftl_page.specs.declared.commands.command.Command.TheVariants as command
 use Rattle.ftl_page.specs.declared.workers.solving.Solving.{Solving}
 use Rattle.ftl_answer.specs.answers.Answer.{Answer, refused}
-use Rattle.ftl_answer.specs.answers.Answers.{IsAnswer, boxes_of, shown_answer}
-use Rattle.ftl_answer.specs.headline.Headline.{AreTold, Call, IsAccepted, MatchesAnswer, OfTheAnswer, OneTableOf, SinkFailed}
-use Rattle.ftl_answer.specs.headline.Headline.{bytes_answered, may_read, words_read}
-use Rattle.ftl_answer.specs.headline.Promises.{AreBytesOf, CompletesCommands, EndsAsAnswered, HasNoFaultOrWant, IsRefusal}
+use Rattle.ftl_edits.specs.declared.meaning.types.Edit.{Edit}
+use Rattle.ftl_answer.specs.answers.Answers.{HasOneAnswer, IsAnswer, IsLaidOutAnew, boxes_of, edited_answer}
+use Rattle.ftl_answer.specs.answers.Answers.{shown_answer}
+use Rattle.ftl_answer.specs.headline.Headline.{AreEditsAccepted, HasOneChangedTable, IsAcceptedForEdits}
+use Rattle.ftl_answer.specs.headline.Promises.{IsChangeShown, WritesTheChange, WritesTheChangeInMemory}
+use Rattle.ftl_answer.specs.headline.Promises.{WritesTheChangeOf}
+use Rattle.ftl_answer.specs.headline.Headline.{Acceptance, AreTold, Call, HasOneTableWhere, IsAccepted, IsAcceptedForDemand}
+use Rattle.ftl_answer.specs.headline.Headline.{MatchesAnswer, OfTheAnswer, OneTableOf, SinkFailed, bytes_answered, may_read}
+use Rattle.ftl_answer.specs.headline.Headline.{words_read}
+use Rattle.ftl_answer.specs.headline.Promises.{AddsTheBoxesWhere, AreBytesOf, CompletesCommands, EndsAsAnswered}
+use Rattle.ftl_answer.specs.headline.Promises.{HasNoFaultOrWant, IsRefusal, IsTableShownWhere}
 use Rattle.ftl_answer.specs.headline.Promises.{IsShown, KeepsPromises, LeavesTheSource, ReadNoPage, ReadsAPage, ReadsThePage}
 use Rattle.ftl_answer.specs.headline.Promises.{ReadsWithinLimits, StatusMeansTheWholeText, StopsAtAReadFault}
 use Rattle.ftl_answer.specs.headline.Promises.{StopsWithoutMemory, WriteFaultsHaveCauses, Writes, WritesAFront}
-use Rattle.ftl_answer.specs.headline.Promises.{WritesSomeAnswer, WritesTheAnswer, WritesTheBoxes, WritesTheBoxesInMemory}
+use Rattle.ftl_answer.specs.headline.Promises.{WritesSomeAnswer, WritesTheAnswer, WritesTheBoxes, WritesTheBoxesByDemand}
+use Rattle.ftl_answer.specs.headline.Promises.{WritesTheBoxesByDemandInMemory, WritesTheBoxesInMemory, WritesTheBoxesWhere}
 use Rattle.ftl_answer.specs.headline.Promises.{in_memory}
 use Rattle.ftl_answer.specs.refusals.PageLines.{too_long_line}
-use Rattle.ftl_answer.proofs.answers.Commands.{has_one_answer}
 use Rattle.ftl_answer.proofs.headline.Bytes.{answer_same}
 use Rattle.ftl_answer.proofs.headline.Shown.{accepted_is_shown, or_refused}
 use Rattle.ftl_answer.proofs.headline.Statuses.{answer_status}
+
+-- words and bytes have one answer
+abbrev pub EachHasOneAnswer : Type 0
+EachHasOneAnswer = (words : List (List ℕ)) (bytes : List ℕ) → HasOneAnswer words bytes
 
 -- how a call matches this answer to these bytes
 abbrev Matches : Call → (bytes : List ℕ) → Answer → Type 0
@@ -45,18 +55,18 @@ told_are k bytes some (inr unread) reads are = absurd cc
 
 -- The answer to the bytes that the source told is the one that the call matches. The bytes are these where the words read
 -- a page; where they read none, the answer is that to any bytes.
-matched_by : (k : Call) (bytes : List ℕ) (a : Answer) (reads : Bool) → words_read k.words ≡ reads
+matched_by : EachHasOneAnswer → (k : Call) (bytes : List ℕ) (a : Answer) (reads : Bool) → words_read k.words ≡ reads
     → OfTheAnswer k.words (bytes_answered reads k.left_before) (Matches k) → AreBytesOf k bytes → IsAnswer k.words bytes a
     → (some : List ℕ) × (reads ≡ true → some ≡ bytes) × Matches k some a
-matched_by k bytes a true reads (some, are, (b, answers, matches)) is answered =
+matched_by ones k bytes a true reads (some, are, (b, answers, matches)) is answered =
     let same : some ≡ bytes = told_are k bytes some is reads are in
-    let one = (has_one_answer k.words bytes).any_two in (
+    let one = (ones k.words bytes).any_two in (
       some,
       λ e. same,
       subst (Matches k some) (one b a (subst (λ xs. IsAnswer k.words xs b) same answers) answered) matches,
     )
-matched_by k bytes a false reads (some, are, (b, answers, matches)) is answered =
-    let one = (has_one_answer k.words bytes).any_two in (
+matched_by ones k bytes a false reads (some, are, (b, answers, matches)) is answered =
+    let one = (ones k.words bytes).any_two in (
       some,
       λ e. absurd cc,
       subst (Matches k some) (one b a (answer_same k.words some bytes b reads answers) answered) matches,
@@ -69,23 +79,23 @@ writes_matched k bytes a fine matches =
     ⊎_elim (λ e. e) (λ e. absurd (fine.no_want e)) (matches.no_excuse fine.no_write_fault fine.no_read_fault)
     in (ends, matches.text ends)
 
-module _ (k : Call) (bytes : List ℕ) (a : Answer) (promised : KeepsPromises k) (is : AreBytesOf k bytes)
-    (answered : IsAnswer k.words bytes a) where
+module _ (ones : EachHasOneAnswer) (k : Call) (bytes : List ℕ) (a : Answer) (promised : KeepsPromises k)
+    (is : AreBytesOf k bytes) (answered : IsAnswer k.words bytes a) where
   found : (some : List ℕ) × (words_read k.words ≡ true → some ≡ bytes) × Matches k some a
-  found = matched_by k bytes a (words_read k.words) refl promised.answer is answered
+  found = matched_by ones k bytes a (words_read k.words) refl promised.answer is answered
 
   matches : Matches k found.0 a
   matches = found.2
 
 -- ---- what is written
 
-pub writes_the_answer : WritesTheAnswer
-writes_the_answer k bytes a promised fine is answered =
-    let x = found k bytes a promised is answered in writes_matched k x.0 a fine x.2
+pub writes_the_answer : EachHasOneAnswer → WritesTheAnswer
+writes_the_answer ones k bytes a promised fine is answered =
+    let x = found ones k bytes a promised is answered in writes_matched k x.0 a fine x.2
 
-pub completes_commands : CompletesCommands
-completes_commands k bytes c a promised fine is named shown =
-    writes_the_answer k bytes a promised fine is (accepted_is_shown k.words bytes c a named shown)
+pub completes_commands : EachHasOneAnswer → CompletesCommands
+completes_commands ones k bytes c a promised fine is named shown =
+    writes_the_answer ones k bytes a promised fine is (accepted_is_shown k.words bytes c a named shown)
 
 -- no answer has the status of a read fault
 no_three : (k : Call) (bytes : List ℕ) (a : Answer) → IsAnswer k.words bytes a → k.status ≡ a.status → k.status ≢ 3
@@ -110,14 +120,14 @@ some_written k false reads is fine x = absurd cc
 pub writes_some_answer : WritesSomeAnswer
 writes_some_answer k promised fine reads = some_written k (words_read k.words) refl reads fine promised.answer
 
-pub status_means_the_whole_text : StatusMeansTheWholeText
-status_means_the_whole_text k bytes a promised is answered = (matches k bytes a promised is answered).text
+pub status_means_the_whole_text : EachHasOneAnswer → StatusMeansTheWholeText
+status_means_the_whole_text ones k bytes a promised is answered = (matches ones k bytes a promised is answered).text
 
-pub ends_as_answered : EndsAsAnswered
-ends_as_answered k bytes a promised is answered = (matches k bytes a promised is answered).status
+pub ends_as_answered : EachHasOneAnswer → EndsAsAnswered
+ends_as_answered ones k bytes a promised is answered = (matches ones k bytes a promised is answered).status
 
-pub writes_a_front : WritesAFront
-writes_a_front k bytes a promised is answered = (matches k bytes a promised is answered).front
+pub writes_a_front : EachHasOneAnswer → WritesAFront
+writes_a_front ones k bytes a promised is answered = (matches ones k bytes a promised is answered).front
 
 pub write_faults_have_causes : WriteFaultsHaveCauses
 write_faults_have_causes k promised = promised.faults.write
@@ -140,12 +150,14 @@ page_is_read : (c : Command) (o : Option Command) → o ≡ Some c → ReadsAPag
 page_is_read (command.Run how) o is reads = ap may_read is
 page_is_read command.Check o is reads = ap may_read is
 page_is_read command.Schedule o is reads = ap may_read is
+page_is_read command.Demand o is reads = ap may_read is
+page_is_read (command.Edit how) o is reads = ap may_read is
 page_is_read (command.Sample pieces name how) o is reads = absurd reads
 
-pub reads_the_page : ReadsThePage
-reads_the_page k bytes c a promised is answered named reads_one no_fault no_want =
+pub reads_the_page : EachHasOneAnswer → ReadsThePage
+reads_the_page ones k bytes c a promised is answered named reads_one no_fault no_want =
     let reads : words_read k.words ≡ true = page_is_read c (command_of k.words) named reads_one in
-    let x = found k bytes a promised (inl is) answered in
+    let x = found ones k bytes a promised (inl is) answered in
     let same : x.0 ≡ bytes = x.1 reads in (
       λ short. (
         subst (λ t. IfSome t (λ _. k.left_after ≡ Some [])) is (x.2.to_its_end reads no_fault no_want short),
@@ -172,50 +184,135 @@ abbrev command_or : Command → Option Command → Command
 command_or c None = c
 command_or c (Some other) = other
 
-module _ (k : Call) (bytes : List ℕ) (how : Solving) (promised : KeepsPromises k) (fine : HasNoFaultOrWant k)
-    (is : k.left_before ≡ Some bytes) (runs : command_of k.words ≡ Some (command.Run how)) where
-  one_table : (c : CheckedGrammar) (t : Forest) → IsAccepted bytes c t → ExactlyOneList (meant c) t
-  one_table c t x =
-      subst (λ o. OneTableOf o k.left_before) runs promised.one_table bytes
-      (subst (λ told. AreTold told bytes) (sym is) refl) c t x
-
-  boxes_written : (c : CheckedGrammar) (t : Forest) → IsAccepted bytes c t → (values : List Value)
+-- a command that shows the boxes of pages that are accepted so
+module _ (ones : EachHasOneAnswer) (shows : Command) (accepted : Acceptance)
+    (shown_where : (bytes : List ℕ) (a : Answer) → IsTableShownWhere accepted boxes_of bytes a → IsShown shows bytes a)
+    (accepted_where : (bytes : List ℕ) (a : Answer) → IsShown shows bytes a → IsTableShownWhere accepted boxes_of bytes a)
+    (k : Call) (bytes : List ℕ) (promised : KeepsPromises k) (fine : HasNoFaultOrWant k)
+    (is : k.left_before ≡ Some bytes) (named : command_of k.words ≡ Some shows) where
+  boxes_written : (c : CheckedGrammar) (t : Forest) → accepted bytes c t → (values : List Value)
       → SolvesList (meant c) t values → Writes k (shown_answer boxes_of c t values)
   boxes_written c t x values solves =
       let a = shown_answer boxes_of c t values in
-      let shown : IsShown (command.Run how) bytes a = (c, t, values, x, solves, refl) in
-      writes_the_answer k bytes a promised fine (inl is)
-      (accepted_is_shown k.words bytes (command.Run how) a runs shown)
+      let table : IsTableShownWhere accepted boxes_of bytes a = (c, t, values, x, solves, refl) in
+      writes_the_answer ones k bytes a promised fine (inl is)
+      (accepted_is_shown k.words bytes shows a named (shown_where bytes a table))
 
-  refusal_written : ((c : CheckedGrammar) (t : Forest) → IsAccepted bytes c t → ⊥) → (a : Answer)
+  refusal_written : ((c : CheckedGrammar) (t : Forest) → accepted bytes c t → ⊥) → (a : Answer)
       → IsAnswer k.words bytes a
       → ((c : Command) × (command_of k.words ≡ Some c) × IsShown c bytes a) ⊎ IsRefusal a
       → (b : Answer) × IsRefusal b × IsAnswer k.words bytes b × Writes k b
-  refusal_written none a answers (inl (c, named, shown)) =
-      let same : c ≡ command.Run how = ap (command_or c) (sym named ∙ runs) in
-      let table = subst (λ x. IsShown x bytes a) same shown in absurd (none table.0 table.1 table.3)
+  refusal_written none a answers (inl (c, other, shown)) =
+      let same : c ≡ shows = ap (command_or c) (sym other ∙ named) in
+      let table = accepted_where bytes a (subst (λ x. IsShown x bytes a) same shown) in
+      absurd (none table.0 table.1 table.3)
   refusal_written none a answers (inr refusal) =
-      (a, refusal, answers, writes_the_answer k bytes a promised fine (inl is) answers)
+      (a, refusal, answers, writes_the_answer ones k bytes a promised fine (inl is) answers)
 
-  refused_otherwise : ((c : CheckedGrammar) (t : Forest) → IsAccepted bytes c t → ⊥)
+  refused_otherwise : ((c : CheckedGrammar) (t : Forest) → accepted bytes c t → ⊥)
       → (a : Answer) × IsRefusal a × IsAnswer k.words bytes a × Writes k a
   refused_otherwise none =
-      let a = (has_one_answer k.words bytes).some in
+      let a = (ones k.words bytes).some in
       refusal_written none a.0 a.1 (or_refused k.words bytes a.0 a.1)
 
-pub writes_the_boxes : WritesTheBoxes
-writes_the_boxes k bytes how promised fine is runs = (
-  λ c t x. (
-    one_table k bytes how promised fine is runs c t x,
-    boxes_written k bytes how promised fine is runs c t x,
-  ),
-  refused_otherwise k bytes how promised fine is runs,
-)
+  boxes_where : HasOneTableWhere accepted bytes → WritesTheBoxesWhere accepted k bytes
+  boxes_where one = (λ c t x. (one c t x, boxes_written c t x), refused_otherwise)
 
-pub writes_the_boxes_in_memory : WritesTheBoxesInMemory
-writes_the_boxes_in_memory words status source source_after sink sink_after how promised fine runs =
-    let k = in_memory words status source source_after sink sink_after in (
-      λ c t x values solves. (boxes_written k source.left how promised fine refl runs c t x values solves).1,
-      λ none.
-          let x = refused_otherwise k source.left how promised fine refl runs none in (x.0, x.1, x.3.0, x.3.1),
-    )
+-- a command that shows what edits make of a page
+module _ (ones : EachHasOneAnswer) (how : Solving) (k : Call) (bytes : List ℕ) (promised : KeepsPromises k)
+    (fine : HasNoFaultOrWant k) (is : k.left_before ≡ Some bytes)
+    (named : command_of k.words ≡ Some (command.Edit how)) where
+  change_written : (c : CheckedGrammar) (t : Forest) (es : List Edit) → AreEditsAccepted bytes c t es
+      → (values : List Value) (touched : List ℕ) → IsLaidOutAnew c t es values touched
+      → Writes k (edited_answer c t es values touched)
+  change_written c t es x values touched anew =
+      let a = edited_answer c t es values touched in
+      let shown : IsChangeShown bytes a = (c, t, es, values, touched, x, anew, refl) in
+      writes_the_answer ones k bytes a promised fine (inl is)
+      (accepted_is_shown k.words bytes (command.Edit how) a named shown)
+
+  change_refused : ((c : CheckedGrammar) (t : Forest) (es : List Edit) → AreEditsAccepted bytes c t es → ⊥) → (a : Answer)
+      → IsAnswer k.words bytes a
+      → ((c : Command) × (command_of k.words ≡ Some c) × IsShown c bytes a) ⊎ IsRefusal a
+      → (b : Answer) × IsRefusal b × IsAnswer k.words bytes b × Writes k b
+  change_refused none a answers (inl (c, other, shown)) =
+      let same : c ≡ command.Edit how = ap (command_or c) (sym other ∙ named) in
+      let x : IsChangeShown bytes a = subst (λ x. IsShown x bytes a) same shown in
+      absurd (none x.0 x.1 x.2 x.5)
+  change_refused none a answers (inr refusal) =
+      (a, refusal, answers, writes_the_answer ones k bytes a promised fine (inl is) answers)
+
+  change_or_refused : ((c : CheckedGrammar) (t : Forest) (es : List Edit) → AreEditsAccepted bytes c t es → ⊥)
+      → (a : Answer) × IsRefusal a × IsAnswer k.words bytes a × Writes k a
+  change_or_refused none =
+      let a = (ones k.words bytes).some in
+      change_refused none a.0 a.1 (or_refused k.words bytes a.0 a.1)
+
+  change_of : HasOneTableWhere IsAcceptedForEdits bytes × HasOneChangedTable bytes → WritesTheChangeOf k bytes
+  change_of one =
+      (λ c t es x. (one.0 c t x.accepted, one.1 c t es x, change_written c t es x), change_or_refused)
+
+-- the table of a call's page, by the command that its words are
+told_table : (k : Call) (bytes : List ℕ) (c : Command) → k.left_before ≡ Some bytes → command_of k.words ≡ Some c
+    → KeepsPromises k → OneTableOf (Some c) (Some bytes)
+told_table k bytes c is named promised =
+    subst (λ told. OneTableOf (Some c) told) is
+    (subst (λ o. OneTableOf o k.left_before) named promised.one_table)
+
+module _ (ones : EachHasOneAnswer) where
+  run_boxes : (how : Solving) (k : Call) (bytes : List ℕ) → KeepsPromises k → HasNoFaultOrWant k
+      → k.left_before ≡ Some bytes → command_of k.words ≡ Some (command.Run how)
+      → WritesTheBoxesWhere IsAccepted k bytes
+  run_boxes how k bytes promised fine is named =
+      boxes_where ones (command.Run how) IsAccepted (λ b a x. x) (λ b a x. x) k bytes promised fine is named
+      (told_table k bytes (command.Run how) is named promised bytes refl)
+
+  demand_boxes : (k : Call) (bytes : List ℕ) → KeepsPromises k → HasNoFaultOrWant k
+      → k.left_before ≡ Some bytes → command_of k.words ≡ Some command.Demand
+      → WritesTheBoxesWhere IsAcceptedForDemand k bytes
+  demand_boxes k bytes promised fine is named =
+      boxes_where ones command.Demand IsAcceptedForDemand (λ b a x. x) (λ b a x. x) k bytes promised fine is named
+      (told_table k bytes command.Demand is named promised bytes refl)
+
+  pub writes_the_boxes : WritesTheBoxes
+  writes_the_boxes k bytes how promised fine is runs = run_boxes how k bytes promised fine is runs
+
+  pub writes_the_boxes_by_demand : WritesTheBoxesByDemand
+  writes_the_boxes_by_demand k bytes promised fine is named = demand_boxes k bytes promised fine is named
+
+  edit_change : (how : Solving) (k : Call) (bytes : List ℕ) → KeepsPromises k → HasNoFaultOrWant k
+      → k.left_before ≡ Some bytes → command_of k.words ≡ Some (command.Edit how) → WritesTheChangeOf k bytes
+  edit_change how k bytes promised fine is named =
+      change_of ones how k bytes promised fine is named
+      (told_table k bytes (command.Edit how) is named promised bytes refl)
+
+  pub writes_the_change : WritesTheChange
+  writes_the_change k bytes how promised fine is named = edit_change how k bytes promised fine is named
+
+  pub writes_the_change_in_memory : WritesTheChangeInMemory
+  writes_the_change_in_memory words status source source_after sink sink_after how promised fine named =
+      let k = in_memory words status source source_after sink sink_after in
+      let written = edit_change how k source.left promised fine refl named in (
+        λ c t es x values touched anew. ((written.0 c t es x).2 values touched anew).1,
+        λ none. let x = written.1 none in (x.0, x.1, x.3.0, x.3.1),
+      )
+
+  -- what was written to a sink in memory
+  in_sink : (accepted : Acceptance) (words : List (List ℕ)) (status : ℕ) (source source_after : SourceState)
+      (sink sink_after : SinkState)
+      → WritesTheBoxesWhere accepted (in_memory words status source source_after sink sink_after) source.left
+      → AddsTheBoxesWhere accepted status source sink sink_after
+  in_sink accepted words status source source_after sink sink_after written = (
+    λ c t x values solves. ((written.0 c t x).1 values solves).1,
+    λ none. let x = written.1 none in (x.0, x.1, x.3.0, x.3.1),
+  )
+
+  pub writes_the_boxes_in_memory : WritesTheBoxesInMemory
+  writes_the_boxes_in_memory words status source source_after sink sink_after how promised fine runs =
+      in_sink IsAccepted words status source source_after sink sink_after
+      (run_boxes how (in_memory words status source source_after sink sink_after) source.left promised fine refl runs)
+
+  pub writes_the_boxes_by_demand_in_memory : WritesTheBoxesByDemandInMemory
+  writes_the_boxes_by_demand_in_memory words status source source_after sink sink_after promised fine named =
+      in_sink IsAcceptedForDemand words status source source_after sink sink_after
+      (demand_boxes (in_memory words status source source_after sink sink_after) source.left promised fine refl named)

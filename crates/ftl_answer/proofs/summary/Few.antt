@@ -1,5 +1,5 @@
 -- An interface shows no more attributes than there are.
-use Rattle.std.proofs.Common.{ℕ, ◌+◌, ◌<◌, ◌≤◌, Bool, List, filter, length, take, arith}
+use Rattle.std.proofs.Common.{ℕ, ◌<◌, ◌≤◌, Bool, filter, length, take, arith}
 use Rattle.std.proofs.lemmas.List.{length-map}
 use Rattle.std.proofs.lemmas.List.Sums.{count_by-le-length, length-filter}
 use Rattle.ftl_grammar.specs.declared.syntax.rules.AttrDecl.{AttrDecl}

@@ -1,5 +1,6 @@
 -- The answer to words and bytes: the first refusal that applies, or what the command asks for.
-use Rattle.std.specs.Prelude.{◌≡◌, ℕ, true, false, if◌then◌else◌, List, [], Option, Some, None, codes}
+use Rattle.std.specs.Prelude.{◌≡◌, ℕ, true, false, if◌then◌else◌, List, [], ◌++◌, length, Option, Some, None, codes}
+use Rattle.std.specs.Fmt.{decimal}
 use Rattle.ftl_model.specs.layout.Boxes.{boxes, shows_overflow}
 use Rattle.ftl_model.specs.layout.Table.{SolvesList, value_in}
 use Rattle.ftl_model.specs.layout.Tree.{Forest}
@@ -13,6 +14,8 @@ use Rattle.ftl_page.specs.declared.commands.command.Command.{Command}
 use Rattle.ftl_page.specs.declared.commands.command.Command.TheVariants as command
 use Rattle.ftl_meaning.specs.faults.Checked.{CheckedGrammar}
 use Rattle.ftl_deps.specs.reads.Meant.{meant}
+use Rattle.ftl_edits.specs.declared.meaning.types.Edit.{Edit}
+use Rattle.ftl_relayout.specs.relaid.Relaid.{IsRelaid, edited_tree}
 use Rattle.ftl_schedule.specs.declared.stages.types.Schedule.{Schedule}
 use Rattle.ftl_schedule.specs.printing.WrittenOf.{written_of}
 use Rattle.ftl_schedule.specs.text.ScheduleText.{schedule_text}
@@ -20,7 +23,7 @@ use Rattle.ftl_answer.specs.refusals.PageLines.{words_line}
 use Rattle.ftl_answer.specs.answers.Answer.{Answer, answer, refused}
 use Rattle.ftl_answer.specs.answers.Stages.{Is, Outcome, Stage, Then, ends, hands_on, result_outcome}
 use Rattle.ftl_answer.specs.answers.Summary.{summary}
-use Rattle.ftl_answer.specs.answers.Texts.{grammar, page, schedule, tree}
+use Rattle.ftl_answer.specs.answers.Texts.{edits, grown_tree, grammar, noncircular_grammar, page, schedule, tree}
 
 -- ---- what commands need
 
@@ -31,6 +34,14 @@ rules_alone = record { schedule = true; document = false; edits = false }
 -- a page that is solved
 abbrev pub whole_page : Need
 whole_page = record { schedule = true; document = true; edits = false }
+
+-- a page that is solved, edited and solved anew
+abbrev pub edited_page : Need
+edited_page = record { schedule = true; document = true; edits = true }
+
+-- a page that is solved without a look at its schedule
+abbrev pub unscheduled_page : Need
+unscheduled_page = record { schedule = false; document = true; edits = false }
 
 -- ---- what commands print
 
@@ -47,6 +58,14 @@ shown_by text c t outcome =
 -- the boxes of a table
 abbrev pub boxes_of : CheckedGrammar → Forest → List Value → List ℕ
 boxes_of c t values = boxes (names_of c.grammar) t (value_in (meant c) t values)
+
+-- how many instances edits touched
+abbrev pub touched_line : (count : ℕ) → List ℕ
+touched_line count = codes "touched=" ++ (decimal count ++ codes "\n")
+
+-- the boxes of a table, and how many instances edits touched
+abbrev pub boxes_and_touched : (count : ℕ) → CheckedGrammar → Forest → List Value → List ℕ
+boxes_and_touched count c t values = boxes_of c t values ++ touched_line count
 
 -- the summary of a table, by the name of its grammar
 abbrev pub summary_of : (name : List ℕ) → CheckedGrammar → Forest → List Value → List ℕ
@@ -73,12 +92,53 @@ abbrev pub solved : (bytes : List ℕ) → (CheckedGrammar → Forest → List V
 solved bytes text =
     with_rules whole_page bytes (λ c s p. Then (tree c s (document_text p)) (shown_by text c))
 
+-- the page is solved by demand, and its table shown
+abbrev pub solved_by_demand : (bytes : List ℕ) → (CheckedGrammar → Forest → List Value → List ℕ) → Stage ⊥
+solved_by_demand bytes text =
+    Then (page unscheduled_page bytes)
+    (λ p. Then (grammar p.width p.grammar)
+    (λ c. Then (noncircular_grammar c) (λ _. Then (grown_tree c (document_text p)) (shown_by text c))))
+
+-- The tree is solved, its inputs are edited, and the changed tree is solved. The touched instances are those that are
+-- computed and have a read whose value is another one than before.
+pub record IsLaidOutAnew (c : CheckedGrammar) (t : Forest) (edits : List Edit) (values : List Value) (touched : List ℕ)
+    : Type 0 where
+  pub old : List Value
+  pub solved : SolvesList (meant c) t old
+  pub anew : IsRelaid c (edited_tree c t edits) old values touched
+
+-- the boxes of the changed tree, and how many instances were touched; status 8 where a shown value of it is Overflow
+abbrev pub edited_answer : CheckedGrammar → Forest → List Edit → List Value → (touched : List ℕ) → Answer
+edited_answer c t edits values touched =
+    shown_answer (boxes_and_touched (length touched)) c (edited_tree c t edits) values
+
+-- edits are applied, and the changed tree is shown
+abbrev pub edited_by : CheckedGrammar → Forest → List Edit → Stage ⊥
+edited_by c t edits outcome =
+    (values : List Value) × (touched : List ℕ) × IsLaidOutAnew c t edits values touched
+    × (outcome ≡ ends (edited_answer c t edits values touched))
+
+-- the text of the edits; a page that is edited has one
+abbrev pub edits_text : Page → List ℕ
+edits_text p = text_or_none p.edits
+
+-- the edits of a tree are read, and the changed tree is shown
+abbrev pub edited_tree_shown : Page → CheckedGrammar → Forest → Stage ⊥
+edited_tree_shown p c t = Then (edits c t (edits_text p)) (edited_by c t)
+
+-- the page is solved, edited and solved anew
+abbrev pub solved_anew : (bytes : List ℕ) → Stage ⊥
+solved_anew bytes =
+    with_rules edited_page bytes (λ c s p. Then (tree c s (document_text p)) (edited_tree_shown p c))
+
 -- what a command comes to
 abbrev pub obeyed : Command → (bytes : List ℕ) → Stage ⊥
 obeyed (command.Run how) bytes = solved bytes boxes_of
 obeyed command.Check bytes = with_rules rules_alone bytes (λ c s p. Is (ends (answer 0 (codes "accepted\n"))))
 obeyed command.Schedule bytes =
     with_rules rules_alone bytes (λ c s p. Is (ends (answer 0 (schedule_text (written_of c.grammar s)))))
+obeyed command.Demand bytes = solved_by_demand bytes boxes_of
+obeyed (command.Edit how) bytes = solved_anew bytes
 obeyed (command.Sample pieces name how) bytes =
     Then (Is (result_outcome (λ fault. refused 2 words_line) (sample_page_of name pieces)))
     (λ text. solved text (summary_of name))

@@ -1,4 +1,4 @@
--- The stages on the way from a page to its document: each refuses, or hands on what it found.
+-- The stages on the way from a page to its document and its edits: each refuses, or hands on what it found.
 use Rattle.std.specs.Prelude.{◌≡◌, ℕ, nat_lt, if◌then◌else◌, List, length, Option, Some, None, Result, Ok, Err}
 use Rattle.ftl_model.specs.layout.Limits.{most_page_bytes}
 use Rattle.ftl_base.specs.Widths.{greatest_of_width}
@@ -29,7 +29,14 @@ use Rattle.ftl_document.specs.declared.faults.fault.DocFault.TheVariants as docu
 use Rattle.ftl_tree.specs.trees.CheckedTree.{CheckedTree}
 use Rattle.ftl_document.specs.reading.ReadTree.{ReadsTree}
 use Rattle.ftl_limits.specs.faults.PlanFaults as plans
+use Rattle.ftl_noncircular.specs.search.Circles.{TellsCircles}
+use Rattle.ftl_noncircular.specs.declared.search.fault.CircularFault.TheVariants as circles
+use Rattle.ftl_edits.specs.declared.meaning.types.Edit.{Edit}
+use Rattle.ftl_edits.specs.declared.meaning.fault.EditFault.TheVariants as changes
+use Rattle.ftl_edits.specs.reading.Read.{ReadsEdits}
+use Rattle.ftl_answer.specs.refusals.CircularLines.{circular_line}
 use Rattle.ftl_answer.specs.refusals.DocumentLines.{document_line}
+use Rattle.ftl_answer.specs.refusals.EditLines.{edit_line}
 use Rattle.ftl_answer.specs.refusals.GrammarLines.{grammar_line}
 use Rattle.ftl_answer.specs.refusals.PageLines.{page_line, too_long_line}
 use Rattle.ftl_answer.specs.refusals.PlanLines.{plan_line}
@@ -91,6 +98,11 @@ grammar width text =
     Then (tokens section.Grammar 2147483647 text)
     (λ scanned. Then (spelled_grammar scanned) (lawful_grammar width))
 
+-- it is noncircular; otherwise its first circular vertex is told
+abbrev pub noncircular_grammar : CheckedGrammar → Stage CheckedGrammar
+noncircular_grammar c =
+    ResultStage circles.OutOfMemory (λ fault. refused 5 (circular_line c.grammar fault)) (TellsCircles c)
+
 -- ---- the schedule
 
 -- the schedule that the tokens spell, by what its names stand for
@@ -122,17 +134,35 @@ abbrev pub spelled_tree : CheckedGrammar → WideTokenized → Stage CheckedTree
 spelled_tree c scanned =
     ResultStage document.OutOfMemory (λ fault. refused 7 (document_line c.grammar fault)) (ReadsTree c scanned)
 
--- no stage reads too much
-abbrev pub planned_tree : CheckedGrammar → Schedule → Forest → Stage Forest
-planned_tree c s t =
-    Is (unless (λ fault. refused 7 (plan_line fault)) (plans.first_fault (meant c) (stages_of s) t) t)
-
 -- a text with its tokens, whose numbers are at most the greatest
 abbrev pub wide : (greatest : ℕ) → Tokenized → WideTokenized
 wide greatest scanned = record { tokenized = scanned; greatest = greatest }
 
 -- the tree of the document of a text
-abbrev pub tree : CheckedGrammar → Schedule → (text : List ℕ) → Stage Forest
-tree c s text =
+abbrev pub grown_tree : CheckedGrammar → (text : List ℕ) → Stage Forest
+grown_tree c text =
     Then (tokens section.Document (greatest_of_width c.width) text)
-    (λ scanned. Then (spelled_tree c (wide (greatest_of_width c.width) scanned)) (λ t. planned_tree c s t.tree))
+    (λ scanned. Then (spelled_tree c (wide (greatest_of_width c.width) scanned)) (λ t. Is (hands_on t.tree)))
+
+-- no stage reads too much
+abbrev pub planned_tree : CheckedGrammar → Schedule → Forest → Stage Forest
+planned_tree c s t =
+    Is (unless (λ fault. refused 7 (plan_line fault)) (plans.first_fault (meant c) (stages_of s) t) t)
+
+-- the tree of the document of a text, which the schedule can solve
+abbrev pub tree : CheckedGrammar → Schedule → (text : List ℕ) → Stage Forest
+tree c s text = Then (grown_tree c text) (planned_tree c s)
+
+-- ---- the edits
+
+-- the edits that the tokens stand for at the tree
+abbrev pub spelled_edits : CheckedGrammar → Forest → WideTokenized → Stage (List Edit)
+spelled_edits c t scanned =
+    ResultStage changes.OutOfMemory (λ fault. refused 10 (edit_line fault))
+    (ReadsEdits (record { checked = c; tree = t }) scanned)
+
+-- the edits of a text
+abbrev pub edits : CheckedGrammar → Forest → (text : List ℕ) → Stage (List Edit)
+edits c t text =
+    Then (tokens section.Edits (greatest_of_width c.width) text)
+    (λ scanned. spelled_edits c t (wide (greatest_of_width c.width) scanned))

@@ -12,14 +12,19 @@ use Rattle.ftl_edge.specs.Counts.{Rose, RoseBy, SourceCounts, raised, source_cou
 use Rattle.ftl_edge.specs.Sink.{AppendsFront}
 use Rattle.ftl_meaning.specs.faults.Checked.{CheckedGrammar}
 use Rattle.ftl_model.specs.layout.Tree.{Forest}
+use Rattle.ftl_noncircular.specs.grammars.Noncircular.{IsNoncircular}
 use Rattle.ftl_order.specs.orders.OneTable.{ExactlyOneList}
+use Rattle.ftl_page.specs.declared.sections.page.Need.{Need}
 use Rattle.ftl_page.specs.declared.sections.page.Page.{Page}
 use Rattle.ftl_answer.specs.refusals.PageLines.{too_long_line}
+use Rattle.ftl_edits.specs.declared.meaning.types.Edit.{Edit}
+use Rattle.ftl_relayout.specs.relaid.Relaid.{edited_tree}
 use Rattle.ftl_schedule.specs.declared.stages.types.Schedule.{Schedule}
 use Rattle.ftl_answer.specs.answers.Answer.{Answer, refused}
-use Rattle.ftl_answer.specs.answers.Answers.{IsAnswer, document_text, whole_page}
+use Rattle.ftl_answer.specs.answers.Answers.{IsAnswer, document_text, edited_page, edits_text, unscheduled_page}
+use Rattle.ftl_answer.specs.answers.Answers.{whole_page}
 use Rattle.ftl_answer.specs.answers.Stages.{hands_on}
-use Rattle.ftl_answer.specs.answers.Texts.{grammar, page, schedule, tree}
+use Rattle.ftl_answer.specs.answers.Texts.{edits, grown_tree, grammar, page, schedule, tree}
 
 -- the bytes of words
 abbrev pub texts : {A : Type 0} → List (String A) → List (List ℕ)
@@ -32,6 +37,8 @@ abbrev pub reads_page : Command → Bool
 reads_page (command.Run how) = true
 reads_page command.Check = true
 reads_page command.Schedule = true
+reads_page command.Demand = true
+reads_page (command.Edit how) = true
 reads_page (command.Sample pieces name how) = false
 
 -- words that are no command read none
@@ -109,24 +116,64 @@ pub record ReadsInput (s : ℕ) (reads : Bool) (told left : Option (List ℕ)) (
 
 -- ---- tables
 
--- the page is accepted, with this grammar and the tree of its document
-pub record IsAccepted (bytes : List ℕ) (c : CheckedGrammar) (t : Forest) : Type 0 where
+-- of the page so much is accepted as is needed, with this grammar and the tree of its document
+pub record IsAcceptedFor (need : Need) (bytes : List ℕ) (c : CheckedGrammar) (t : Forest) : Type 0 where
   pub sections : Page
-  pub read : page whole_page bytes (hands_on sections)
+  pub read : page need bytes (hands_on sections)
   pub lawful : grammar sections.width sections.grammar (hands_on c)
   pub order : Schedule
   pub ordered : schedule c sections.schedule (hands_on order)
   pub spelled : tree c order (document_text sections) (hands_on t)
 
+-- The page is accepted for evaluation by demand, with this grammar, which is noncircular, and the tree of its document.
+-- Its schedule plays no part, and it need not have one.
+pub record IsAcceptedForDemand (bytes : List ℕ) (c : CheckedGrammar) (t : Forest) : Type 0 where
+  pub sections : Page
+  pub read : page unscheduled_page bytes (hands_on sections)
+  pub lawful : grammar sections.width sections.grammar (hands_on c)
+  pub noncircular : IsNoncircular (meant c)
+  pub spelled : grown_tree c (document_text sections) (hands_on t)
+
+-- which grammars and trees a page is accepted with
+abbrev pub Acceptance : Type 1
+Acceptance = (bytes : List ℕ) → CheckedGrammar → Forest → Type 0
+
+-- the page is accepted, with this grammar and the tree of its document
+abbrev pub IsAccepted : Acceptance
+IsAccepted = IsAcceptedFor whole_page
+
+-- so it is where its edits are to be read; they may still be refused
+abbrev pub IsAcceptedForEdits : Acceptance
+IsAcceptedForEdits = IsAcceptedFor edited_page
+
+-- the page is accepted, and its edits are
+pub record AreEditsAccepted (bytes : List ℕ) (c : CheckedGrammar) (t : Forest) (es : List Edit) : Type 0 where
+  pub accepted : IsAcceptedForEdits bytes c t
+  pub read : edits c t (edits_text accepted.sections) (hands_on es)
+
+-- exactly one list of values solves the tree of a page that is accepted so
+abbrev pub HasOneTableWhere : Acceptance → (bytes : List ℕ) → Type 0
+HasOneTableWhere accepted bytes = (c : CheckedGrammar) (t : Forest) → accepted bytes c t → ExactlyOneList (meant c) t
+
 -- exactly one list of values solves the tree of a page that is accepted
 abbrev pub HasOneTable : (bytes : List ℕ) → Type 0
-HasOneTable bytes = (c : CheckedGrammar) (t : Forest) → IsAccepted bytes c t → ExactlyOneList (meant c) t
+HasOneTable = HasOneTableWhere IsAccepted
+
+-- exactly one list of values solves the tree that accepted edits make of that of the page
+abbrev pub HasOneChangedTable : (bytes : List ℕ) → Type 0
+HasOneChangedTable bytes =
+    (c : CheckedGrammar) (t : Forest) (es : List Edit) → AreEditsAccepted bytes c t es
+    → ExactlyOneList (meant c) (edited_tree c t es)
 
 -- the same of the page of a command: the one that is read, whatever it is where the source doesn't tell, or the sample
 abbrev pub OneTableOf : Option Command → (told : Option (List ℕ)) → Type 0
 OneTableOf (Some (command.Run how)) told = (bytes : List ℕ) → AreTold told bytes → HasOneTable bytes
 OneTableOf (Some command.Check) told = (bytes : List ℕ) → AreTold told bytes → HasOneTable bytes
 OneTableOf (Some command.Schedule) told = (bytes : List ℕ) → AreTold told bytes → HasOneTable bytes
+OneTableOf (Some command.Demand) told =
+    (bytes : List ℕ) → AreTold told bytes → HasOneTableWhere IsAcceptedForDemand bytes
+OneTableOf (Some (command.Edit how)) told =
+    (bytes : List ℕ) → AreTold told bytes → HasOneTableWhere IsAcceptedForEdits bytes × HasOneChangedTable bytes
 OneTableOf (Some (command.Sample pieces name how)) told =
     (text : List ℕ) → sample_page_of name pieces ≡ Ok text → HasOneTable text
 OneTableOf None told = Unit {0}

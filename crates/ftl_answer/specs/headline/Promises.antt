@@ -1,5 +1,6 @@
 -- What follows from the four promises of a call: what it writes and how far it reads, by its words and its status.
-use Rattle.std.specs.Prelude.{◌≡◌, ◌≢◌, ◌⊎◌, ℕ, ◌+◌, ◌<◌, ◌≤◌, true, false, List, [], length, ◌++◌, Option, Some, None, Ok, codes, nat_lt}
+use Rattle.std.specs.Prelude.{◌≡◌, ◌≢◌, ◌⊎◌, ℕ, ◌+◌, ◌<◌, ◌≤◌, true, false, List, [], length, ◌++◌, Some, None, Ok}
+use Rattle.std.specs.Prelude.{codes, nat_lt}
 use Rattle.std.specs.Io.KnownBytes.{Appends}
 use Rattle.ftl_model.specs.layout.Limits.{most_page_bytes}
 use Rattle.ftl_boxes.specs.SamplePage.{sample_page_of}
@@ -20,16 +21,24 @@ use Rattle.ftl_page.specs.declared.commands.command.Command.{Command}
 use Rattle.ftl_page.specs.declared.commands.command.Command.TheVariants as command
 use Rattle.ftl_page.specs.declared.sections.page.Page.{Page}
 use Rattle.ftl_page.specs.declared.workers.solving.Solving.{Solving}
+use Rattle.ftl_edits.specs.declared.meaning.types.Edit.{Edit}
+use Rattle.ftl_relayout.specs.relaid.Relaid.{edited_tree}
 use Rattle.ftl_schedule.specs.declared.stages.types.Schedule.{Schedule}
 use Rattle.ftl_schedule.specs.printing.WrittenOf.{written_of}
 use Rattle.ftl_schedule.specs.text.ScheduleText.{schedule_text}
 use Rattle.ftl_answer.specs.answers.Answer.{Answer, answer, refused}
-use Rattle.ftl_answer.specs.answers.Answers.{IsAnswer, boxes_of, rules_alone, shown_answer, summary_of}
+use Rattle.ftl_answer.specs.answers.Answers.{IsAnswer, IsLaidOutAnew, boxes_and_touched, boxes_of, edited_answer}
+use Rattle.ftl_answer.specs.answers.Answers.{rules_alone}
+use Rattle.ftl_answer.specs.answers.Answers.{shown_answer, summary_of}
 use Rattle.ftl_answer.specs.answers.Stages.{hands_on}
 use Rattle.ftl_answer.specs.answers.Summary.{overflow_count, shown_values}
 use Rattle.ftl_answer.specs.answers.Texts.{grammar, page, schedule}
-use Rattle.ftl_answer.specs.headline.Headline.{AreTold, Call, GivesTheAnswer, HasCauses, HasTheTable, IsAccepted, ReadsSoFar}
-use Rattle.ftl_answer.specs.headline.Headline.{SinkFailed, SourceFailed, call_of, words_read}
+use Rattle.ftl_answer.specs.headline.Headline.{Acceptance, AreTold, Call, GivesTheAnswer, HasCauses, HasTheTable}
+use Rattle.ftl_answer.specs.headline.Headline.{IsAccepted}
+use Rattle.ftl_answer.specs.headline.Headline.{AreEditsAccepted, HasOneChangedTable, HasOneTableWhere}
+use Rattle.ftl_answer.specs.headline.Headline.{IsAcceptedForEdits}
+use Rattle.ftl_answer.specs.headline.Headline.{IsAcceptedForDemand, ReadsSoFar, SinkFailed, SourceFailed, call_of}
+use Rattle.ftl_answer.specs.headline.Headline.{words_read}
 use Rattle.ftl_answer.specs.refusals.PageLines.{too_long_line, words_line}
 
 -- ---- accepted pages, and refusals
@@ -41,11 +50,22 @@ pub record AreRulesAccepted (bytes : List ℕ) (c : CheckedGrammar) (s : Schedul
   pub lawful : grammar sections.width sections.grammar (hands_on c)
   pub ordered : schedule c sections.schedule (hands_on s)
 
+-- the page is accepted so, and the answer shows, by this text, a list that solves its tree
+abbrev pub IsTableShownWhere : Acceptance → (CheckedGrammar → Forest → List Value → List ℕ) → (bytes : List ℕ) → Answer
+    → Type 0
+IsTableShownWhere accepted text bytes a =
+    (c : CheckedGrammar) × (t : Forest) × (values : List Value) × accepted bytes c t × SolvesList (meant c) t values
+    × (a ≡ shown_answer text c t values)
+
 -- the page is accepted, and the answer shows, by this text, a list that solves its tree
 abbrev pub IsTableShown : (CheckedGrammar → Forest → List Value → List ℕ) → (bytes : List ℕ) → Answer → Type 0
-IsTableShown text bytes a =
-    (c : CheckedGrammar) × (t : Forest) × (values : List Value) × IsAccepted bytes c t × SolvesList (meant c) t values
-    × (a ≡ shown_answer text c t values)
+IsTableShown = IsTableShownWhere IsAccepted
+
+-- the page is accepted with its edits, and the answer shows the changed tree
+abbrev pub IsChangeShown : (bytes : List ℕ) → Answer → Type 0
+IsChangeShown bytes a =
+    (c : CheckedGrammar) × (t : Forest) × (es : List Edit) × (values : List Value) × (touched : List ℕ)
+    × AreEditsAccepted bytes c t es × IsLaidOutAnew c t es values touched × (a ≡ edited_answer c t es values touched)
 
 -- what the command needs of the page is accepted, and this is what it shows of it
 abbrev pub IsShown : Command → (bytes : List ℕ) → Answer → Type 0
@@ -55,12 +75,14 @@ IsShown command.Check bytes a =
 IsShown command.Schedule bytes a =
     (c : CheckedGrammar) × (s : Schedule) × AreRulesAccepted bytes c s
     × (a ≡ answer 0 (schedule_text (written_of c.grammar s)))
+IsShown command.Demand bytes a = IsTableShownWhere IsAcceptedForDemand boxes_of bytes a
+IsShown (command.Edit how) bytes a = IsChangeShown bytes a
 IsShown (command.Sample pieces name how) bytes a =
     (text : List ℕ) × (sample_page_of name pieces ≡ Ok text) × IsTableShown (summary_of name) text a
 
--- the statuses of refusals of what a section holds: of a grammar, of a schedule, of a document
+-- the statuses of refusals of what a section holds: of a grammar, of a schedule, of a document, of edits
 abbrev pub IsSectionStatus : (status : ℕ) → Type 0
-IsSectionStatus s = (s ≡ 5) ⊎ ((s ≡ 6) ⊎ (s ≡ 7))
+IsSectionStatus s = (s ≡ 5) ⊎ ((s ≡ 6) ⊎ ((s ≡ 7) ⊎ (s ≡ 10)))
 
 -- the statuses of refusals: of words, of a page, of what a section holds
 abbrev pub IsRefusalStatus : (status : ℕ) → Type 0
@@ -166,17 +188,45 @@ WritesSomeAnswer =
     → (bytes : List ℕ) × (a : Answer) × AreTold k.left_before bytes × IsAnswer k.words bytes a × Writes k a
     × (a ≢ refused 4 too_long_line → RoseBy (length bytes) k.counts_before.taken k.counts_after.taken)
 
+-- where the page is accepted so, exactly one table solves its tree, and that table's boxes are written; otherwise one
+-- line that refuses
+abbrev pub WritesTheBoxesWhere : Acceptance → Call → (bytes : List ℕ) → Type 0
+WritesTheBoxesWhere accepted k bytes =
+    ((c : CheckedGrammar) (t : Forest) → accepted bytes c t
+    → ExactlyOneList (meant c) t
+    × ((values : List Value) → SolvesList (meant c) t values → Writes k (shown_answer boxes_of c t values)))
+    × (((c : CheckedGrammar) (t : Forest) → accepted bytes c t → ⊥)
+    → (a : Answer) × IsRefusal a × IsAnswer k.words bytes a × Writes k a)
+
 -- The headline. Of a call of `run` without a fault and want of memory: where the page is accepted, exactly one table
 -- solves its tree, and that table's boxes are written; otherwise one line that refuses.
 abbrev pub WritesTheBoxes : Type 0
 WritesTheBoxes =
     (k : Call) (bytes : List ℕ) (how : Solving) → KeepsPromises k → HasNoFaultOrWant k → k.left_before ≡ Some bytes
-    → command_of k.words ≡ Some (command.Run how)
-    → ((c : CheckedGrammar) (t : Forest) → IsAccepted bytes c t
-    → ExactlyOneList (meant c) t
-    × ((values : List Value) → SolvesList (meant c) t values → Writes k (shown_answer boxes_of c t values)))
-    × (((c : CheckedGrammar) (t : Forest) → IsAccepted bytes c t → ⊥)
+    → command_of k.words ≡ Some (command.Run how) → WritesTheBoxesWhere IsAccepted k bytes
+
+-- The same of a call of `demand`: where the page's grammar and document are accepted, and the grammar is noncircular.
+abbrev pub WritesTheBoxesByDemand : Type 0
+WritesTheBoxesByDemand =
+    (k : Call) (bytes : List ℕ) → KeepsPromises k → HasNoFaultOrWant k → k.left_before ≡ Some bytes
+    → command_of k.words ≡ Some command.Demand → WritesTheBoxesWhere IsAcceptedForDemand k bytes
+
+-- Of a call of `edit`: where the page is accepted with its edits, exactly one table solves its tree, and exactly one
+-- the tree that the edits make of it; that table's boxes are written, and how many instances the edits touched.
+-- Otherwise one line that refuses.
+abbrev pub WritesTheChangeOf : Call → (bytes : List ℕ) → Type 0
+WritesTheChangeOf k bytes =
+    ((c : CheckedGrammar) (t : Forest) (es : List Edit) → AreEditsAccepted bytes c t es
+    → ExactlyOneList (meant c) t × ExactlyOneList (meant c) (edited_tree c t es)
+    × ((values : List Value) (touched : List ℕ) → IsLaidOutAnew c t es values touched
+    → Writes k (edited_answer c t es values touched)))
+    × (((c : CheckedGrammar) (t : Forest) (es : List Edit) → AreEditsAccepted bytes c t es → ⊥)
     → (a : Answer) × IsRefusal a × IsAnswer k.words bytes a × Writes k a)
+
+abbrev pub WritesTheChange : Type 0
+WritesTheChange =
+    (k : Call) (bytes : List ℕ) (how : Solving) → KeepsPromises k → HasNoFaultOrWant k → k.left_before ≡ Some bytes
+    → command_of k.words ≡ Some (command.Edit how) → WritesTheChangeOf k bytes
 
 -- with the status of the answer its whole text was appended, whatever failed
 abbrev pub StatusMeansTheWholeText : Type 0
@@ -217,6 +267,8 @@ abbrev pub ReadsAPage : Command → Type 0
 ReadsAPage (command.Run how) = Unit {0}
 ReadsAPage command.Check = Unit {0}
 ReadsAPage command.Schedule = Unit {0}
+ReadsAPage command.Demand = Unit {0}
+ReadsAPage (command.Edit how) = Unit {0}
 ReadsAPage (command.Sample pieces name how) = ⊥
 
 -- Words that read a page read the whole source, unless it is too long, a read failed or memory ran out. Of a longer page
@@ -255,6 +307,25 @@ abbrev pub OneTableOfEachPage : Type 0
 OneTableOfEachPage =
     (bytes : List ℕ) (c : CheckedGrammar) (t : Forest) → IsAccepted bytes c t → ExactlyOneList (meant c) t
 
+-- and of a page that is accepted for evaluation by demand
+abbrev pub OneTableOfEachPageByDemand : Type 0
+OneTableOfEachPageByDemand =
+    (bytes : List ℕ) (c : CheckedGrammar) (t : Forest) → IsAcceptedForDemand bytes c t → ExactlyOneList (meant c) t
+
+-- and of a page whose edits are to be read; of the tree that accepted edits make of it, too
+abbrev pub OneTableOfEachEditedPage : Type 0
+OneTableOfEachEditedPage =
+    (bytes : List ℕ) → HasOneTableWhere IsAcceptedForEdits bytes × HasOneChangedTable bytes
+
+-- Accepted edits lay a page out anew in one way: there are values and touched instances, and any two have the same
+-- values, and as many instances.
+abbrev pub EditsTouchSoMany : Type 0
+EditsTouchSoMany =
+    (bytes : List ℕ) (c : CheckedGrammar) (t : Forest) (es : List Edit) → AreEditsAccepted bytes c t es
+    → ((values : List Value) × (touched : List ℕ) × IsLaidOutAnew c t es values touched)
+    × ((values other : List Value) (touched others : List ℕ) → IsLaidOutAnew c t es values touched
+    → IsLaidOutAnew c t es other others → (values ≡ other) × (length touched ≡ length others))
+
 -- ---- pages in memory
 
 -- the call with this source and this sink in memory, before and after
@@ -265,14 +336,46 @@ in_memory words status source source_after sink sink_after =
     (λ (s : SourceState). s.fault_count) (λ (s : SinkState). Some s.written) (λ (s : SinkState). s.fault_count) words
     status source source_after sink sink_after
 
+-- where a page in memory is accepted so, the boxes of the values that solve it are written; otherwise one line that
+-- refuses
+abbrev pub AddsTheBoxesWhere : Acceptance → (status : ℕ) → SourceState → (sink sink_after : SinkState) → Type 0
+AddsTheBoxesWhere accepted status source sink sink_after =
+    ((c : CheckedGrammar) (t : Forest) → accepted source.left c t → (values : List Value)
+    → SolvesList (meant c) t values → sink_after.written ≡ sink.written ++ boxes_of c t values)
+    × (((c : CheckedGrammar) (t : Forest) → accepted source.left c t → ⊥)
+    → (a : Answer) × IsRefusal a × (status ≡ a.status) × (sink_after.written ≡ sink.written ++ a.text))
+
 -- the headline of pages in memory, by what their source and their sink hold
 abbrev pub WritesTheBoxesInMemory : Type 0
 WritesTheBoxesInMemory =
     (words : List (List ℕ)) (status : ℕ) (source source_after : SourceState) (sink sink_after : SinkState) (how : Solving)
     → KeepsPromises (in_memory words status source source_after sink sink_after)
     → HasNoFaultOrWant (in_memory words status source source_after sink sink_after)
-    → command_of words ≡ Some (command.Run how)
-    → ((c : CheckedGrammar) (t : Forest) → IsAccepted source.left c t → (values : List Value)
-    → SolvesList (meant c) t values → sink_after.written ≡ sink.written ++ boxes_of c t values)
-    × (((c : CheckedGrammar) (t : Forest) → IsAccepted source.left c t → ⊥)
+    → command_of words ≡ Some (command.Run how) → AddsTheBoxesWhere IsAccepted status source sink sink_after
+
+-- and the same of `demand`
+abbrev pub WritesTheBoxesByDemandInMemory : Type 0
+WritesTheBoxesByDemandInMemory =
+    (words : List (List ℕ)) (status : ℕ) (source source_after : SourceState) (sink sink_after : SinkState)
+    → KeepsPromises (in_memory words status source source_after sink sink_after)
+    → HasNoFaultOrWant (in_memory words status source source_after sink sink_after)
+    → command_of words ≡ Some command.Demand → AddsTheBoxesWhere IsAcceptedForDemand status source sink sink_after
+
+-- and of `edit`: where a page in memory is accepted with its edits, the boxes of the changed tree and the number of
+-- touched instances are written; otherwise one line that refuses
+abbrev pub AddsTheChange : (status : ℕ) → SourceState → (sink sink_after : SinkState) → Type 0
+AddsTheChange status source sink sink_after =
+    ((c : CheckedGrammar) (t : Forest) (es : List Edit) → AreEditsAccepted source.left c t es
+    → (values : List Value) (touched : List ℕ) → IsLaidOutAnew c t es values touched
+    → sink_after.written
+    ≡ sink.written ++ boxes_and_touched (length touched) c (edited_tree c t es) values)
+    × (((c : CheckedGrammar) (t : Forest) (es : List Edit) → AreEditsAccepted source.left c t es → ⊥)
     → (a : Answer) × IsRefusal a × (status ≡ a.status) × (sink_after.written ≡ sink.written ++ a.text))
+
+abbrev pub WritesTheChangeInMemory : Type 0
+WritesTheChangeInMemory =
+    (words : List (List ℕ)) (status : ℕ) (source source_after : SourceState) (sink sink_after : SinkState)
+    (how : Solving)
+    → KeepsPromises (in_memory words status source source_after sink sink_after)
+    → HasNoFaultOrWant (in_memory words status source source_after sink sink_after)
+    → command_of words ≡ Some (command.Edit how) → AddsTheChange status source sink sink_after

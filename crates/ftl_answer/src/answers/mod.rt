@@ -1,6 +1,7 @@
 //! The answer to words and to the bytes of a page, as a definition without code.
 //! `specs/answers/Answers.antt` builds it of stages, each of which ends with a refusal or hands a
-//! value on: words, page, tokens, grammar, schedule, document, reads, and the text of the command.
+//! value on: words, page, tokens, grammar, schedule, document, reads, edits, and the text of the
+//! command.
 
 mod laws;
 mod worked;

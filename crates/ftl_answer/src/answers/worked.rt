@@ -1,5 +1,6 @@
 //! Laws that hold the answer against answers that were typed by hand.
-ghost use Rattle.std.specs.Prelude.{◌≡◌, [], ◌∷◌, codes, filter, length, negsuc, pos, Err, Some};
+ghost use Rattle.std.specs.Prelude.{◌≡◌, ℕ, [], ◌∷◌, codes, filter, length, negsuc, pos, Err};
+ghost use Rattle.std.specs.Prelude.{None, Some};
 ghost use Rattle.ftl_base.specs.declared.width.Width.{Width};
 ghost use Rattle.ftl_deps.specs.reads.Meant.{meant};
 ghost use Rattle.ftl_meaning.specs.faults.Checked.{CheckedGrammar};
@@ -11,15 +12,24 @@ ghost use Rattle.ftl_model.specs.layout.Tree.{Forest};
 ghost use Rattle.ftl_page.specs.declared.sections.fault.Section.TheVariants as section;
 ghost use Rattle.ftl_limits.specs.faults.PlanFaults as plans;
 ghost use Rattle.ftl_limits.specs.declared.faults.fault.PlanFault.TheVariants as plan;
+ghost use Rattle.ftl_noncircular.specs.grammars.FirstCircular.{IsFirstCircular};
+ghost use Rattle.ftl_noncircular.specs.grammars.Noncircular.{IsNoncircular, of_self};
+ghost use Rattle.ftl_noncircular.specs.declared.search.fault.CircularFault.TheVariants as circle;
+ghost use Rattle.ftl_edits.specs.declared.meaning.fault.EditFault.TheVariants as edit;
+ghost use Rattle.ftl_edits.specs.syntax.Read.{IsNoEdits};
+ghost use Rattle.ftl_answer.specs.refusals.CircularLines.{circular_line};
+ghost use Rattle.ftl_answer.specs.refusals.EditLines.{edit_line};
 ghost use Rattle.ftl_schedule.specs.stages.Stages.{stages_of};
 ghost use Rattle.ftl_schedule.specs.declared.stages.types.Schedule.{Schedule};
 ghost use Rattle.ftl_grammar.specs.declared.syntax.rules.Grammar.{Grammar};
 ghost use Rattle.ftl_tokens.specs.declared.scanner.fault.TokenFault.TheVariants as token;
+ghost use Rattle.ftl_tokens.specs.scanner.Tokenized.{WideTokenized};
 ghost use Rattle.ftl_answer.specs.answers.Answer.{refused};
 ghost use Rattle.ftl_answer.specs.answers.Answers.{IsAnswer};
 ghost use Rattle.ftl_answer.specs.answers.Stages.{ends, hands_on};
 ghost use Rattle.ftl_answer.specs.answers.Summary.{mixed, once, summary, weighted_sum};
-ghost use Rattle.ftl_answer.specs.answers.Texts.{lawful_grammar, planned_tree, scanned_as};
+ghost use Rattle.ftl_answer.specs.answers.Texts.{lawful_grammar, noncircular_grammar, planned_tree};
+ghost use Rattle.ftl_answer.specs.answers.Texts.{scanned_as, spelled_edits};
 ghost use Rattle.ftl_answer.specs.answers.Worked.{two_overflows, two_pieces, two_pieces_too_high};
 ghost use Rattle.ftl_answer.specs.answers.Worked.{two_pieces_values};
 
@@ -33,7 +43,9 @@ pub fn worked_refusals()
 {}
 
 /// A law: a fault of tokens ends with the status of its section. A grammar keeps the width of its
-/// page, and a stage that reads too much is refused with the status of documents.
+/// page. A noncircular grammar is handed on as it is, and a circular one refused with the status of
+/// grammars. A text that is no edits is refused with the status of edits. A stage that reads too
+/// much is refused with the status of documents.
 pub fn worked_stages()
     ensures grammar { scanned_as section.Grammar (codes "$") (Err (token.BadChar 0))
         ≡ ends (refused 5 (codes "refused grammar: bad character at 0")) }
@@ -41,8 +53,19 @@ pub fn worked_stages()
         ≡ ends (refused 6 (codes "refused schedule: bad character at 0")) }
     ensures document { scanned_as section.Document (codes "$") (Err (token.BadChar 0))
         ≡ ends (refused 7 (codes "refused document: bad character at 0")) }
+    ensures edits { scanned_as section.Edits (codes "$") (Err (token.BadChar 0))
+        ≡ ends (refused 10 (codes "refused edits: bad character at 0")) }
     ensures width { (width : Width) (g : Grammar) (c : CheckedGrammar)
         → lawful_grammar width g (hands_on c) → c.width ≡ width }
+    ensures noncircular { (c : CheckedGrammar) → IsNoncircular (meant c)
+        → noncircular_grammar c (hands_on c) }
+    ensures circular { (c : CheckedGrammar) (class attr : ℕ)
+        → IsFirstCircular (meant c) class (of_self attr)
+        → noncircular_grammar c (ends (refused 5 (circular_line c.grammar
+        (circle.Circular class None attr)))) }
+    ensures no_edits { (c : CheckedGrammar) (t : Forest) (scanned : WideTokenized) (at : ℕ)
+        → IsNoEdits scanned.tokenized at
+        → spelled_edits c t scanned (ends (refused 10 (edit_line (edit.Syntax at)))) }
     ensures reads { (c : CheckedGrammar) (s : Schedule) (t : Forest)
         → plans.first_fault (meant c) (stages_of s) t ≡ Some (plan.TooManyReads 2 67108865)
         → planned_tree c s t (ends (refused 7

@@ -6,6 +6,8 @@ ghost use Rattle.ftl_answer.specs.answers.Answers.{IsAnswer};
 ghost use Rattle.ftl_page.specs.declared.commands.command.Command.{Command};
 ghost use Rattle.ftl_answer.specs.headline.Headline.{IsAnswered, OneTableOf, words_read};
 
+use ftl_noncircular::one_list_where_noncircular;
+
 /// A law: no answer has the status of a fault or of want of memory.
 pub fn answers_have_statuses()
     ensures status { (words : List (List ℕ)) (bytes : List ℕ) (a : Answer)
@@ -18,7 +20,10 @@ pub fn bytes_do_not_matter()
         → words_read words ≡ false → IsAnswer words bytes a → IsAnswer words other a }
 {}
 
-/// A law: exactly one table solves the tree of a page that is accepted.
+/// A law: exactly one table solves the tree of a page that is accepted, and the tree that accepted
+/// edits make of it.
 pub fn one_table()
     ensures one { (c : Option Command) (told : Option (List ℕ)) → OneTableOf c told }
-{}
+{
+    one_list_where_noncircular();
+}

@@ -4,6 +4,7 @@ ghost use Rattle.std.specs.Prelude.{◌≡◌, ◌++◌, OnOk, codes};
 ghost use Rattle.ftl_meaning.specs.faults.Numbering.{class_at, interface_at};
 ghost use Rattle.ftl_answer.specs.refusals.DocumentLines.{at_field, at_node, document_line};
 
+use crate::refusals::names::class_name;
 use crate::refusals::pieces::{
     field_then, number_and_names, number_then, numbered, numbered_large,
 };
@@ -92,15 +93,6 @@ fn wrong_interface(
         interface_name(checked, wanted),
     );
     number_and_names(out, "refused document: node ", node, names)
-}
-
-fn class_name(checked: &Checked, class: u32) -> &str
-    ensures name { result.now ≡ (class_at checked.now.grammar class).name }
-{
-    match checked.grammar().classes.as_slice().get(class as usize) {
-        Some(class) => class.name.text(),
-        None => "",
-    }
 }
 
 fn interface_name(checked: &Checked, interface: u32) -> &str

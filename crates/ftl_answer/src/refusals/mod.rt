@@ -1,8 +1,11 @@
 //! The lines that refuse. Goes in: the first fault of a page, a text, a grammar, a schedule or a
-//! document. Comes out: its line, without the line feed, at the end of a buffer. The files of
-//! `specs/` say which line each fault has.
+//! document, the first circular vertex of a grammar, or the first fault of edits. Comes out: its
+//! line, without the line feed, at the end of a buffer. The files of `specs/` say which line each
+//! fault has.
 
+mod circular;
 mod document;
+mod edits;
 mod grammar;
 mod names;
 mod page;
@@ -12,7 +15,9 @@ mod schedule;
 mod text;
 mod worked;
 
+pub use circular::write_circular_fault;
 pub use document::write_document_fault;
+pub use edits::write_edit_fault;
 pub use grammar::write_grammar_fault;
 pub use page::write_page_fault;
 pub use plan::write_plan_fault;

@@ -1,7 +1,8 @@
-//! Names of sections, rules, reads and attributes.
+//! Names of sections, classes, rules, reads and attributes.
 
 ghost use Rattle.std.specs.Prelude.{◌≡◌, ◌++◌, OnOk};
 ghost use Rattle.std.specs.List.{flat_map};
+ghost use Rattle.ftl_meaning.specs.faults.Numbering.{class_at};
 ghost use Rattle.ftl_answer.specs.refusals.Names.{attribute_text, dotted, place_name, read_text};
 ghost use Rattle.ftl_answer.specs.refusals.Names.{rule_text, rule_text_at, section_name};
 ghost use Rattle.ftl_answer.specs.refusals.ScheduleLines.{spaced_text};
@@ -30,6 +31,16 @@ pub(crate) fn dotted(out: &mut Vec<u8>, owner: &str, name: &str) -> Result<(), A
     text(out, owner)?;
     text(out, ".")?;
     text(out, name)
+}
+
+/// The name of a class; empty where there is none of this number.
+pub(crate) fn class_name(checked: &Checked, class: u32) -> &str
+    ensures name { result.now ≡ (class_at checked.now.grammar class).name }
+{
+    match checked.grammar().classes.as_slice().get(class as usize) {
+        Some(class) => class.name.text(),
+        None => "",
+    }
 }
 
 /// Adds a rule by name.

@@ -58,6 +58,20 @@ pub(crate) fn named_number(
     number(out, count)
 }
 
+/// Adds a text, a number and another text.
+pub(crate) fn around_number(
+    out: &mut Vec<u8>,
+    before: &str,
+    count: u32,
+    after: &str,
+) -> Result<(), AllocError>
+    ensures added { OnOk result (out.new.items
+        ≡ out.old.items ++ (before.now ++ (decimal count ++ after.now))) }
+{
+    numbered(out, before, count)?;
+    text(out, after)
+}
+
 /// Adds a text, a number and two other texts.
 pub(crate) fn number_then(
     out: &mut Vec<u8>,

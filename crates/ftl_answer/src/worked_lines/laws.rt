@@ -1,11 +1,16 @@
 //! Laws on lines.
 
-ghost use Rattle.std.specs.Prelude.{◌≡◌, [], ◌∷◌, codes};
+ghost use Rattle.std.specs.Prelude.{◌≡◌, [], ◌∷◌, None, Some, codes};
 ghost use Rattle.ftl_document.specs.declared.faults.fault.DocFault.TheVariants as fault;
 ghost use Rattle.ftl_meaning.specs.declared.formulas.read_name.ReadName.TheVariants as read;
 ghost use Rattle.ftl_meaning.specs.faults.Worked.{stack};
 ghost use Rattle.ftl_meaning.specs.declared.faults.fault.What.TheVariants as what;
+ghost use Rattle.ftl_noncircular.specs.declared.search.fault.CircularFault.TheVariants as circle;
+ghost use Rattle.ftl_answer.specs.refusals.CircularLines.{circular_line};
 ghost use Rattle.ftl_answer.specs.refusals.DocumentLines.{document_line};
+ghost use Rattle.ftl_edits.specs.declared.meaning.fault.EditFault.TheVariants as edit;
+ghost use Rattle.ftl_answer.specs.answers.Answers.{touched_line};
+ghost use Rattle.ftl_answer.specs.refusals.EditLines.{edit_line};
 ghost use Rattle.ftl_answer.specs.refusals.GrammarLines.{what_text};
 ghost use Rattle.ftl_answer.specs.refusals.Names.{read_text};
 ghost use Rattle.ftl_limits.specs.declared.faults.fault.PlanFault.TheVariants as plan;
@@ -54,6 +59,25 @@ pub fn lines_of_schedules()
     ensures later { verify_line stack (verify.Unordered 6 1)
         ≡ codes "refused schedule: Column kids.y reads Sheet body.x unordered" }
     ensures stuck { stuck_line stack (0 ∷ 4 ∷ []) ≡ codes "refused schedule: stuck Page.h Box.h" }
+{}
+
+/// A law: lines of the stack grammar, if this came back to itself.
+pub fn lines_of_circles()
+    ensures own { circular_line stack (circle.Circular 1 None 4)
+        ≡ codes "refused grammar: Column self.h may depend on itself" }
+    ensures kids { circular_line stack (circle.Circular 1 (Some 0) 2)
+        ≡ codes "refused grammar: Column kids.y may depend on itself" }
+{}
+
+/// A law: lines that refuse edits, and the line on those that are touched.
+pub fn lines_of_edits()
+    ensures syntax { edit_line (edit.Syntax 12) ≡ codes "refused edits: syntax at 12" }
+    ensures many { edit_line (edit.TooMany 1048577)
+        ≡ codes "refused edits: too many: 1048577" }
+    ensures node { edit_line (edit.UnknownNode 1) ≡ codes "refused edits: edit 1 has no node" }
+    ensures input { edit_line (edit.UnknownInput 10)
+        ≡ codes "refused edits: edit 10 has no input" }
+    ensures touched { touched_line 12 ≡ codes "touched=12\n" }
 {}
 
 /// A law: lines of words and of long pages, and what grammars may have only so much of.

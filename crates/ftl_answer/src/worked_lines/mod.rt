@@ -3,4 +3,6 @@
 
 mod laws;
 
-pub use laws::{lines_of_documents, lines_of_schedules, other_lines};
+pub use laws::{
+    lines_of_circles, lines_of_documents, lines_of_edits, lines_of_schedules, other_lines,
+};

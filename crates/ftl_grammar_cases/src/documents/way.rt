@@ -20,6 +20,9 @@ pub(crate) enum Way {
     Bare,
     /// As it stands; of its tree the first instances of all nodes and of their kids are printed.
     Instances,
+    /// With edits and a bound; printed are the instances that the edits touch, and whether code was
+    /// run no more often than the bound says.
+    Relaid,
 }
 
 /// The way that a word of a title asks for.
@@ -36,6 +39,8 @@ pub(crate) fn way_of(word: &str) -> Way {
         Way::Bare
     } else if word == "instances" {
         Way::Instances
+    } else if word == "relaid" {
+        Way::Relaid
     } else {
         Way::Plain
     }

@@ -1,5 +1,5 @@
 -- A sample that words ask for can be made.
-use Rattle.std.proofs.Common.{◌≡◌, refl, ap, sym, subst, ℕ, ◌<◌, ◌≤◌, Bool, true, false, List, [], ◌∷◌, Option, Some, None, Ok}
+use Rattle.std.proofs.Common.{◌≡◌, refl, ap, subst, ℕ, ◌<◌, ◌≤◌, Bool, true, false, List, [], ◌∷◌, Option, Some, None, Ok}
 use Rattle.std.proofs.lemmas.Bool.{and_parts, leb-true, ltb-true}
 use Rattle.std.specs.Prelude.{◌&&◌, codes, if◌then◌else◌, nat_lt, nat_le, is_some}
 use Rattle.std.specs.Option.{option_and_then, option_map}
@@ -9,7 +9,7 @@ use Rattle.clap.specs.Words.{Row, Text, first_of}
 use Rattle.ftl_boxes.proofs.Made.{sample_is_there}
 use Rattle.ftl_boxes.specs.SamplePage.{sample_page_of}
 use Rattle.ftl_boxes.specs.Shipped.{shipped_grammar}
-use Rattle.ftl_page.specs.commands.Commands.{command_of, grammar_by, run_by, sample_by, sample_of, shipped_name, solving_of}
+use Rattle.ftl_page.specs.commands.Commands.{command_of, edit_by, grammar_by, run_by, sample_by, sample_of, solving_of}
 use Rattle.ftl_page.specs.commands.Options.{plain_app, sample_app, solving_app, taken}
 use Rattle.ftl_page.specs.declared.commands.command.Command.{Command}
 use Rattle.ftl_page.specs.declared.commands.command.Command.TheVariants as command
@@ -31,6 +31,8 @@ Fine None = Unit {0}
 Fine (Some (command.Run how)) = Unit {0}
 Fine (Some command.Check) = Unit {0}
 Fine (Some command.Schedule) = Unit {0}
+Fine (Some command.Demand) = Unit {0}
+Fine (Some (command.Edit how)) = Unit {0}
 Fine (Some (command.Sample pieces name how)) = CanBeMade name pieces
 
 either : (b : Bool) (one other : Option Command) → Fine one → Fine other → Fine (if b then one else other)
@@ -107,7 +109,12 @@ fine (name ∷ rest) =
     (mapped (λ rows. command.Check) (taken (plain_app (codes "check")) (name ∷ rest)) (λ rows. tt))
     (either (bytes_eq name (codes "schedule")) _ _
     (mapped (λ rows. command.Schedule) (taken (plain_app (codes "schedule")) (name ∷ rest)) (λ rows. tt))
-    (either (bytes_eq name (codes "sample")) _ _ (sample_of_fine rest) tt)))
+    (either (bytes_eq name (codes "demand")) _ _
+    (mapped (λ rows. command.Demand) (taken (plain_app (codes "demand")) (name ∷ rest)) (λ rows. tt))
+    (either (bytes_eq name (codes "edit")) _ _
+    (then_fine edit_by (taken (solving_app (codes "edit")) (name ∷ rest))
+    (λ rows is. mapped command.Edit (solving_of rows) (λ how. tt)))
+    (either (bytes_eq name (codes "sample")) _ _ (sample_of_fine rest) tt)))))
 
 -- a sample that words ask for can be made
 pub sample_is_made : (words : List Text) (pieces : ℕ) (name : List ℕ) (how : Solving)

@@ -37,6 +37,23 @@ pub is_schedule : command_of (codes "schedule" ∷ []) ≡ Some (command.Schedul
 unfolding clap_on_literals
 is_schedule = refl
 
+pub is_demand : command_of (codes "demand" ∷ []) ≡ Some (command.Demand)
+unfolding clap_on_literals
+is_demand = refl
+
+pub is_dashes_of_demand : command_of (codes "demand" ∷ codes "--" ∷ []) ≡ Some (command.Demand)
+unfolding clap_on_literals
+is_dashes_of_demand = refl
+
+pub is_edit : command_of (codes "edit" ∷ []) ≡ Some (command.Edit (solving 1 64))
+unfolding clap_on_literals
+is_edit = refl
+
+pub is_workers_of_edit :
+    command_of (codes "edit" ∷ codes "--workers" ∷ codes "8" ∷ codes "--grain=1" ∷ []) ≡ Some (command.Edit (solving 8 1))
+unfolding clap_on_literals
+is_workers_of_edit = refl
+
 pub is_sample : command_of (codes "sample" ∷ codes "8" ∷ []) ≡ Some (command.Sample 8 (codes "flow") (solving 1 64))
 unfolding clap_on_literals
 is_sample = refl
@@ -116,6 +133,26 @@ not_options_of_check = refl
 pub not_options_of_schedule : command_of (codes "schedule" ∷ codes "--grain" ∷ codes "1" ∷ []) ≡ None
 unfolding clap_on_literals
 not_options_of_schedule = refl
+
+pub not_options_of_demand : command_of (codes "demand" ∷ codes "--workers" ∷ codes "2" ∷ []) ≡ None
+unfolding clap_on_literals
+not_options_of_demand = refl
+
+pub not_words_of_demand : command_of (codes "demand" ∷ codes "x" ∷ []) ≡ None
+unfolding clap_on_literals
+not_words_of_demand = refl
+
+pub not_no_worker_of_edit : command_of (codes "edit" ∷ codes "--workers" ∷ codes "0" ∷ []) ≡ None
+unfolding clap_on_literals
+not_no_worker_of_edit = refl
+
+pub not_grammar_of_edit : command_of (codes "edit" ∷ codes "--grammar" ∷ codes "flow" ∷ []) ≡ None
+unfolding clap_on_literals
+not_grammar_of_edit = refl
+
+pub not_words_of_edit : command_of (codes "edit" ∷ codes "x" ∷ []) ≡ None
+unfolding clap_on_literals
+not_words_of_edit = refl
 
 pub not_no_size : command_of (codes "sample" ∷ []) ≡ None
 unfolding clap_on_literals

@@ -1,5 +1,5 @@
 -- Lines, one after another.
-use Rattle.std.proofs.Common.{◌≡◌, ℕ, suc, ◌+◌, ◌-◌, ◌<◌, ◌≤◌, true, false, eqb, List, [], ◌∷◌, length, take, drop}
+use Rattle.std.proofs.Common.{◌≡◌, ℕ, zero, suc, ◌+◌, ◌-◌, ◌<◌, ◌≤◌, true, false, eqb, List, [], ◌∷◌, length, take, drop}
 use Rattle.std.proofs.Common.{get_or, sym, refl, ap, ◌∙◌, subst, ⊎_elim, inl, inr, arith}
 use Rattle.std.specs.Prelude.{◌⊎◌}
 use Rattle.std.specs.Str.{IsUtf8, IsCharBoundary}
@@ -28,6 +28,35 @@ line_length-some (b ∷ bs) some =
     ⊎_elim
     (λ feed. omega (arith, line_length-feed b bs feed))
     (λ other. omega (arith, line_length-other b bs other))
+    (cases_Bool (eqb b 10))
+
+-- a text without a line feed is one line
+pub line_length-none : (bs : List ℕ) → ((k : ℕ) → 0 ≤ k → k < length bs → eqb (get_or bs k 0) 10 ≡ true → ⊥)
+    → line_length bs ≡ length bs
+line_length-none [] none = refl
+line_length-none (b ∷ bs) none =
+    ⊎_elim
+    (λ feed. absurd (none 0 (omega arith) (omega arith) feed))
+    (λ other.
+    omega (
+      arith,
+      line_length-other b bs other,
+      line_length-none bs (λ k low below. none (suc k) (omega arith) (omega (arith, below))),
+    ))
+    (cases_Bool (eqb b 10))
+
+-- and one with a line feed ends with the first
+pub line_length-first : (k : ℕ) (bs : List ℕ) → ((j : ℕ) → 0 ≤ j → j < k → eqb (get_or bs j 0) 10 ≡ true → ⊥)
+    → k < length bs → eqb (get_or bs k 0) 10 ≡ true → line_length bs ≡ k + 1
+line_length-first k [] none below feed = absurd (omega (arith, below))
+line_length-first zero (b ∷ bs) none below feed = omega (arith, line_length-feed b bs feed)
+line_length-first (suc k) (b ∷ bs) none below feed =
+    ⊎_elim
+    (λ first. absurd (none 0 (omega arith) (omega arith) first))
+    (λ other.
+    let later = line_length-first k bs (λ j low less. none (suc j) (omega arith) (omega (arith, less)))
+    (omega (arith, below)) feed in
+    omega (arith, line_length-other b bs other, later))
     (cases_Bool (eqb b 10))
 
 -- a line ends with the text or with a line feed

@@ -1,12 +1,12 @@
 -- No first fault of a page is want of memory.
-use Rattle.std.proofs.Common.{◌≡◌, ◌≢◌, ℕ, ◌+◌, Bool, true, false, List, [], ◌∷◌, ◌++◌, Option, Some, None, Result, Ok, Err}
+use Rattle.std.proofs.Common.{◌≢◌, ℕ, ◌+◌, Bool, true, false, List, [], ◌∷◌, ◌++◌, Option, Some, None, Result, Ok, Err}
 use Rattle.std.specs.Prelude.{if◌then◌else◌, is_some, option_map}
 use Rattle.std.specs.List.{position, take_while}
 use Rattle.std.specs.Str.{is_utf8}
 use Rattle.ftl_base.specs.declared.width.Width.{Width}
 use Rattle.ftl_page.specs.declared.sections.fault.PageFault.{PageFault}
 use Rattle.ftl_page.specs.declared.sections.fault.PageFault.TheVariants.{NotText, OutOfMemory, SectionTwice, StrayText}
-use Rattle.ftl_page.specs.declared.sections.fault.PageFault.TheVariants.{UnknownSection, UnknownShipped}
+use Rattle.ftl_page.specs.declared.sections.fault.PageFault.TheVariants.{UnknownShipped}
 use Rattle.ftl_page.specs.declared.sections.fault.Section.{Section}
 use Rattle.ftl_page.specs.declared.sections.fault.Section.TheVariants.{Document, Edits, Grammar, Schedule}
 use Rattle.ftl_page.specs.declared.sections.page.Need.{Need}

@@ -47,6 +47,10 @@ sample_of (pieces ∷ rest) =
 abbrev pub run_by : List Row → Option Command
 run_by rows = option_map command.Run (solving_of rows)
 
+-- to edit by options
+abbrev pub edit_by : List Row → Option Command
+edit_by rows = option_map command.Edit (solving_of rows)
+
 -- the words, by the name of the command, which is the first of them
 abbrev pub command_named : (name : Text) → (rest : List Text) → Option Command
 command_named name rest =
@@ -56,6 +60,10 @@ command_named name rest =
     then option_map (λ rows. command.Check) (taken (plain_app (codes "check")) (name ∷ rest))
     else if bytes_eq name (codes "schedule")
     then option_map (λ rows. command.Schedule) (taken (plain_app (codes "schedule")) (name ∷ rest))
+    else if bytes_eq name (codes "demand")
+    then option_map (λ rows. command.Demand) (taken (plain_app (codes "demand")) (name ∷ rest))
+    else if bytes_eq name (codes "edit")
+    then option_and_then edit_by (taken (solving_app (codes "edit")) (name ∷ rest))
     else if bytes_eq name (codes "sample") then sample_of rest
     else None
 

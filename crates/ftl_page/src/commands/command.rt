@@ -16,6 +16,12 @@ pub enum Command {
     Check,
     /// Print the schedule of a page.
     Schedule,
+    /// Print the boxes of a page whose schedule plays no part: each value is computed when another
+    /// one needs it.
+    Demand,
+    /// Print the boxes of a page whose inputs have been edited, and how many values the edits
+    /// touched.
+    Edit(Solving),
     /// Solve the sample of so many pieces in the shipped grammar of this name, and print a summary.
     Sample {
         pieces: u32,

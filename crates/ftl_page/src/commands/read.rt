@@ -6,7 +6,7 @@ ghost use Rattle.std.specs.String.{string_bytes};
 ghost use Rattle.clap.specs.Walk.{rows_of};
 ghost use Rattle.clap.specs.Words.{found_of};
 ghost use Rattle.ftl_model.specs.layout.Outcome.{Gives};
-ghost use Rattle.ftl_page.specs.commands.Commands.{answer_by, command_of, grammar_by, run_by};
+ghost use Rattle.ftl_page.specs.commands.Commands.{answer_by, command_of, edit_by, grammar_by, run_by};
 ghost use Rattle.ftl_page.specs.commands.Commands.{sample_by, sample_of, shipped_name, solving_of};
 ghost use Rattle.ftl_page.specs.commands.Options.{plain_app, sample_app, solving_app, taken};
 ghost use Rattle.ftl_page.specs.declared.commands.command.CommandFault.TheVariants.{OutOfMemory};
@@ -37,6 +37,11 @@ pub fn read_command(alloc: Global, words: &[String]) -> Result<Command, CommandF
             no_options(alloc, "schedule", words)?;
             Ok(Command::Schedule)
         }
+        "demand" => {
+            no_options(alloc, "demand", words)?;
+            Ok(Command::Demand)
+        }
+        "edit" => edit(alloc, words),
         "sample" => sample(alloc, &words[1..]),
         _ => Err(CommandFault::BadWords),
     }
@@ -65,6 +70,22 @@ fn run_by(matches: &ArgMatches<'_>) -> Result<Command, CommandFault>
 {
     let solving = solving(matches).ok_or(CommandFault::BadWords)?;
     Ok(Command::Run(solving))
+}
+
+fn edit(alloc: Global, words: &[String]) -> Result<Command, CommandFault>
+    ensures exact { Gives OutOfMemory (λ c. c) result (answer_by (option_and_then edit_by
+        (taken (solving_app (codes "edit")) (map string_bytes words.now)))) }
+{
+    let matches = options(solving_command(alloc, "edit")?, words)?;
+    edit_by(&matches)
+}
+
+fn edit_by(matches: &ArgMatches<'_>) -> Result<Command, CommandFault>
+    ensures exact { Gives OutOfMemory (λ c. c) result
+        (answer_by (edit_by (rows_of (found_of matches.now)))) }
+{
+    let solving = solving(matches).ok_or(CommandFault::BadWords)?;
+    Ok(Command::Edit(solving))
 }
 
 /// The words from the number of pieces on, as a sample.

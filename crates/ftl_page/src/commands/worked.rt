@@ -23,6 +23,14 @@ pub fn words_that_are_commands()
         ≡ Some (command.Check) }
     ensures schedule { command_of (codes "schedule" ∷ [])
         ≡ Some (command.Schedule) }
+    ensures demand { command_of (codes "demand" ∷ [])
+        ≡ Some (command.Demand) }
+    ensures dashes_of_demand { command_of (codes "demand" ∷ codes "--" ∷ [])
+        ≡ Some (command.Demand) }
+    ensures edit { command_of (codes "edit" ∷ [])
+        ≡ Some (command.Edit (solving 1 64)) }
+    ensures workers_of_edit { command_of (codes "edit" ∷ codes "--workers" ∷ codes "8"
+        ∷ codes "--grain=1" ∷ []) ≡ Some (command.Edit (solving 8 1)) }
     ensures sample { command_of (codes "sample" ∷ codes "8" ∷ [])
         ≡ Some (command.Sample 8 (codes "flow") (solving 1 64)) }
     ensures sample_of { command_of (codes "sample" ∷ codes "200000" ∷ codes "--workers" ∷ codes "2"
@@ -54,6 +62,14 @@ pub fn words_that_are_none()
         ≡ None }
     ensures options_of_schedule { command_of (codes "schedule" ∷ codes "--grain" ∷ codes "1" ∷ [])
         ≡ None }
+    ensures options_of_demand { command_of (codes "demand" ∷ codes "--workers" ∷ codes "2" ∷ [])
+        ≡ None }
+    ensures words_of_demand { command_of (codes "demand" ∷ codes "x" ∷ []) ≡ None }
+    ensures no_worker_of_edit { command_of (codes "edit" ∷ codes "--workers" ∷ codes "0" ∷ [])
+        ≡ None }
+    ensures grammar_of_edit { command_of (codes "edit" ∷ codes "--grammar" ∷ codes "flow" ∷ [])
+        ≡ None }
+    ensures words_of_edit { command_of (codes "edit" ∷ codes "x" ∷ []) ≡ None }
     ensures no_size { command_of (codes "sample" ∷ []) ≡ None }
     ensures no_piece { command_of (codes "sample" ∷ codes "0" ∷ []) ≡ None }
     ensures many_pieces { command_of (codes "sample" ∷ codes "200001" ∷ []) ≡ None }

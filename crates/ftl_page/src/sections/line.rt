@@ -6,6 +6,8 @@ ghost use Rattle.std.specs.Str.{bytes_eq};
 ghost use Rattle.ftl_tokens.specs.scanner.Scan.{is_white_space};
 ghost use Rattle.ftl_page.specs.sections.Lines.{lines_of, is_stray, is_heading};
 
+use memchr::memchr;
+
 #[inline]
 pub fn is_white_space(b: u8) -> bool
     ensures space { result ≡ is_white_space b }
@@ -22,12 +24,10 @@ fn line_length(text: &[u8]) -> usize
     ensures end { (result ≡ length text.now)
         ⊎ ((0 < result) × (slice_index_or text.now (result - 1) 0 ≡ 10)) }
 {
-    for (place, b) in text.iter().enumerate() {
-        if *b == b'\n' {
-            return place + 1;
-        }
+    match memchr(b'\n', text) {
+        Some(place) => place + 1,
+        None => text.len(),
     }
-    text.len()
 }
 
 /// The first line, with its line feed, and what follows it.

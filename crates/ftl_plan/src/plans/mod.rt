@@ -25,4 +25,5 @@ pub use alone::solve_alone;
 pub use ftl_limits::PlanFault;
 pub use parts::StageParts;
 pub use plan::Plan;
+pub use words::first_words;
 pub use work::StageWork;

@@ -19,7 +19,7 @@ use std::alloc::{AllocError, Global};
 
 /// The words of all cells: those of the inputs, and 0 elsewhere. Few attributes are inputs, so a
 /// node is asked only for those of its class.
-pub(crate) fn first_words(
+pub fn first_words(
     alloc: Global,
     tables: &ReadTables,
     tree: &Tree<'_>,

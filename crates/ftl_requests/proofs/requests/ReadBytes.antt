@@ -15,18 +15,21 @@ use Rattle.ftl_page.specs.declared.sections.page.Need.{Need}
 use Rattle.ftl_page.specs.sections.Page.{page_of}
 use Rattle.ftl_answer.specs.refusals.PageLines.{page_line, too_long_line, words_line}
 use Rattle.ftl_answer.specs.answers.Answer.{Answer, refused}
-use Rattle.ftl_answer.specs.answers.Answers.{command_in, obeyed, solved, summary_of}
+use Rattle.ftl_answer.specs.answers.Answers.{command_in, obeyed, solved, solved_anew, summary_of}
 use Rattle.ftl_answer.specs.answers.Stages.{Is, Stage, Then, ends, result_outcome}
 use Rattle.ftl_answer.specs.answers.Texts.{page}
 use Rattle.ftl_edge.specs.Counts.{raised}
 use Rattle.ftl_answer.specs.headline.Headline.{OfTheBytes, bytes_answered, may_read, reads_page}
 use Rattle.ftl_requests.specs.sections.Outcomes.{answer_of}
 use Rattle.ftl_requests.specs.declared.sections.decision.Decided.{Decided}
-use Rattle.ftl_requests.specs.requests.Requests.{MayEndAs, IsAsked, problem_stage}
+use Rattle.ftl_requests.specs.requests.Requests.{MayEndAs, IsAsked, evaluated, problem_stage}
 use Rattle.ftl_requests.specs.requests.ShownTexts.{text_shown}
+use Rattle.ftl_requests.specs.declared.requests.request.EditedPage.{EditedPage}
+use Rattle.ftl_requests.specs.declared.requests.request.Evaluation.{Evaluation}
+use Rattle.ftl_requests.specs.declared.requests.request.Evaluation.TheVariants.{Scheduled}
 use Rattle.ftl_requests.specs.declared.requests.request.Problem.{Problem}
 use Rattle.ftl_requests.specs.declared.requests.request.Request.{Request}
-use Rattle.ftl_requests.specs.declared.requests.request.Request.TheVariants.{Answered, Solve}
+use Rattle.ftl_requests.specs.declared.requests.request.Request.TheVariants.{Answered, Edit, Solve}
 use Rattle.ftl_requests.specs.declared.requests.shown.Shown.{Shown}
 use Rattle.ftl_requests.specs.declared.requests.shown.Shown.TheVariants.{Summary}
 
@@ -52,6 +55,8 @@ too_long_answer : (c : Command) (bytes : List ℕ) → reads_page c ≡ true →
 too_long_answer (command.Run how) bytes reads long = inl (_, too_long_page _ bytes long, refl)
 too_long_answer command.Check bytes reads long = inl (_, too_long_page _ bytes long, refl)
 too_long_answer command.Schedule bytes reads long = inl (_, too_long_page _ bytes long, refl)
+too_long_answer command.Demand bytes reads long = inl (_, too_long_page _ bytes long, refl)
+too_long_answer (command.Edit how) bytes reads long = inl (_, too_long_page _ bytes long, refl)
 too_long_answer (command.Sample pieces name how) bytes reads long = absurd cc
 
 -- some bytes are longer than this
@@ -164,19 +169,25 @@ pub page_comes : (p : Problem) → MayEndAs (problem_stage p) (Solve p)
 unfolding MayEndAs
 page_comes p = λ a answers. answers
 
+-- a page is asked for that is to be edited
+pub edit_comes : (p : EditedPage) → MayEndAs (solved_anew p.bytes.items) (Edit p)
+unfolding MayEndAs
+edit_comes p = λ a answers. answers
+
 -- the sample that is to be solved
 pub sample_comes : (pieces : ℕ) (name told : List ℕ) (how : Solving) (bytes text : List ℕ) (p : Problem)
     → sample_page_of told pieces ≡ Ok text → told ≡ name → p.bytes.items ≡ text → p.shown ≡ Summary name
-    → MayEndAs (obeyed (command.Sample pieces name how) bytes) (Solve p)
+    → p.evaluation ≡ Scheduled how → MayEndAs (obeyed (command.Sample pieces name how) bytes) (Solve p)
 unfolding MayEndAs
-sample_comes pieces name told how bytes text p is named same shown = λ a answers.
+sample_comes pieces name told how bytes text p is named same shown scheduled = λ a answers.
     inr (
       text,
       sym
           (ap (result_outcome (λ fault. refused 2 words_line))
           (subst (λ (n : List ℕ). sample_page_of n pieces ≡ Ok text) named is)),
       subst (λ (t : List ℕ). solved t (summary_of name) (ends a)) same
-          (subst (λ (what : Shown). solved p.bytes.items (text_shown what) (ends a)) shown answers),
+          (subst (λ (what : Shown). solved p.bytes.items (text_shown what) (ends a)) shown
+          (subst (λ (e : Evaluation). evaluated e p.bytes.items (text_shown p.shown) (ends a)) scheduled answers)),
     )
 
 -- there is no such sample

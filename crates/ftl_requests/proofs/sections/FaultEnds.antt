@@ -1,5 +1,5 @@
 -- What is handed on, and the refusals of faults.
-use Rattle.std.proofs.Common.{◌≡◌, ◌≢◌, refl, sym, ◌∙◌, ap, subst, Option, Some, None, Result, Ok, Err}
+use Rattle.std.proofs.Common.{◌≡◌, ◌≢◌, sym, ap, subst, Option, Some, None, Result, Ok, Err}
 use Rattle.ftl_base.specs.declared.width.Width.{Width}
 use Rattle.ftl_grammar.specs.declared.syntax.rules.Grammar.{Grammar}
 use Rattle.ftl_meaning.specs.faults.Checked.{CheckedGrammar, answer_by}

@@ -1,5 +1,5 @@
 -- What is handed on, and the refusals of faults.
-use Rattle.std.proofs.Common.{◌≡◌, refl, sym, ap, Option, Some, None, Result, Ok, Err}
+use Rattle.std.proofs.Common.{◌≡◌, refl, ap, Option, Some, None, Ok, Err}
 use Rattle.ftl_order.specs.declared.faults.fault.VerifyFault.{VerifyFault}
 use Rattle.ftl_schedule.specs.declared.stages.types.Schedule.{Schedule}
 use Rattle.ftl_schedule.specs.places.Placed.{verdict}

@@ -3,30 +3,41 @@ use Rattle.std.specs.Prelude.{◌+◌, ◌≡◌, ◌⊎◌, ◌<◌, ◌≤◌,
 use Rattle.std.specs.Io.KnownBytes.{Appends}
 use Rattle.ftl_model.specs.layout.Limits.{most_page_bytes}
 use Rattle.ftl_answer.specs.answers.Answer.{Answer, refused}
-use Rattle.ftl_answer.specs.answers.Answers.{solved}
+use Rattle.ftl_answer.specs.answers.Answers.{solved, solved_anew, solved_by_demand}
 use Rattle.ftl_answer.specs.answers.Stages.{Stage, ends}
 use Rattle.ftl_edge.specs.Counts.{RoseBy, raised}
+use Rattle.ftl_meaning.specs.faults.Checked.{CheckedGrammar}
+use Rattle.ftl_model.specs.layout.Tree.{Forest}
+use Rattle.ftl_model.specs.layout.Values.{Value}
 use Rattle.ftl_edge.specs.Sink.{AppendsFront}
 use Rattle.ftl_answer.specs.refusals.PageLines.{too_long_line}
 use Rattle.ftl_requests.specs.sections.Outcomes.{answer_of}
 use Rattle.ftl_requests.specs.declared.sections.decision.Decided.{Decided}
 use Rattle.ftl_requests.specs.requests.ShownTexts.{text_shown}
+use Rattle.ftl_requests.specs.declared.requests.request.Evaluation.{Evaluation}
+use Rattle.ftl_requests.specs.declared.requests.request.Evaluation.TheVariants.{ByDemand, Scheduled}
 use Rattle.ftl_requests.specs.declared.requests.request.Problem.{Problem}
 use Rattle.ftl_requests.specs.declared.requests.request.Request.{Request}
-use Rattle.ftl_requests.specs.declared.requests.request.Request.TheVariants.{Answered, Solve}
+use Rattle.ftl_requests.specs.declared.requests.request.Request.TheVariants.{Answered, Edit, Solve}
 use Rattle.ftl_requests.specs.declared.requests.request.Undone.{Undone}
 use Rattle.ftl_requests.specs.declared.requests.request.Undone.TheVariants.{OutOfMemory, ReadFault}
 
 -- ---- what is asked for
 
+-- what a page comes to whose values are computed so
+abbrev pub evaluated : Evaluation → (bytes : List ℕ) → (CheckedGrammar → Forest → List Value → List ℕ) → Stage ⊥
+evaluated (Scheduled how) = solved
+evaluated ByDemand = solved_by_demand
+
 -- what a page that is to be solved comes to
 abbrev pub problem_stage : Problem → Stage ⊥
-problem_stage p = solved p.bytes.items (text_shown p.shown)
+problem_stage p = evaluated p.evaluation p.bytes.items (text_shown p.shown)
 
 -- the answer to what is asked for
 abbrev pub IsAnswerTo : Request → Answer → Type 0
 IsAnswerTo (Answered d) a = a ≡ answer_of d
 IsAnswerTo (Solve p) a = problem_stage p (ends a)
+IsAnswerTo (Edit p) a = solved_anew p.bytes.items (ends a)
 
 -- the stage may end with any answer to what is asked for
 unfoldable pub MayEndAs : Stage ⊥ → Request → Type 0
@@ -36,6 +47,7 @@ MayEndAs stage q = (a : Answer) → IsAnswerTo q a → stage (ends a)
 abbrev pub IsTooLong : Request → Type 0
 IsTooLong (Answered d) = answer_of d ≡ refused 4 too_long_line
 IsTooLong (Solve p) = ⊥
+IsTooLong (Edit p) = ⊥
 
 -- this is asked for where the stage of these bytes may end with any answer to it; where they were read and are not too
 -- many, so many were taken; where they are too many, as many as a page may have and one more

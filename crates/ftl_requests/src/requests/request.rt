@@ -8,11 +8,28 @@ use crate::sections::Decided;
 use ftl_page::Solving;
 use std::alloc::AllocError;
 
+/// How the values of a tree are computed.
+#[derive(Clone, Copy, Debug, PartialEq, Eq)]
+pub enum Evaluation {
+    /// As the page's schedule says, by so many workers.
+    Scheduled(Solving),
+    /// Each when another one needs it. No schedule plays a part.
+    ByDemand,
+}
+
 /// A page that is to be solved, and what is to be shown of its table.
 #[derive(Drop)]
 pub struct Problem {
     pub shown: Shown,
-    pub how: Solving,
+    pub evaluation: Evaluation,
+    pub bytes: Vec<u8>,
+}
+
+/// A page that is to be solved, edited and solved anew.
+#[derive(Drop)]
+pub struct EditedPage {
+    /// How it is solved before its edits.
+    pub solving: Solving,
     pub bytes: Vec<u8>,
 }
 
@@ -23,6 +40,8 @@ pub enum Request {
     Answered(Decided),
     /// A page is to be solved.
     Solve(Problem),
+    /// A page is to be solved, edited and solved anew.
+    Edit(EditedPage),
 }
 
 /// Why nothing was decided.

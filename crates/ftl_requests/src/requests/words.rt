@@ -11,7 +11,7 @@ ghost use Rattle.ftl_answer.specs.headline.Headline.{words_read};
 ghost use Rattle.ftl_requests.specs.requests.Requests.{MayEndAs, IsAsked, IsTooLong};
 ghost use Rattle.ftl_requests.specs.sections.Outcomes.{answer_of};
 
-use crate::requests::request::{Problem, Request, Undone};
+use crate::requests::request::{EditedPage, Evaluation, Problem, Request, Undone};
 use crate::requests::rules::{RulesOutput, rules_answered};
 use crate::requests::shown::Shown;
 use crate::sections::{Decided, MOST_BYTES, Status};
@@ -81,7 +81,8 @@ fn reads_page(command: &Command) -> bool
     ensures reads { result ≡ reads_page command.now }
 {
     match command {
-        Command::Run(_) | Command::Check | Command::Schedule => true,
+        Command::Run(_) | Command::Check | Command::Schedule | Command::Demand | Command::Edit(_) =>
+            true,
         Command::Sample { .. } => false,
     }
 }
@@ -118,11 +119,17 @@ fn obeyed(alloc: Global, command: Command, bytes: Vec<u8>) -> Result<Request, Al
     match command {
         Command::Run(how) => Ok(Request::Solve(Problem {
             shown: Shown::Boxes,
-            how,
+            evaluation: Evaluation::Scheduled(how),
             bytes,
         })),
         Command::Check => verdict(alloc, bytes.as_slice()),
         Command::Schedule => schedule(alloc, bytes.as_slice()),
+        Command::Demand => Ok(Request::Solve(Problem {
+            shown: Shown::Boxes,
+            evaluation: Evaluation::ByDemand,
+            bytes,
+        })),
+        Command::Edit(solving) => Ok(Request::Edit(EditedPage { solving, bytes })),
         Command::Sample {
             pieces,
             grammar,
@@ -153,7 +160,7 @@ fn sample(alloc: Global, pieces: u32, grammar: Name, how: Solving) -> Result<Req
     match sample_page(alloc, pieces, grammar.text()) {
         Ok(text) => Ok(Request::Solve(Problem {
             shown: Shown::Summary(grammar),
-            how,
+            evaluation: Evaluation::Scheduled(how),
             bytes: text.into_bytes(),
         })),
         Err(SampleFault::OutOfMemory) => Err(AllocError),

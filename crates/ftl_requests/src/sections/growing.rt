@@ -3,33 +3,31 @@
 ghost use Rattle.std.specs.Prelude.{◌≡◌, ◌≤◌, length, None, string_bytes, string_len, IfOk};
 ghost use Rattle.ftl_model.specs.layout.Limits.{most_page_bytes};
 ghost use Rattle.ftl_answer.specs.answers.Answer as answer;
-ghost use Rattle.ftl_answer.specs.answers.Stages.{Then};
-ghost use Rattle.ftl_answer.specs.answers.Texts.{planned_tree, spelled_tree, tokens, tree};
+ghost use Rattle.ftl_answer.specs.answers.Stages.{Is, Then, hands_on};
+ghost use Rattle.ftl_answer.specs.answers.Texts.{grown_tree, spelled_tree, tree};
 ghost use Rattle.ftl_base.specs.Widths.{greatest_of_width};
 ghost use Rattle.ftl_requests.specs.sections.Outcomes.{IsOutcome};
 ghost use Rattle.ftl_requests.specs.sections.RefusalOf.{IsRefusalOf};
 ghost use Rattle.ftl_deps.specs.reads.Meant.{meant};
 ghost use Rattle.ftl_document.specs.declared.faults.fault.DocFault.TheVariants as faults;
-ghost use Rattle.ftl_page.specs.declared.sections.fault.Section.TheVariants as section;
 ghost use Rattle.ftl_limits.specs.faults.PlanFaults.{first_fault};
 ghost use Rattle.ftl_answer.specs.refusals.DocumentLines.{document_line};
 ghost use Rattle.ftl_schedule.specs.stages.Stages.{stages_of};
 
 use crate::sections::decision::{Undecided, refused};
 use crate::sections::limits::within_limits;
-use crate::sections::read::tokens_refused;
+use crate::sections::read::wide_tokens;
 use crate::sections::status::Status;
 use ftl_answer::write_document_fault;
-use ftl_base::Width;
 use ftl_checked::Checked;
 use ftl_document::{DocFault, read_document};
 use ftl_page::Section;
 use ftl_schedule::Accepted;
-use ftl_tokens::{TokenFault, WideScanned, document_tokens};
+use ftl_tokens::WideScanned;
 use ftl_tree::Tree;
 use std::alloc::Global;
 
-/// The tree that the text spells, where no stage reads too much.
+/// The tree that the text spells, where no stage of the schedule reads too much.
 #[inline(never)]
 pub fn tree_of<'a>(
     alloc: Global,
@@ -45,53 +43,42 @@ pub fn tree_of<'a>(
     ensures fits { IfOk result (λ t. first_fault (meant checked.now)
         (stages_of accepted.now.schedule) t.tree ≡ None) }
 {
-    match scanned_document(alloc, checked.width(), text) {
-        Ok(scanned) => tree_of_tokens(alloc, checked, accepted, &scanned),
+    match grown_tree_of(alloc, checked, text) {
+        Ok(tree) => within_limits(alloc, checked, accepted, tree),
         Err(end) => Err(end),
     }
 }
 
-/// The greatest number of a document.
-fn greatest_of(width: Width) -> u64
-    ensures greatest { result ≡ greatest_of_width width }
-{
-    match width {
-        Width::Narrow => 2147483647,
-        Width::Wide => 140737488355327,
-    }
-}
-
-/// The text of a document with its tokens.
-fn scanned_document(alloc: Global, width: Width, text: String) -> Result<WideScanned, Undecided>
+/// The tree that the text spells.
+#[inline(never)]
+pub fn grown_tree_of<'a>(
+    alloc: Global,
+    checked: &'a Checked,
+    text: String,
+) -> Result<Tree<'a>, Undecided>
     requires short { string_len text ≤ most_page_bytes }
-    ensures outcome { IsOutcome
-        (tokens section.Document (greatest_of_width width) (string_bytes text))
-        (λ s. s.tokenized) result }
-    ensures greatest { IfOk result (λ s. s.greatest ≡ greatest_of_width width) }
+    ensures outcome { IsOutcome (grown_tree checked.now (string_bytes text)) (λ t. t.tree) result }
+    ensures grammar { IfOk result (λ t. t.checked ≡ checked.now) }
 {
-    match document_tokens(alloc, text, greatest_of(width)) {
-        Ok(scanned) => Ok(scanned),
-        Err(TokenFault::OutOfMemory) => Err(Undecided::OutOfMemory),
-        Err(fault) => Err(tokens_refused(alloc, Section::Document, fault)),
+    match wide_tokens(alloc, Section::Document, checked.width(), text) {
+        Ok(scanned) => tree_of_tokens(alloc, checked, &scanned),
+        Err(end) => Err(end),
     }
 }
 
-/// The tree that the tokens spell, where no stage reads too much.
+/// The tree that the tokens spell.
 fn tree_of_tokens<'a>(
     alloc: Global,
     checked: &'a Checked,
-    accepted: &Accepted<'_>,
     scanned: &WideScanned,
 ) -> Result<Tree<'a>, Undecided>
     requires greatest { scanned.now.greatest ≡ greatest_of_width checked.now.width }
     ensures outcome { IsOutcome (Then (spelled_tree checked.now scanned.now)
-        (λ t. planned_tree checked.now accepted.now.schedule t.tree)) (λ t. t.tree) result }
+        (λ t. Is (hands_on t.tree))) (λ t. t.tree) result }
     ensures grammar { IfOk result (λ t. t.checked ≡ checked.now) }
-    ensures fits { IfOk result (λ t. first_fault (meant checked.now)
-        (stages_of accepted.now.schedule) t.tree ≡ None) }
 {
     match read_document(alloc, checked, scanned) {
-        Ok(tree) => within_limits(alloc, checked, accepted, tree),
+        Ok(tree) => Ok(tree),
         Err(fault) => Err(document_refused(alloc, checked, &fault)),
     }
 }

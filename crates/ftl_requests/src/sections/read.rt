@@ -4,6 +4,7 @@ ghost use Rattle.std.specs.Prelude.{◌≡◌, ◌≤◌, length, string_bytes, 
 ghost use Rattle.ftl_model.specs.layout.Limits.{most_page_bytes};
 ghost use Rattle.ftl_answer.specs.answers.Answer as answer;
 ghost use Rattle.ftl_answer.specs.answers.Texts.{page, status_of, tokens};
+ghost use Rattle.ftl_base.specs.Widths.{greatest_of_width};
 ghost use Rattle.ftl_page.specs.sections.Texts.{HasTextsUpTo};
 ghost use Rattle.ftl_answer.specs.refusals.PageLines.{page_line, too_long_line};
 ghost use Rattle.ftl_answer.specs.refusals.TextLines.{token_line};
@@ -12,8 +13,9 @@ ghost use Rattle.ftl_requests.specs.sections.Outcomes.{Ends, IsOutcome};
 use crate::sections::decision::{Undecided, refused};
 use crate::sections::status::Status;
 use ftl_answer::{write_page_fault, write_token_fault};
+use ftl_base::Width;
 use ftl_page::{Need, Page, PageFault, Section, split_page};
-use ftl_tokens::{Scanned, TokenFault, tokens};
+use ftl_tokens::{Scanned, TokenFault, WideScanned, document_tokens, tokens};
 use std::alloc::Global;
 
 /// The most bytes of a page.
@@ -85,6 +87,35 @@ pub fn section_tokens(alloc: Global, section: Section, text: String) -> Result<S
     ensures short { IfOk result (λ s. length s.text ≤ most_page_bytes) }
 {
     match tokens(alloc, text) {
+        Ok(scanned) => Ok(scanned),
+        Err(TokenFault::OutOfMemory) => Err(Undecided::OutOfMemory),
+        Err(fault) => Err(tokens_refused(alloc, section, fault)),
+    }
+}
+
+/// The greatest number of a width.
+fn greatest_of(width: Width) -> u64
+    ensures greatest { result ≡ greatest_of_width width }
+{
+    match width {
+        Width::Narrow => 2147483647,
+        Width::Wide => 140737488355327,
+    }
+}
+
+/// The text of a section with its tokens, whose numbers are those of a width.
+pub fn wide_tokens(
+    alloc: Global,
+    section: Section,
+    width: Width,
+    text: String,
+) -> Result<WideScanned, Undecided>
+    requires short { string_len text ≤ most_page_bytes }
+    ensures outcome { IsOutcome (tokens section (greatest_of_width width) (string_bytes text))
+        (λ s. s.tokenized) result }
+    ensures greatest { IfOk result (λ s. s.greatest ≡ greatest_of_width width) }
+{
+    match document_tokens(alloc, text, greatest_of(width)) {
         Ok(scanned) => Ok(scanned),
         Err(TokenFault::OutOfMemory) => Err(Undecided::OutOfMemory),
         Err(fault) => Err(tokens_refused(alloc, section, fault)),

@@ -13,7 +13,7 @@ use Rattle.ftl_requests.specs.sections.Outcomes.{answer_of}
 use Rattle.ftl_requests.specs.declared.sections.decision.Decided.{Decided}
 use Rattle.ftl_requests.specs.requests.Requests.{MayEndAs, IsAnswerTo, IsAnsweredBy, IsAsked, IsTooLong, IsWritten}
 use Rattle.ftl_requests.specs.declared.requests.request.Request.{Request}
-use Rattle.ftl_requests.specs.declared.requests.request.Request.TheVariants.{Answered, Solve}
+use Rattle.ftl_requests.specs.declared.requests.request.Request.TheVariants.{Answered, Edit, Solve}
 use Rattle.ftl_requests.specs.declared.requests.request.Undone.{Undone}
 use Rattle.ftl_requests.specs.declared.requests.request.Undone.TheVariants.{OutOfMemory, ReadFault}
 
@@ -30,6 +30,7 @@ are_those (Some bytes) = refl
 not_long : (r : Request) (a : Answer) → IsAnswerTo r a → a ≢ refused 4 too_long_line → IsTooLong r → ⊥
 not_long (Answered d) a is other long = other (is ∙ long)
 not_long (Solve p) a is other long = long
+not_long (Edit p) a is other long = long
 
 -- the laws that are asked for
 abbrev pub HaveStatuses : Type 0

@@ -12,7 +12,7 @@ use Rattle.ftl_items.specs.solution.Solution.{SolutionSolves, solution}
 use Rattle.ftl_plan.specs.laws.StageMeanings.{CanBePlanned}
 use Rattle.ftl_plan.proofs.laws.InRange.{in_range}
 use Rattle.ftl_tree.specs.trees.CheckedTree.{CheckedTree}
-use Rattle.ftl_run.specs.calls.ShownTables.{IsSolvedBy}
+use Rattle.ftl_demand.specs.demand.Solved.{IsSolvedBy}
 
 solved_here : (t : CheckedTree) (s : Schedule) → CanBePlanned (meant t.checked) s t.tree
     → UnderOrderedSchedules SolutionSolves → OfLawful TablesAreInRange → ReadsEndByRank

@@ -1,12 +1,10 @@
--- What is shown of a tree whose values are given by instance, and which words are those of values that solve it.
-use Rattle.std.specs.Prelude.{ℕ, ◌<◌, List, length, slice_index_or}
+-- What is shown of a tree whose values are given by instance.
+use Rattle.std.specs.Prelude.{ℕ, List}
 use Rattle.ftl_deps.specs.reads.Meant.{meant}
-use Rattle.ftl_items.specs.stage_items.WordLaws.{HoldTheSolution}
 use Rattle.ftl_meaning.specs.grammars.GrammarOf.{names_of}
 use Rattle.ftl_model.specs.layout.Boxes.{boxes}
 use Rattle.ftl_model.specs.layout.Solves.{Instance}
-use Rattle.ftl_model.specs.layout.Table.{SolvesList}
-use Rattle.ftl_model.specs.layout.Values.{IsValue, Value, overflow}
+use Rattle.ftl_model.specs.layout.Values.{Value}
 use Rattle.ftl_tree.specs.trees.CheckedTree.{CheckedTree}
 use Rattle.ftl_answer.specs.answers.Summary.{summary}
 use Rattle.ftl_requests.specs.declared.requests.shown.Shown.{Shown}
@@ -16,10 +14,3 @@ use Rattle.ftl_requests.specs.declared.requests.shown.Shown.TheVariants as shown
 abbrev pub text_by : Shown → CheckedTree → (Instance → Value) → List ℕ
 text_by shown.Boxes t s = boxes (names_of t.checked.grammar) t.tree s
 text_by (shown.Summary name) t s = summary name (meant t.checked) (names_of t.checked.grammar) t.tree s
-
--- the words are those of values that solve the tree
-pub record IsSolvedBy (t : CheckedTree) (words : List ℕ) : Type 0 where
-  pub values : List Value
-  pub solves : SolvesList (meant t.checked) t.tree values
-  pub in_range : (i : ℕ) → i < length values → IsValue (slice_index_or values i overflow)
-  pub held : HoldTheSolution values words

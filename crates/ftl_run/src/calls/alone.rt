@@ -2,26 +2,40 @@
 
 ghost use Rattle.std.specs.Prelude.{◌≡◌, ◌≤◌, None, string_bytes, string_len, IfOk};
 ghost use Rattle.ftl_model.specs.layout.Limits.{most_page_bytes};
-ghost use Rattle.ftl_answer.specs.answers.Answers.{shown_by};
+ghost use Rattle.ftl_answer.specs.answers.Answers.{edited_by, shown_by, solved, solved_anew};
+ghost use Rattle.ftl_answer.specs.answers.Stages.{ends};
+ghost use Rattle.ftl_edits.specs.meaning.Editable.{AreEditsOf};
 ghost use Rattle.ftl_deps.specs.reads.Meant.{meant};
 ghost use Rattle.ftl_limits.specs.faults.PlanFaults.{first_fault};
 ghost use Rattle.ftl_requests.specs.requests.RulesAnswers.{EndsIn};
 ghost use Rattle.ftl_requests.specs.requests.Requests.{IsAnsweredBy, problem_stage};
 ghost use Rattle.ftl_requests.specs.requests.ShownTexts.{text_shown};
-ghost use Rattle.ftl_run.specs.calls.ShownTables.{IsSolvedBy};
-ghost use Rattle.ftl_run.specs.calls.SolvedPages.{AreReady, document_stage, rules_stage};
+ghost use Rattle.ftl_demand.specs.demand.Solved.{IsSolvedBy};
+ghost use Rattle.ftl_requests.specs.sections.Outcomes.{answer_of};
+ghost use Rattle.ftl_run.specs.calls.SolvedPages.{AreReady, IsShort, IsTaskReady, document_stage};
+ghost use Rattle.ftl_run.specs.calls.SolvedPages.{rules_stage, task_stage};
+ghost use Rattle.ftl_run.specs.declared.calls.task.Task.TheVariants.{Edit};
+ghost use Rattle.ftl_visit.specs.compiled.RuleCode.{rule_codes};
 ghost use Rattle.ftl_schedule.specs.stages.Stages.{stages_of};
 
+use crate::calls::change::edited_shown;
+use crate::calls::demand::page_by_demand;
 use crate::calls::shown::table_shown;
-use crate::calls::solving::{Rules, is_solved, plan_of, rules_of, text_of};
+use crate::calls::solving::{
+    EDITED_PAGE, PageRead, Rules, WHOLE_PAGE, is_solved, plan_of, rules_of, text_of,
+};
+use crate::calls::task::Task;
 use ftl_checked::Checked;
+use ftl_edits::EditList;
+use ftl_page::Text;
 use ftl_plan::solve_alone;
 use ftl_requests::{
-    Decided, Problem, Request, Shown, Undecided, Undone, ended, schedule_of, tree_of,
+    Decided, EditedPage, Evaluation, Problem, Request, Shown, Undecided, Undone, edits_of, ended,
+    schedule_of, tree_of,
 };
 use ftl_schedule::Accepted;
 use ftl_tree::Tree;
-use ftl_visit::compile;
+use ftl_visit::{Programs, compile};
 use std::alloc::{AllocError, Global};
 
 /// The answer to what is asked for, found on the calling thread.
@@ -34,6 +48,7 @@ pub(crate) fn answered_alone(
     match requested? {
         Request::Answered(decided) => Ok(decided),
         Request::Solve(problem) => Ok(ended(solved_alone(alloc, problem))?),
+        Request::Edit(page) => Ok(ended(edited_alone(alloc, page))?),
     }
 }
 
@@ -41,21 +56,53 @@ pub(crate) fn answered_alone(
 fn solved_alone(alloc: Global, problem: Problem) -> Result<Decided, Undecided>
     ensures outcome { EndsIn (problem_stage problem) result }
 {
-    let Problem { shown, how, bytes } = problem;
-    match rules_of(alloc, bytes) {
-        Ok(rules) => solved_rules(alloc, &shown, how.grain, rules),
+    let Problem {
+        shown,
+        evaluation,
+        bytes,
+    } = problem;
+    match evaluation {
+        Evaluation::Scheduled(how) => solved_page(alloc, shown, how.grain, bytes),
+        Evaluation::ByDemand => page_by_demand(alloc, &shown, bytes),
+    }
+}
+
+/// The table of a page whose schedule says how it is solved.
+fn solved_page(
+    alloc: Global,
+    shown: Shown,
+    grain: u32,
+    bytes: Vec<u8>,
+) -> Result<Decided, Undecided>
+    ensures outcome { EndsIn (solved bytes.items (text_shown shown)) result }
+{
+    match rules_of(alloc, bytes, WHOLE_PAGE) {
+        Ok(page) => {
+            let PageRead { rules, edits: _ } = page;
+            solved_rules(alloc, Task::Show(shown), grain, rules)
+        }
         Err(end) => Err(end),
     }
 }
 
-fn solved_rules(
-    alloc: Global,
-    shown: &Shown,
-    grain: u32,
-    rules: Rules,
-) -> Result<Decided, Undecided>
+/// The table of a page after its edits, shown, or the page's refusal.
+fn edited_alone(alloc: Global, page: EditedPage) -> Result<Decided, Undecided>
+    ensures outcome { EndsIn (solved_anew page.bytes.items) result }
+{
+    let EditedPage { solving, bytes } = page;
+    match rules_of(alloc, bytes, EDITED_PAGE) {
+        Ok(page) => {
+            let PageRead { rules, edits } = page;
+            solved_rules(alloc, Task::Edit(edits), solving.grain, rules)
+        }
+        Err(end) => Err(end),
+    }
+}
+
+fn solved_rules(alloc: Global, task: Task, grain: u32, rules: Rules) -> Result<Decided, Undecided>
     requires ready { AreReady rules }
-    ensures outcome { EndsIn (rules_stage rules (text_shown shown.now)) result }
+    requires edits { IsTaskReady task }
+    ensures outcome { EndsIn (rules_stage rules task) result }
 {
     let Rules {
         checked,
@@ -64,46 +111,114 @@ fn solved_rules(
     } = rules;
     let document = text_of(alloc, document);
     match schedule_of(alloc, &checked, schedule) {
-        Ok(accepted) => solved_document(alloc, shown, grain, &checked, &accepted, document),
+        Ok(accepted) => solved_document(alloc, task, grain, &checked, &accepted, document),
         Err(end) => Err(end),
     }
 }
 
 fn solved_document(
     alloc: Global,
-    shown: &Shown,
+    task: Task,
     grain: u32,
     checked: &Checked,
     accepted: &Accepted<'_>,
     document: String,
 ) -> Result<Decided, Undecided>
     requires accepted { accepted.now.checked ≡ checked.now }
+    requires edits { IsTaskReady task }
     requires short { string_len document ≤ most_page_bytes }
     ensures outcome { EndsIn (document_stage checked.now accepted.now.schedule
-        (string_bytes document) (text_shown shown.now)) result }
+        (string_bytes document) task) result }
 {
     match tree_of(alloc, checked, accepted, document) {
-        Ok(tree) => solved_tree(alloc, shown, grain, checked, accepted, &tree),
+        Ok(tree) => solved_tree(alloc, task, grain, checked, accepted, tree),
         Err(end) => Err(end),
     }
 }
 
 fn solved_tree(
     alloc: Global,
+    task: Task,
+    grain: u32,
+    checked: &Checked,
+    accepted: &Accepted<'_>,
+    tree: Tree<'_>,
+) -> Result<Decided, Undecided>
+    requires accepted { accepted.now.checked ≡ checked.now }
+    requires edits { IsTaskReady task }
+    requires grammar { tree.checked ≡ checked.now }
+    requires fits { first_fault (meant checked.now) (stages_of accepted.now.schedule) tree.tree
+        ≡ None }
+    ensures outcome { EndsIn (task_stage task checked.now tree.entry.tree) result }
+{
+    match task {
+        Task::Show(shown) => Ok(tree_shown(alloc, &shown, grain, checked, accepted, &tree)?),
+        Task::Edit(edits) => edited_tree(alloc, edits, grain, checked, accepted, tree),
+    }
+}
+
+/// The table of a tree, shown.
+fn tree_shown(
+    alloc: Global,
     shown: &Shown,
     grain: u32,
     checked: &Checked,
     accepted: &Accepted<'_>,
     tree: &Tree<'_>,
-) -> Result<Decided, Undecided>
+) -> Result<Decided, AllocError>
     requires accepted { accepted.now.checked ≡ checked.now }
     requires grammar { tree.now.checked ≡ checked.now }
     requires fits { first_fault (meant checked.now) (stages_of accepted.now.schedule) tree.now.tree
         ≡ None }
-    ensures outcome { EndsIn (shown_by (text_shown shown.now) checked.now tree.now.tree) result }
+    ensures outcome { IfOk result (λ d. shown_by (text_shown shown.now) tree.now.checked
+        tree.now.tree (ends (answer_of d))) }
 {
-    let words = words_alone(alloc, grain, checked, accepted, tree)?;
-    Ok(table_shown(alloc, shown, tree, words.as_slice())?)
+    let programs = compile(alloc, checked)?;
+    let words = words_alone(alloc, grain, checked, accepted, &programs, tree)?;
+    table_shown(alloc, shown, tree, words.as_slice())
+}
+
+/// The table of a tree after its edits, shown, or the refusal of the edits.
+fn edited_tree(
+    alloc: Global,
+    text: Option<Text>,
+    grain: u32,
+    checked: &Checked,
+    accepted: &Accepted<'_>,
+    tree: Tree<'_>,
+) -> Result<Decided, Undecided>
+    requires accepted { accepted.now.checked ≡ checked.now }
+    requires short { IsShort text }
+    requires grammar { tree.checked ≡ checked.now }
+    requires fits { first_fault (meant checked.now) (stages_of accepted.now.schedule) tree.tree
+        ≡ None }
+    ensures outcome { EndsIn (task_stage (Edit text) checked.now tree.entry.tree) result }
+{
+    match edits_of(alloc, checked, &tree, text_of(alloc, text)) {
+        Ok(edits) => Ok(changed_tree(alloc, &edits, grain, checked, accepted, tree)?),
+        Err(end) => Err(end),
+    }
+}
+
+fn changed_tree(
+    alloc: Global,
+    edits: &EditList,
+    grain: u32,
+    checked: &Checked,
+    accepted: &Accepted<'_>,
+    tree: Tree<'_>,
+) -> Result<Decided, AllocError>
+    requires accepted { accepted.now.checked ≡ checked.now }
+    requires edits { AreEditsOf tree edits.now }
+    requires grammar { tree.checked ≡ checked.now }
+    requires fits { first_fault (meant checked.now) (stages_of accepted.now.schedule) tree.tree
+        ≡ None }
+    ensures outcome { IfOk result (λ d. edited_by tree.entry.checked tree.entry.tree edits.now
+        (ends (answer_of d))) }
+{
+    let programs = compile(alloc, checked)?;
+    let words = words_alone(alloc, grain, checked, accepted, &programs, &tree)?;
+    edited_shown(alloc, checked, accepted, &programs, tree, words, edits)
 }
 
 /// The words of the values that solve a tree.
@@ -112,16 +227,18 @@ fn words_alone(
     grain: u32,
     checked: &Checked,
     accepted: &Accepted<'_>,
+    programs: &Programs,
     tree: &Tree<'_>,
 ) -> Result<Vec<u64>, AllocError>
     requires accepted { accepted.now.checked ≡ checked.now }
+    requires rules { programs.now.rules ≡ rule_codes checked.now.grammar }
+    requires width { programs.now.width ≡ checked.now.width }
     requires grammar { tree.now.checked ≡ checked.now }
     requires fits { first_fault (meant checked.now) (stages_of accepted.now.schedule) tree.now.tree
         ≡ None }
     ensures solved { IfOk result (λ v. IsSolvedBy tree.now v.items) }
 {
-    let programs = compile(alloc, checked)?;
-    let plan = plan_of(alloc, grain, checked, accepted, &programs, tree)?;
+    let plan = plan_of(alloc, grain, checked, accepted, programs, tree)?;
     let words = solve_alone(alloc, &plan)?;
     is_solved(&plan, tree, words.as_slice());
     Ok(words)

@@ -14,15 +14,19 @@ use std::thread::Threads;
 
 /// Does what the words say with the page that the source has left, and writes the boxes, the text
 /// that is asked for, or the one refusal line to the sink. A page is solved stage by stage, each by
-/// as many workers as the words say, or as it has items where these are fewer; with one worker no
-/// thread is started, and the gate is not called. All memory is taken before the first write.
+/// as many workers as the words say, or as it has items where these are fewer; with one worker, and
+/// by demand, no thread is started, and the gate is not called. All memory is taken before the
+/// first write.
 ///
 /// For every page, number of workers and grain: where its grammar, schedule and document are
 /// accepted, exactly one table gives each attribute of each node the value of its rule, and the
 /// bytes written are that table's boxes in preorder, with values out of range as `overflow`;
 /// otherwise they are the one refusal line that the definitions name. This speaks of the command
-/// `run`, of a source and a sink that don't fail, of enough memory, and of a call that returns:
-/// `the_headline` of `ftl_answer` proves it from the four clauses.
+/// `run`, of a source and a sink that don't fail, of enough memory, and of a call that returns; the
+/// same holds of `demand` and pages whose grammar is accepted and noncircular and whose document is
+/// accepted. Of `edit` the bytes are the boxes of the one table of the tree that the edits make of
+/// the document's, and the number of instances that they touched. `the_headline` of `ftl_answer`
+/// proves it from the four clauses.
 pub fn layout_top<R: Threads + Wait + Sync, S: Source, K: Sink, G: Gate>(
     rt: &R,
     alloc: Global,

@@ -1,16 +1,17 @@
 //! Tables, shown.
 
-ghost use Rattle.std.specs.Prelude.{◌≡◌, length, IfOk, if◌then◌else◌};
-ghost use Rattle.ftl_answer.specs.answers.Answers.{shown_by};
+ghost use Rattle.std.specs.Prelude.{◌≡◌, length, map, IfOk, if◌then◌else◌};
+ghost use Rattle.ftl_answer.specs.answers.Answers.{boxes_and_touched, shown_answer, shown_by};
 ghost use Rattle.ftl_answer.specs.answers.Stages.{ends};
-ghost use Rattle.ftl_tree.specs.boxes.WordValues.{table_of_words};
+ghost use Rattle.ftl_tree.specs.boxes.WordValues.{table_of_words, value_of_word};
 ghost use Rattle.ftl_deps.specs.reads.Meant.{meant};
 ghost use Rattle.ftl_model.specs.layout.Table.{instance_count};
 ghost use Rattle.ftl_requests.specs.sections.Outcomes.{answer_of};
 ghost use Rattle.ftl_requests.specs.requests.ShownTexts.{text_shown};
-ghost use Rattle.ftl_run.specs.calls.ShownTables.{IsSolvedBy, text_by};
+ghost use Rattle.ftl_demand.specs.demand.Solved.{IsSolvedBy};
+ghost use Rattle.ftl_run.specs.calls.ShownTables.{text_by};
 
-use ftl_answer::print_summary;
+use ftl_answer::{print_summary, write_touched};
 use ftl_requests::{Decided, Shown, Status};
 use ftl_tree::{Tree, print_boxes, shows_overflow, words_are_undone};
 use std::alloc::{AllocError, Global};
@@ -30,6 +31,24 @@ pub(crate) fn table_shown(
     words_are_undone();
     let status = status_by(shows_overflow(alloc, tree, words)?);
     let text = text_of(alloc, shown, tree, words)?;
+    Ok(Decided { status, text })
+}
+
+/// The table of these words, shown with the number of instances that edits touched.
+#[inline(never)]
+pub(crate) fn change_shown(
+    alloc: Global,
+    tree: &Tree<'_>,
+    words: &[u64],
+    touched: u64,
+) -> Result<Decided, AllocError>
+    requires words { length words.now ≡ instance_count (meant tree.now.checked) tree.now.tree }
+    ensures outcome { IfOk result (λ d. answer_of d ≡ shown_answer (boxes_and_touched touched)
+        tree.now.checked tree.now.tree (map value_of_word words.now)) }
+{
+    let status = status_by(shows_overflow(alloc, tree, words)?);
+    let mut text = print_boxes(alloc, tree, words)?;
+    write_touched(&mut text, touched)?;
     Ok(Decided { status, text })
 }
 

@@ -2,15 +2,15 @@
 
 ghost use Rattle.std.specs.Prelude.{◌≡◌, ◌≤◌, length, None, string_bytes, string_len, IfOk, IfSome};
 ghost use Rattle.ftl_model.specs.layout.Limits.{most_page_bytes};
-ghost use Rattle.ftl_answer.specs.answers.Answers.{text_or_none, whole_page};
+ghost use Rattle.ftl_answer.specs.answers.Answers.{text_or_none};
 ghost use Rattle.ftl_answer.specs.answers.Texts.{page, tree};
 ghost use Rattle.ftl_deps.specs.reads.Meant.{meant};
 ghost use Rattle.ftl_items.specs.stage_items.WordLaws.{HoldTheSolution};
 ghost use Rattle.ftl_page.specs.sections.Texts.{HasTextsUpTo};
 ghost use Rattle.ftl_visit.specs.compiled.RuleCode.{rule_codes};
 ghost use Rattle.ftl_limits.specs.faults.PlanFaults.{first_fault};
-ghost use Rattle.ftl_run.specs.calls.ShownTables.{IsSolvedBy};
-ghost use Rattle.ftl_run.specs.calls.SolvedPages.{AreReady, LeadsTo};
+ghost use Rattle.ftl_demand.specs.demand.Solved.{IsSolvedBy};
+ghost use Rattle.ftl_run.specs.calls.SolvedPages.{IsPageReady, LeadsTo};
 ghost use Rattle.ftl_requests.specs.sections.Outcomes.{IsOutcome};
 ghost use Rattle.ftl_items.specs.solution.Solution.{solution};
 ghost use Rattle.ftl_schedule.specs.stages.Stages.{stages_of};
@@ -26,11 +26,18 @@ use ftl_tree::Tree;
 use ftl_visit::Programs;
 use std::alloc::{AllocError, Global};
 
-/// The sections that are needed.
-const WHOLE_PAGE: Need = Need {
+/// The sections that are needed of a page that is solved.
+pub(crate) const WHOLE_PAGE: Need = Need {
     schedule: true,
     document: true,
     edits: false,
+};
+
+/// The sections that are needed of a page that is edited, too.
+pub(crate) const EDITED_PAGE: Need = Need {
+    schedule: true,
+    document: true,
+    edits: true,
 };
 
 /// The grammar of a page, and the texts of its schedule and its document.
@@ -41,33 +48,41 @@ pub(crate) struct Rules {
     pub document: Option<Text>,
 }
 
-/// The grammar of a page, or the page's refusal. The page's bytes are let go as soon as its
-/// sections are there.
-pub(crate) fn rules_of(alloc: Global, bytes: Vec<u8>) -> Result<Rules, Undecided>
-    ensures outcome { LeadsTo bytes.items result }
-    ensures ready { IfOk result AreReady }
+/// The same, and the text of its edits.
+#[derive(Drop)]
+pub(crate) struct PageRead {
+    pub rules: Rules,
+    pub edits: Option<Text>,
+}
+
+/// The grammar and the texts of a page, or the page's refusal. The page's bytes are let go as soon
+/// as its sections are there.
+pub(crate) fn rules_of(alloc: Global, bytes: Vec<u8>, need: Need) -> Result<PageRead, Undecided>
+    ensures outcome { LeadsTo need bytes.items result }
+    ensures ready { IfOk result IsPageReady }
 {
     let Page {
         width,
         grammar,
         schedule,
         document,
-        edits: _,
-    } = page_of(alloc, bytes)?;
+        edits,
+    } = page_of(alloc, bytes, need)?;
     let checked = grammar_of(alloc, width, grammar)?;
-    Ok(Rules {
+    let rules = Rules {
         checked,
         schedule,
         document,
-    })
+    };
+    Ok(PageRead { rules, edits })
 }
 
-/// The sections of a page, whose bytes are let go.
-fn page_of(alloc: Global, bytes: Vec<u8>) -> Result<Page, Undecided>
-    ensures outcome { IsOutcome (page whole_page bytes.items) (λ p. p) result }
+/// The sections of a page that are needed. The page's bytes are let go.
+pub(crate) fn page_of(alloc: Global, bytes: Vec<u8>, need: Need) -> Result<Page, Undecided>
+    ensures outcome { IsOutcome (page need bytes.items) (λ p. p) result }
     ensures short { IfOk result (HasTextsUpTo most_page_bytes) }
 {
-    read_page(alloc, bytes.as_slice(), WHOLE_PAGE)
+    read_page(alloc, bytes.as_slice(), need)
 }
 
 /// The text of a section; empty where there is none.

@@ -9,8 +9,8 @@ ghost use Rattle.ftl_cells.specs.declared.work_phases.phase.Phases.{Phases};
 
 use ftl_cells::{Cells, Phases, Work};
 use ftl_edge::Gate;
+use ftl_lots::run_lots;
 use ftl_plan::{Plan, solve_alone};
-use ftl_ranges::run_ranges;
 use ftl_steal::{run_alone, run_stage};
 use std::alloc::{AllocError, Global};
 use std::sync::Wait;
@@ -36,24 +36,41 @@ pub fn solve<R: Threads + Wait + Sync, G: Gate>(
     }
     plan.words_fit();
     let mut words = plan.first_words(alloc)?;
+    let mut parts = Vec::new(alloc);
     for stage in 0..plan.stage_count() {
         let work = plan.stage(stage);
-        let ranges = workers.min(work.items().max(1));
-        let phases = work.phases(alloc, ranges)?;
-        words = words_after(rt, alloc, work, phases, words, workers, gate)?;
+        let lots = lot_count(work.cells(), workers);
+        let phases = work.phases(alloc, lots)?;
+        words = words_after(rt, alloc, work, phases, words, &mut parts, workers, gate)?;
     }
     Ok(words)
 }
 
+// So many lots for each worker, so that those who are done early find more to take.
+const LOTS_EACH: u32 = 8;
+
+// A lot of fewer cells costs more to take than it helps.
+const FEWEST_CELLS: u32 = 4096;
+
+/// Into how many lots so many cells are cut: one for each worker at least.
+fn lot_count(cells: u32, workers: u32) -> u32
+    requires some { 0 < workers }
+    requires few { workers ≤ 64 }
+    ensures some { 0 < result }
+{
+    (LOTS_EACH * workers).min(cells / FEWEST_CELLS).max(workers)
+}
+
 /// The words after a work, from those that fit it. An item by itself is computed by the calling
-/// thread on the words as they are. Where the items have phases, each worker fills a range of the
-/// cells in place; elsewhere workers share the cells and take items from each other.
+/// thread on the words as they are. Elsewhere workers share cells and take items from each other:
+/// those of the work, or where the items have phases lots of them, which are filled in `parts`.
 fn words_after<R: Threads + Wait + Sync, W: Work + Drop, G: Gate>(
     rt: &R,
     alloc: Global,
     work: W,
     phases: Option<Phases>,
     words: Vec<u64>,
+    parts: &mut Vec<Vec<u64>>,
     workers: u32,
     gate: &G,
 ) -> Result<Vec<u64>, AllocError>
@@ -67,7 +84,7 @@ fn words_after<R: Threads + Wait + Sync, W: Work + Drop, G: Gate>(
         return run_alone(alloc, &work, words);
     }
     if let Some(phases) = phases {
-        return run_ranges(rt, alloc, &work, &phases, words, gate);
+        return run_lots(rt, alloc, &work, &phases, words, parts, workers, gate);
     }
     let (cells, hand) = Cells::open(alloc, work, words)?;
     let hand = run_stage(rt, alloc, &cells, hand, workers, gate)?;

@@ -1,9 +1,10 @@
 //! The code of all rules.
-ghost use Rattle.std.specs.Prelude.{◌≡◌, ◌≤◌, IfSome, slice_get};
+ghost use Rattle.std.specs.Prelude.{◌≡◌, ◌≤◌, ℕ, IfSome, slice_get};
 ghost use Rattle.std.specs.Option.{option_and_then, option_map};
 ghost use Rattle.ftl_visit.specs.rule_code.Depth.{depth_of, Stands};
 ghost use Rattle.ftl_visit.specs.compiled.Pieces.{IsBuilt, IsRunnable, codes_in, piece, range_of};
 ghost use Rattle.ftl_visit.specs.compiled.RuleCode.{code_at, part_code, read_count};
+ghost use Rattle.ftl_visit.specs.declared.compiled.part.Part.{Part as PartOfRule};
 
 use crate::compiled::built::Built;
 use crate::compiled::part::Part;
@@ -58,9 +59,22 @@ impl Programs {
     /// A room that is enough for the code of each part.
     pub fn max_stack(&self) -> u32
         ensures room { result ≡ self.now.max_stack }
+        ensures enough { (rule : ℕ) (part : PartOfRule) → IfSome (code_at self.now rule part)
+            (λ code. depth_of code ≤ result) }
     {
-        self.built.max_stack
+        room_of(&self.built)
     }
+}
+
+/// The room that is enough for the code of each part.
+fn room_of(built: &Built) -> u32
+    requires built { IsBuilt built.now }
+    ensures room { result ≡ built.now.max_stack }
+    ensures enough { (rule : ℕ) (part : PartOfRule) → IfSome
+        (option_and_then (part_code part) (slice_get (codes_in built.now) rule))
+        (λ code. depth_of code ≤ result) }
+{
+    built.max_stack
 }
 
 /// Where the code of a part of a rule lies.

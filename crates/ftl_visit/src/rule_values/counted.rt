@@ -1,11 +1,12 @@
 //! Running rule code, and how often it was run.
-ghost use Rattle.std.specs.Prelude.{◌≡◌, ◌≤◌, ◌+◌, [], length, min, IfSome};
+ghost use Rattle.std.specs.Prelude.{◌≡◌, ◌≤◌, ◌+◌, ℕ, [], length, min, IfSome};
 ghost use Rattle.std.specs.Option.{IsSome};
 ghost use Rattle.ftl_base.specs.Widths.{greatest_of_width};
 ghost use Rattle.ftl_visit.specs.rule_code.Depth.{depth_of};
 ghost use Rattle.ftl_visit.specs.rule_code.Machine.{Computes};
 ghost use Rattle.ftl_model.specs.layout.Values.{Value};
 ghost use Rattle.ftl_visit.specs.compiled.RuleCode.{code_at, read_count};
+ghost use Rattle.ftl_visit.specs.declared.compiled.part.Part.{Part as PartOfRule};
 
 use crate::compiled::{Part, Programs, run_code};
 use ftl_base::{CodeStack, Val};
@@ -35,6 +36,16 @@ impl<'a> Runner<'a> {
         Runner { programs, runs: 0 }
     }
 
+    /// The same code, as often run so far; the two count on their own.
+    pub fn copied(&self) -> Runner<'a>
+        ensures same { result ≡ self.now }
+    {
+        Runner {
+            programs: self.programs,
+            runs: self.runs,
+        }
+    }
+
     /// How often code was run; it ends at the greatest number of 64 bits.
     pub fn runs(&self) -> u64
         ensures runs { result ≡ self.now.runs }
@@ -45,6 +56,8 @@ impl<'a> Runner<'a> {
     /// A room that is enough for the code of each part.
     pub fn max_stack(&self) -> u32
         ensures room { result ≡ self.now.programs.max_stack }
+        ensures enough { (rule : ℕ) (part : PartOfRule) → IfSome (code_at self.now.programs rule part)
+            (λ code. depth_of code ≤ result) }
     {
         self.programs.max_stack()
     }

@@ -5,12 +5,12 @@ use Rattle.ftl_answer.proofs.headline.promises.what_is_written.Goals as goal
 
 pub returns : goal.returns
 returns c = record {
-  answer = writes_the_answer;
-  completed = completes_commands;
+  answer = writes_the_answer c.one_answer.ensures.one;
+  completed = completes_commands c.one_answer.ensures.one;
   some = writes_some_answer;
-  status = ends_as_answered;
-  text = status_means_the_whole_text;
-  front = writes_a_front;
+  status = ends_as_answered c.one_answer.ensures.one;
+  text = status_means_the_whole_text c.one_answer.ensures.one;
+  front = writes_a_front c.one_answer.ensures.one;
   write_fault = write_faults_have_causes;
   read_fault = stops_at_a_read_fault;
   want = stops_without_memory;

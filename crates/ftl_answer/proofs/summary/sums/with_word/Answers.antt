@@ -1,4 +1,4 @@
-use Rattle.std.proofs.Common.{rules, List, [], ◌∷◌, ◌++◌, sym, ◌∙◌, ap, subst, FitsSigned, w64}
+use Rattle.std.proofs.Common.{rules, [], ◌∷◌, ◌++◌, sym, ◌∙◌, ap, subst, FitsSigned, w64}
 use Rattle.std.proofs.lemmas.Int.{to_z-of_z}
 use Rattle.ftl_model.specs.layout.Values.{Value, number}
 use Rattle.ftl_answer.specs.summary.Summed.{AreSumsOf}

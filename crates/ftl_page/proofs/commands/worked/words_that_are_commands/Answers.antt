@@ -11,6 +11,10 @@ returns c = record {
   dashes = worked.is_dashes;
   check = worked.is_check;
   schedule = worked.is_schedule;
+  demand = worked.is_demand;
+  dashes_of_demand = worked.is_dashes_of_demand;
+  edit = worked.is_edit;
+  workers_of_edit = worked.is_workers_of_edit;
   sample = worked.is_sample;
   sample_of = worked.is_sample_of;
 }

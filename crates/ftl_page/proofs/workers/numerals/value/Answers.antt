@@ -1,4 +1,4 @@
-use Rattle.std.proofs.Common.{◌≡◌, ◌<◌, ◌≤◌, ◌&&◌, Bool, true, false, length, nat_le, nat_lt, Ok, refl, sym, subst, arith}
+use Rattle.std.proofs.Common.{◌≡◌, Ok, refl, sym, subst, arith}
 use Rattle.std.specs.Prelude.{IsOk}
 use Rattle.std.specs.Str.Parse.{digits_value}
 use Rattle.std.proofs.lemmas.Str.Parse.{digits_value_short, parse_gives}

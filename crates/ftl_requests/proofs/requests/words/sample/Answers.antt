@@ -7,7 +7,7 @@ returns-in-Ok c = record {
   comes =
       λ bytes.
       sample_comes c.args.pieces c.args.grammar c.text.result.now c.args.how bytes _ _ c.in-Ok.ensures.text
-      c.text.ensures.text (ap (λ v. v.items) c.into_bytes.ensures.value) refl;
+      c.text.ensures.text (ap (λ v. v.items) c.into_bytes.ensures.value) refl refl;
 }
 
 pub returns : goal.returns

@@ -1,11 +1,17 @@
-use Rattle.ftl_run.proofs.calls.Leading.{rules_end, solved_rules}
+use Rattle.ftl_requests.specs.declared.requests.request.Evaluation.TheVariants.{ByDemand, Scheduled}
+use Rattle.ftl_run.proofs.calls.Leading.{as_evaluated}
 use Rattle.ftl_run.proofs.calls.alone.solved_alone.Goals as goal
 
-pub returns-in-Ok : goal.returns-in-Ok
-returns-in-Ok c = record {
+pub returns-in-Scheduled : goal.returns-in-Scheduled
+returns-in-Scheduled c = record {
   outcome =
-      solved_rules c.args.problem c.in-Ok.rules c.solved_rules.result c.in-Ok.ensures.outcome c.solved_rules.ensures.outcome;
+      as_evaluated c.args.problem (Scheduled c.in-Scheduled.how) c.solved_page.result c.in-Scheduled.is
+      c.solved_page.ensures.outcome;
 }
 
-pub returns : goal.returns
-returns c = record { outcome = rules_end c.args.problem c.in-Err.end c.in-Err.ensures.outcome }
+pub returns-in-ByDemand : goal.returns-in-ByDemand
+returns-in-ByDemand c = record {
+  outcome =
+      as_evaluated c.args.problem ByDemand c.page_by_demand.result c.in-ByDemand.is
+      c.page_by_demand.ensures.outcome;
+}

@@ -1,16 +1,18 @@
-use Rattle.std.proofs.Common.{subst}
-use Rattle.ftl_answer.specs.answers.Answers.{shown_by}
-use Rattle.ftl_answer.specs.answers.Stages.{ends}
-use Rattle.ftl_meaning.specs.faults.Checked.{CheckedGrammar}
-use Rattle.ftl_requests.specs.sections.Outcomes.{answer_of}
-use Rattle.ftl_requests.specs.requests.ShownTexts.{text_shown}
+use Rattle.std.proofs.Common.{Ok, refl}
+use Rattle.ftl_run.specs.declared.calls.task.Task.TheVariants.{Edit, Show}
+use Rattle.ftl_run.proofs.calls.Leading.{as_task}
 use Rattle.ftl_run.proofs.calls.alone.solved_tree.Goals as goal
 
-pub returns : goal.returns
-returns c = record {
+pub returns-in_ok-tree_shown-in-Show : goal.returns-in_ok-tree_shown-in-Show
+returns-in_ok-tree_shown-in-Show c = record {
   outcome =
-      subst
-      (λ (k : CheckedGrammar). shown_by (text_shown c.args.shown.now) k c.args.tree.now.tree
-      (ends (answer_of c.in_ok-table_shown.field-0)))
-      c.requires.grammar c.in_ok-table_shown.ensures.outcome;
+      as_task c.args.task (Show c.in-Show.shown) c.args.tree.checked c.args.checked.now c.args.tree.tree
+      (Ok c.in_ok-tree_shown-in-Show.field-0) c.in-Show.is c.requires.grammar c.in_ok-tree_shown-in-Show.ensures.outcome;
+}
+
+pub returns-in-Edit : goal.returns-in-Edit
+returns-in-Edit c = record {
+  outcome =
+      as_task c.args.task (Edit c.in-Edit.edits) c.args.checked.now c.args.checked.now c.args.tree.tree
+      c.edited_tree.result c.in-Edit.is refl c.edited_tree.ensures.outcome;
 }

@@ -1,7 +1,8 @@
 use Rattle.std.proofs.Common.{Ok}
+use Rattle.ftl_answer.specs.answers.Answers.{solved_anew}
 use Rattle.ftl_requests.specs.requests.Requests.{problem_stage}
 use Rattle.ftl_requests.proofs.requests.Endings.{if_ended}
-use Rattle.ftl_run.proofs.calls.Leading.{page_answered}
+use Rattle.ftl_run.proofs.calls.Leading.{edit_answered, page_answered}
 use Rattle.ftl_run.proofs.calls.workers.answered_by_workers.Goals as goal
 
 pub returns-in_ok-ended-in-Solve : goal.returns-in_ok-ended-in-Solve
@@ -11,4 +12,13 @@ returns-in_ok-ended-in-Solve g c = record {
       c.in_ok-decided.was c.in-Solve.is
       (if_ended (problem_stage c.in-Solve.problem) c.solved_by_workers.result (Ok c.in_ok-ended-in-Solve.field-0) c.solved_by_workers.ensures.outcome
       c.in_ok-ended-in-Solve.ensures.end);
+}
+
+pub returns-in_ok-ended-in-Edit : goal.returns-in_ok-ended-in-Edit
+returns-in_ok-ended-in-Edit g c = record {
+  answered =
+      edit_answered c.args.requested c.in_ok-decided.field-0 c.in-Edit.page c.in_ok-ended-in-Edit.field-0
+      c.in_ok-decided.was c.in-Edit.is
+      (if_ended (solved_anew c.in-Edit.page.bytes.items) c.edited_by_workers.result (Ok c.in_ok-ended-in-Edit.field-0)
+      c.edited_by_workers.ensures.outcome c.in_ok-ended-in-Edit.ensures.end);
 }

@@ -3,7 +3,6 @@ use Rattle.ftl_answer.specs.answers.Answers.{text_or_none}
 use Rattle.ftl_answer.specs.answers.Texts.{schedule}
 use Rattle.ftl_schedule.specs.check.AcceptedSchedule.{AcceptedSchedule}
 use Rattle.ftl_requests.specs.requests.RulesAnswers.{EndsIn}
-use Rattle.ftl_requests.specs.requests.ShownTexts.{text_shown}
 use Rattle.ftl_requests.proofs.requests.Endings.{end_first, end_second}
 use Rattle.ftl_run.specs.calls.SolvedPages.{document_stage}
 use Rattle.ftl_run.proofs.calls.workers.solved_rules.Goals as goal
@@ -11,24 +10,23 @@ use Rattle.ftl_run.proofs.calls.workers.solved_rules.Goals as goal
 pub returns-in-Ok : goal.returns-in-Ok
 returns-in-Ok g c =
     let r = c.args.rules in
-    let text = text_shown c.args.shown.now in
     record {
       outcome =
           end_second (schedule r.checked r.schedule)
-          (λ s. document_stage r.checked s (text_or_none r.document) text) c.in-Ok.accepted.schedule
+          (λ s. document_stage r.checked s (text_or_none r.document) c.args.task) c.in-Ok.accepted.schedule
           c.solved_document.result c.in-Ok.ensures.outcome
           (subst
           (λ (document : List ℕ).
-          EndsIn (document_stage r.checked c.in-Ok.accepted.schedule document text) c.solved_document.result)
+          EndsIn (document_stage r.checked c.in-Ok.accepted.schedule document c.args.task) c.solved_document.result)
           c.text_of-document.ensures.text c.solved_document.ensures.outcome);
     }
 
-pub returns : goal.returns
-returns g c =
+pub returns-in-Err : goal.returns-in-Err
+returns-in-Err g c =
     let r = c.args.rules in
     record {
       outcome =
           end_first (schedule r.checked r.schedule)
-          (λ s. document_stage r.checked s (text_or_none r.document) (text_shown c.args.shown.now)) (λ (a : AcceptedSchedule). a.schedule)
+          (λ s. document_stage r.checked s (text_or_none r.document) c.args.task) (λ (a : AcceptedSchedule). a.schedule)
           c.in-Err.end c.in-Err.ensures.outcome;
     }

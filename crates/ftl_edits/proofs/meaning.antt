@@ -1,0 +1,4 @@
+pub mod Inputs
+pub mod Faults
+pub mod Editable
+pub mod EachInTurn

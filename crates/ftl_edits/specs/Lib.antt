@@ -1,0 +1,3 @@
+pub mod syntax
+pub mod meaning
+pub mod reading

@@ -1,0 +1,5 @@
+pub mod FirstPairs
+pub mod InfoClass
+pub mod FirstPlaces
+pub mod PlacedReads
+pub mod FoundPair

@@ -1,0 +1,14 @@
+pub mod Built
+pub mod Capped
+pub mod ExampleSize
+pub mod Fewest
+pub mod KidSums
+pub mod LeastSize
+pub mod Limited
+pub mod Places
+pub mod WayBuilt
+pub mod Ways
+pub mod WithKids
+pub mod Tables
+pub mod PlaceTables
+pub mod Absent

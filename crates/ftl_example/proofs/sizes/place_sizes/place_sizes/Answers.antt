@@ -1,0 +1,17 @@
+use Rattle.std.proofs.Common.{◌++◌, [], ◌∷◌, ap₂, arith, sym, ◌∙◌}
+use Rattle.std.proofs.lemmas.List.FromFn.{map-range_with_len_more}
+use Rattle.ftl_deps.specs.reads.Meant.{meant}
+use Rattle.ftl_example.specs.pairs.PairMeant.{pair_meant}
+use Rattle.ftl_example.specs.sizes.Limited.{place_size_up_to}
+use Rattle.ftl_example.specs.sizes.SizeTable.{by_table}
+use Rattle.ftl_example.proofs.sizes.place_sizes.place_sizes.Goals as goal
+
+pub loop-interface-preserved : goal.loop-interface-preserved
+loop-interface-preserved c =
+    let g = meant c.args.checked.now in
+    let pair = pair_meant c.args.pair in
+    let table = by_table c.args.sizes.now in
+    let n = c.loop-interface.interface in
+    c.in_ok-push.ensures.items
+    ∙ ap₂ (λ xs x. xs ++ x ∷ []) c.loop-interface.invariant c.place_size.ensures.size
+    ∙ sym (map-range_with_len_more (λ i. place_size_up_to 513 g table pair.runs_at pair i) 0 n n (omega arith))

@@ -1,0 +1,5 @@
+pub mod shows
+pub mod sizes
+pub mod orders
+pub mod trees
+pub mod pairs

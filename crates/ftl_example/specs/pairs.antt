@@ -1,0 +1,3 @@
+pub mod FirstPair
+pub mod PairMeant
+pub mod FirstPlace

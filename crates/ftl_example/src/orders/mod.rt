@@ -1,0 +1,7 @@
+//! Orders of the steps of a tree. Goes in: a grammar, a schedule that has each computed attribute
+//! once, and a tree. Comes out, in laws: the plain order, which is legal, and the same with the
+//! steps first that are early for a step, in which it stands after none that need not come before.
+
+mod laws;
+
+pub use laws::{plain_orders, worked_orders};

@@ -1,0 +1,40 @@
+use Rattle.std.proofs.Common.{◌≡◌, ◌+◌, ◌-◌, ap, ◌∙◌, arith}
+use Rattle.ftl_model.specs.layout.Values.{word_of_value}
+use Rattle.ftl_cells.specs.shared.Work.{target_of}
+use Rattle.ftl_steal.proofs.Filling.{has_step}
+use Rattle.ftl_lots.proofs.filling.Fills.{fills_on}
+use Rattle.ftl_lots.proofs.filling.filler.RangeFillerFiller.fill.Goals as goal
+
+pub overflow_sub-self : goal.overflow_sub-self
+overflow_sub-self g c =
+    let me = c.args.self.now in
+    let st = has_step (g.W.Meant.meaning me.work.now) me.item me.step c.requires.working.0 in
+    omega (arith, c.requires.cell, (c.requires.fit.0.targets me.item me.step st c.requires.fit.1).0)
+
+pub bounds-self-cell : goal.bounds-self-cell
+bounds-self-cell g c =
+    let me = c.args.self.now in
+    let st = has_step (g.W.Meant.meaning me.work.now) me.item me.step c.requires.working.0 in
+    let b = c.requires.fit.0.targets me.item me.step st c.requires.fit.1 in
+    omega (arith, c.requires.cell, b.0, b.1)
+
+pub overflow_add-self : goal.overflow_add-self
+overflow_add-self g c =
+    let me = c.args.self.now in
+    let law = c.requires.fit.0.lawful in
+    let st = has_step (g.W.Meant.meaning me.work.now) me.item me.step c.requires.working.0 in
+    omega (arith, c.requires.working.0, (law.counted me.item st.item).1)
+
+pub returns-clause-fit : goal.returns-clause-fit
+returns-clause-fit g c =
+    let me = c.args.self.now in
+    let m = g.W.Meant.meaning me.work.now in
+    let st = has_step m me.item me.step c.requires.working.0 in
+    let b = c.requires.fit.0.targets me.item me.step st c.requires.fit.1 in
+    let at : target_of m me.item me.step ≡ me.first + (c.args.cell - me.first) =
+    omega (arith, c.requires.cell, b.0) in (
+      fills_on m me.phases.now me.phase me.words.now me.first me.item me.step (c.args.cell - me.first)
+          c.word_of.result c.requires.fit.0 c.requires.fit.1 st at
+          (c.word_of.ensures.word ∙ ap word_of_value c.requires.working.2),
+      c.requires.fit.1,
+    )

@@ -1,0 +1,4 @@
+pub mod filling
+pub mod run
+pub mod table
+pub mod work

@@ -1,0 +1,75 @@
+//! The items of one phase.
+ghost use Rattle.std.specs.Prelude.{◌≡◌, ◌+◌, ◌<◌, ◌≤◌, length, vec_capacity};
+ghost use Rattle.ftl_cells.specs.shared.Work.{item_total};
+ghost use Rattle.ftl_lots.specs.filling.Filled.{IsFilledIn};
+ghost use Rattle.ftl_lots.specs.filling.Spans.{IsSpanOf};
+ghost use Rattle.ftl_cells.specs.work_phases.Phases.{phase_at};
+
+use crate::filling::filler::RangeFiller;
+use crate::filling::run_items::RunItems;
+use crate::filling::spans::Span;
+use ftl_base::{CodeStack, Val};
+use ftl_cells::{Phase, Phases};
+
+/// Fills the items of a phase in order, on the words of the cells from the first one on. They lie
+/// in this span.
+pub(crate) fn fill_phase<W: RunItems>(
+    work: &W,
+    phases: &Phases,
+    phase: Phase,
+    span: Span,
+    first: u32,
+    words: &mut [u64],
+    reads: &mut Vec<Val>,
+    stack: &mut CodeStack,
+)
+    requires filled { IsFilledIn (W.meaning work.now) phases.now phase words.old first 0 0 }
+    requires span { IsSpanOf phases.now (item_total (W.meaning work.now)) phase span }
+    requires reads { (W.meaning work.now).max_reads ≤ vec_capacity reads.old }
+    requires room { (W.meaning work.now).max_stack ≤ stack.old.room }
+    ensures filled { IsFilledIn (W.meaning work.now) phases.now phase words.new first
+        (item_total (W.meaning work.now)) 0 }
+    ensures count { length words.new ≡ length words.old }
+    ensures reads { vec_capacity reads.old ≤ vec_capacity reads.new }
+    ensures room { stack.new.room ≡ stack.old.room }
+{
+    for item in span.from..span.to {
+        if phases.phases[item as usize].is(phase) {
+            fill_item(work, phases, phase, first, words, item, reads, stack);
+        }
+    }
+}
+
+/// Fills one item of a phase.
+fn fill_item<W: RunItems>(
+    work: &W,
+    phases: &Phases,
+    phase: Phase,
+    first: u32,
+    words: &mut [u64],
+    item: u32,
+    reads: &mut Vec<Val>,
+    stack: &mut CodeStack,
+)
+    requires filled { IsFilledIn (W.meaning work.now) phases.now phase words.old first item 0 }
+    requires item { item < item_total (W.meaning work.now) }
+    requires phase { phase_at phases.now item ≡ phase }
+    requires reads { (W.meaning work.now).max_reads ≤ vec_capacity reads.old }
+    requires room { (W.meaning work.now).max_stack ≤ stack.old.room }
+    ensures filled { IsFilledIn (W.meaning work.now) phases.now phase words.new first (item + 1) 0 }
+    ensures count { length words.new ≡ length words.old }
+    ensures reads { vec_capacity reads.old ≤ vec_capacity reads.new }
+    ensures room { stack.new.room ≡ stack.old.room }
+{
+    let mut filler = RangeFiller {
+        work,
+        phases,
+        phase,
+        first,
+        words,
+        item,
+        step: 0,
+        reads: 0,
+    };
+    work.run_one(item, &mut filler, reads, stack);
+}

@@ -1,0 +1,13 @@
+pub mod CircleLaws
+pub mod NoteLaws
+pub mod NumberLaws
+pub mod OwnerLaws
+pub mod PairLaws
+pub mod PlaceLaws
+pub mod PutLaws
+pub mod ReadLaws
+pub mod SearchLaws
+pub mod ShapeLaws
+pub mod StartLaws
+pub mod StateLaws
+pub mod TableLaws

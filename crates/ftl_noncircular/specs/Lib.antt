@@ -1,0 +1,3 @@
+pub mod grammars
+pub mod search
+pub mod walks

@@ -1,0 +1,5 @@
+pub mod Walks
+pub mod Noncircular
+pub mod FirstCircular
+pub mod NoncircularLaws
+pub mod Worked

@@ -1,0 +1,10 @@
+pub mod Hits
+pub mod Packing
+pub mod Rising
+pub mod TreeNets
+pub mod KidsBehind
+pub mod Relaid
+pub mod Edited
+pub mod SmallKeys
+pub mod EditsWritten
+pub mod SameNets

@@ -1,0 +1,11 @@
+pub mod HitReads
+pub mod ReaderKeys
+pub mod NearKeys
+pub mod Targets
+pub mod Inserts
+pub mod Listed
+pub mod CellReaders
+pub mod KidCounts
+pub mod Comings
+pub mod AllReaders
+pub mod Told

@@ -1,0 +1,10 @@
+use Rattle.std.proofs.Common.{◌≡◌, length}
+use Rattle.ftl_relayout.specs.readers.Tables.{HasNone}
+use Rattle.ftl_relayout.proofs.readers.table.no_readers.Given as goal
+
+-- a list for each number before this one
+abbrev pub invariant-loop-attr : goal.invariant-loop-attr
+invariant-loop-attr l = record {
+  long : length l.lists.items ≡ l._attr;
+  none : HasNone l.lists.items;
+}

@@ -1,0 +1,4 @@
+pub mod Sorting
+pub mod Applying
+pub mod Computing
+pub mod Dues

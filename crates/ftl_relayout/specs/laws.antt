@@ -1,0 +1,4 @@
+pub mod TreeNets
+pub mod Relayout
+pub mod Readers
+pub mod Edits

@@ -1,0 +1,3 @@
+pub mod TreeRules
+pub mod Relaid
+pub mod Due

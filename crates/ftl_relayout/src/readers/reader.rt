@@ -1,0 +1,30 @@
+//! A read of a rule.
+use ftl_deps::PartRead;
+use ftl_meaning::RuleInfo;
+
+/// When a part of a rule is read.
+#[derive(Clone, Copy, Debug, PartialEq, Eq)]
+pub(crate) enum When {
+    Always,
+    /// For the first kid.
+    First,
+    /// For the later ones.
+    Later,
+    /// For each kid of this child, by the step of a fold.
+    EachKid(u32),
+}
+
+/// A read of a part of a rule.
+#[derive(Clone, Copy, Debug, PartialEq, Eq)]
+pub(crate) struct Reader {
+    pub info: RuleInfo,
+    pub when: When,
+    pub read: PartRead,
+}
+
+/// Some numbers of kids, from the first to before the last.
+#[derive(Clone, Copy, Debug, PartialEq, Eq)]
+pub(crate) struct Range {
+    pub from: u32,
+    pub to: u32,
+}

@@ -1,0 +1,13 @@
+//! What becomes of the tree of a page.
+
+use ftl_page::Text;
+use ftl_requests::Shown;
+
+/// What becomes of the tree of a page.
+#[derive(Drop)]
+pub(crate) enum Task {
+    /// Its table is shown.
+    Show(Shown),
+    /// The edits of this text are applied, and the table of the changed tree is shown.
+    Edit(Option<Text>),
+}
