@@ -10,9 +10,11 @@ usage: bench/relayout.py random [COUNT [SEED [PROGRAM]]]   tells where they diff
                                                            for one change that touches all kids of a list: how many
                                                            instances are touched, microseconds of processor time for each
                                                            change and for each touched instance, and how many times as
-                                                           long as one change laying out from nothing takes
+                                                           long as all these changes laying out from nothing takes
 
-A call's time is that of a run with the changes, from the tables of the grammar to the boxes, less that of one without.
+All changes of a page are one call, so a change's time is a mean, and no call of one change is measured but the last two
+rows. The time is that of a run with the changes, from the tables of the grammar to the boxes, less that of one without:
+where few are touched on a large page it drowns in what other work moves, and may come out below 0.
 PROGRAM is the proved one, which ./prove builds, if left out.
 """
 import collections
@@ -179,9 +181,9 @@ def row(program, functions, name, place, page, edits):
     told = subprocess.run([program, "edit"], input=written.encode(), stdout=subprocess.PIPE).stdout.decode()
     count = int(told.rsplit("=", 1)[1])
     (without, nothing), (changed, _) = spent(program, with_edits(page, []), functions), spent(program, written, functions)
-    each = max(changed - without, 0) * 1000 / len(edits)
+    each = (changed - without) * 1000 / len(edits)
     of_one = each * len(edits) / count if count else 0
-    print(f"{name:16} {place:7} {len(edits):8} {count:8} {each:10.2f} {of_one:10.2f} {nothing * 1000 / each if each else 0:10.0f}", flush=True)
+    print(f"{name:16} {place:7} {len(edits):8} {count:8} {each:10.2f} {of_one:10.2f} {nothing * 1000 / (each * len(edits)) if each else 0:10.2f}", flush=True)
 
 
 def times(program):
