@@ -205,8 +205,8 @@ BODIES = {
         WantsMemory("check_grammar", "crates/ftl_checked/src/grammars/check.rt", "pub fn check_grammar("),
         WantsMemory("dep_table", "crates/ftl_deps/src/reads/table.rt", "pub fn dep_table("),
         WantsMemory("read_schedule", "crates/ftl_schedule/src/reading/read.rt", "pub fn read_schedule(", case="check"),
-        WantsMemory("verify", "crates/ftl_schedule/src/check/check.rt", "pub fn verify(", case="check"),
-        WantsMemory("find_schedule", "crates/ftl_scheduler/src/finding/find.rt", "pub fn find_schedule("),
+        WantsMemory("verify", "crates/ftl_schedule/src/check/check.rt", "pub fn verify<'a>(", case="check"),
+        WantsMemory("find_schedule", "crates/ftl_scheduler/src/finding/find.rt", "pub fn find_schedule<'a>("),
         WantsMemory(
             "print_schedule",
             "crates/ftl_schedule/src/printing/print.rt",

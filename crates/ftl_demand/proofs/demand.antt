@@ -1,5 +1,6 @@
 mod Chains
 mod Zeros
+pub mod ReadyValues
 pub mod WaitingSteps
 pub mod Filled
 pub mod Writers

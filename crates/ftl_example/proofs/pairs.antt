@@ -1,4 +1,5 @@
 pub mod FirstPairs
+pub mod PairFaults
 pub mod InfoClass
 pub mod FirstPlaces
 pub mod PlacedReads

@@ -3,3 +3,4 @@ pub mod sizes
 pub mod orders
 pub mod trees
 pub mod pairs
+pub mod examples

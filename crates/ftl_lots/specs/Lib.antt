@@ -1,4 +1,4 @@
 pub mod filling
-pub mod run
 pub mod table
+pub mod words
 pub mod work

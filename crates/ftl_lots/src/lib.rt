@@ -6,6 +6,7 @@
 //!
 //! - `filling`: the items of one phase, on the words of a range
 //! - `table`: the words of the lots in the slots of a table, each taken by one step
+//! - `words`: the words of all cells, in one row or cut into the parts of lots
 //! - `work`: the lots as the items of a work
 //! - `run`: all phases of a work
 #![tactic(auto)]
@@ -13,7 +14,9 @@
 mod filling;
 mod run;
 mod table;
+mod words;
 mod work;
 
 pub use run::run_lots;
+pub use words::CellWords;
 pub use work::laws;

@@ -1,3 +1,5 @@
+pub mod Depending
 pub mod Queues
 pub mod Running
 pub mod Trails
+pub mod WaitingKeys

@@ -1,3 +1,4 @@
+pub mod Marking
 pub mod Sorting
 pub mod Applying
 pub mod Computing

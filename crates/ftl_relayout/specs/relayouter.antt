@@ -1,3 +1,4 @@
 pub mod TreeRules
 pub mod Relaid
 pub mod Due
+pub mod Marks

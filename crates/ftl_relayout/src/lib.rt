@@ -21,6 +21,5 @@ pub mod relaid;
 pub mod relayouter;
 mod values;
 
-pub use edits::InstanceList;
 pub use relaid::relayout;
 pub use relayouter::Relayouter;

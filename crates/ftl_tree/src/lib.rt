@@ -15,4 +15,4 @@ pub use boxes::{
     number_of_word, print_boxes, shown_by, shown_rows, shows_overflow, word_at, words_are_undone,
 };
 pub use rows::{NodeRow, Place};
-pub use trees::{Tree, bare_tree};
+pub use trees::{InstanceList, Tree, bare_tree};

@@ -20,7 +20,7 @@ use Rattle.ftl_model.specs.layout.TreeOf.{IsInput, IsTreeOf}
 use Rattle.ftl_model.specs.layout.WithInput.{IsInputOf, changed, with_input}
 use Rattle.ftl_order.specs.orders.Lawful.{IsLawful}
 use Rattle.ftl_page.specs.declared.sections.fault.Section.TheVariants as section
-use Rattle.ftl_relayout.specs.laws.Edits.{AreEdits}
+use Rattle.ftl_relayout.specs.laws.Edits.{AreInputEdits}
 use Rattle.ftl_relayout.specs.laws.Edits as change
 use Rattle.ftl_relayout.specs.relaid.Relaid.{edited_tree}
 use Rattle.ftl_relayout.proofs.laws.Edited.{input_still}
@@ -67,7 +67,7 @@ input_is : (c : CheckedGrammar) (t : Forest) → IsTreeOf (meant c) t → (e : E
 input_is c t fits e is = record { is_tree = fits; known = is.node; input = is.input }
 
 are_changes : (c : CheckedGrammar) (t : Forest) → IsTreeOf (meant c) t → (es : List Edit)
-    → AreEditsOf (with_grammar c t) es → AreEdits (meant c) t es
+    → AreEditsOf (with_grammar c t) es → AreInputEdits (meant c) t es
 are_changes c t fits [] all = tt
 are_changes c t fits (e ∷ es) all =
     let first = All-head (IsEditOf (with_grammar c t)) e es all in
@@ -83,13 +83,13 @@ input_fits g t n a z is within =
 
 -- inputs of a tree are inputs of another one, and so edits of it are edits of the other
 still_changes : (g : AttributeGrammar) (t u : Forest) → ((m b : ℕ) → IsInputOf g t m b → IsInputOf g u m b)
-    → (es : List Edit) → AreEdits g t es → AreEdits g u es
+    → (es : List Edit) → AreInputEdits g t es → AreInputEdits g u es
 still_changes g t u still [] all = tt
 still_changes g t u still (e ∷ es) all =
     ((still e.node e.attr all.0.0, all.0.1), still_changes g t u still es all.1)
 
 changes_fit : (g : AttributeGrammar) (t : Forest) → IsLawful g → IsTreeOf g t → (es : List Edit)
-    → AreEdits g t es → IsTreeOf g (change.edited g t es)
+    → AreInputEdits g t es → IsTreeOf g (change.with_edits g t es)
 changes_fit g t law fits [] all = fits
 changes_fit g t law fits (e ∷ es) all =
     let u = with_input g t e.node e.attr e.value in

@@ -10,8 +10,7 @@ use Rattle.ftl_model.proofs.layout.Fits.{fits_at}
 use Rattle.ftl_model.proofs.layout.Numbering.{Left, at-left, left_all, left_below, left_next}
 use Rattle.ftl_model.proofs.layout.Standing.{node_at-number_of}
 use Rattle.ftl_order.specs.orders.Lawful.{IsLawful}
-use Rattle.ftl_order.specs.orders.Ordered.{IsOrdered}
-use Rattle.ftl_order.specs.orders.Schedule.{Placing, Schedule, SchedulePlace, pass_at, placing_of}
+use Rattle.ftl_order.specs.orders.Schedule.{EachStandsOnce, Placing, Schedule, SchedulePlace, pass_at, placing_of}
 use Rattle.ftl_order.specs.orders.Sequence.{sequence, sequence_at, sequence_below, steps_at}
 use Rattle.ftl_order.proofs.orders.Kids.{kid_counted, root_there}
 use Rattle.ftl_items.specs.stage_items.Items.{pass_place}
@@ -34,7 +33,7 @@ targets_are g t p there k (Rule r ∷ ops) =
 targets_are g t p there k (Begin c ∷ ops) = targets_are g t p there k ops
 targets_are g t p there k (Visit c ∷ ops) = targets_are g t p there k ops
 
-module _ (g : AttributeGrammar) (law : IsLawful g) (s : Schedule) (ordered : IsOrdered g s) (t : Forest)
+module _ (g : AttributeGrammar) (law : IsLawful g) (s : Schedule) (ordered : EachStandsOnce g s) (t : Forest)
     (fits : IsTreeOf g t) (stage pass : ℕ) where
   abbrev attributes : List ℕ
   attributes = (pass_at s stage pass).attributes

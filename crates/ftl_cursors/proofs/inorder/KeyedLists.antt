@@ -10,8 +10,7 @@ use Rattle.ftl_model.proofs.lists.Rising.{Rising, rising_more, strictly}
 use Rattle.ftl_model.proofs.lists.Sorted.{distinct-sorted, none_falls-sorted}
 use Rattle.ftl_model.specs.layout.AttributeGrammar.{AttributeGrammar, Sort, attributes_of, inherited, input, local, synthesized}
 use Rattle.ftl_order.specs.orders.Lawful.{IsLawful, OfClass, class_owner, interface_owner}
-use Rattle.ftl_order.specs.orders.Ordered.{IsOrdered}
-use Rattle.ftl_order.specs.orders.Schedule.{IsOnePass, Placing, Schedule, SchedulePlace, entries, pass_at, placing_of}
+use Rattle.ftl_order.specs.orders.Schedule.{EachStandsOnce, IsOnePass, Placing, Schedule, SchedulePlace, entries, pass_at, placing_of}
 use Rattle.ftl_order.specs.orders.Schedule.{stage_of}
 use Rattle.ftl_order.specs.orders.Sequence.{is_in_pass, is_same_sort, keyed}
 use Rattle.ftl_order.proofs.orders.Owners.{attribute_known, class_distinct}
@@ -122,7 +121,7 @@ module _ (q : ℕ → Bool) where
         | false ↦ rest
       ]
 
-module _ (g : AttributeGrammar) (law : IsLawful g) (s : Schedule) (ordered : IsOrdered g s) (m n : ℕ) where
+module _ (g : AttributeGrammar) (law : IsLawful g) (s : Schedule) (ordered : EachStandsOnce g s) (m n : ℕ) where
   abbrev attributes : List ℕ
   attributes = (pass_at s m n).attributes
 
@@ -134,7 +133,7 @@ module _ (g : AttributeGrammar) (law : IsLawful g) (s : Schedule) (ordered : IsO
 
   module _ (sort : Sort) (computed : sort ≢ input) (class : ℕ) (known : class < g.class_count) where
     once : (a : ℕ) → g.sort a ≡ sort → OfClass g class a → many a (entries s) ≡ 1
-    once a is of = ordered.once a (of_class_known g law class known a of) (λ e. computed (sym is ∙ e))
+    once a is of = ordered a (of_class_known g law class known a of) (λ e. computed (sym is ∙ e))
 
     -- one of the list stands in this pass, at its place there
     in_pass : (a : ℕ) → g.sort a ≡ sort → OfClass g class a → Contains attributes a → IsOnePass (place a) here

@@ -12,8 +12,7 @@ use Rattle.ftl_model.specs.layout.Tree.{Forest, below_of}
 use Rattle.ftl_model.specs.layout.TreeOf.{IsTreeOf}
 use Rattle.ftl_model.proofs.layout.Fits.{kid_stands}
 use Rattle.ftl_order.specs.orders.Lawful.{IsLawful}
-use Rattle.ftl_order.specs.orders.Ordered.{IsOrdered}
-use Rattle.ftl_order.specs.orders.Schedule.{Placing, Schedule, SchedulePlace, pass_at, placing_of}
+use Rattle.ftl_order.specs.orders.Schedule.{EachStandsOnce, Placing, Schedule, SchedulePlace, pass_at, placing_of}
 use Rattle.ftl_order.specs.orders.Sequence.{is_same_sort, sequence_at, steps_at}
 use Rattle.ftl_order.proofs.orders.Kids.{class_known, kid_exists}
 use Rattle.ftl_items.specs.stage_items.Items.{pass_place}
@@ -60,7 +59,7 @@ module _ (g : AttributeGrammar) (law : IsLawful g) where
       by local e = refl
       by inherited e = interface_has class known a e ∙ ap (λ j. is_listed (g.shared j) a) is
 
-  module _ (s : Schedule) (ordered : IsOrdered g s) (t : Forest) (fits : IsTreeOf g t) (stage pass : ℕ) where
+  module _ (s : Schedule) (ordered : EachStandsOnce g s) (t : Forest) (fits : IsTreeOf g t) (stage pass : ℕ) where
     abbrev attributes : List ℕ
     attributes = (pass_at s stage pass).attributes
 

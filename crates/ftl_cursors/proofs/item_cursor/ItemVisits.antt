@@ -17,9 +17,8 @@ use Rattle.ftl_model.specs.layout.Path.{Has, Path, at, node_at, number_of, size_
 use Rattle.ftl_model.specs.layout.Tree.{Forest, below_of, size}
 use Rattle.ftl_model.proofs.layout.Numbering.{has-node_at, length-nodes_below, number_of-node_at}
 use Rattle.ftl_order.specs.orders.Lawful.{IsLawful}
-use Rattle.ftl_order.specs.orders.Ordered.{IsOrdered}
 use Rattle.ftl_order.specs.orders.Schedule as order
-use Rattle.ftl_order.specs.orders.Schedule.{Schedule, empty_pass, pass_at}
+use Rattle.ftl_order.specs.orders.Schedule.{EachStandsOnce, Schedule, empty_pass, pass_at}
 use Rattle.ftl_order.proofs.orders.Kids.{root_there}
 use Rattle.ftl_schedule.specs.declared.syntax.kind.PassKind.{PassKind}
 use Rattle.ftl_schedule.specs.declared.syntax.kind.PassKind.TheVariants.{BottomUp, InOrder, TopDown}
@@ -211,7 +210,7 @@ module _ (x : ItemTables) (i : ℕ) (found : FoundItem) (known : i < length (ite
         ∙ has passes
 
     -- and so is what the steps of an inorder pass compute
-    pub sequence_is : StepsComputeTheSequence → found.kind ≡ InOrder → IsOrdered g s
+    pub sequence_is : StepsComputeTheSequence → found.kind ≡ InOrder → EachStandsOnce g s
         → passes_of s stage ≡ passes_in x.items
         → map (target_of g t) (inorder_steps g t pass.attrs top) ≡ steps_of_item g s stage t x.items.rows.now.grain this
     sequence_is computes kind ordered passes =

@@ -8,8 +8,7 @@ use Rattle.ftl_model.specs.layout.Path.{top}
 use Rattle.ftl_model.specs.layout.Tree.{Forest, below_of, none, tree}
 use Rattle.ftl_model.specs.layout.TreeOf.{IsTreeOf}
 use Rattle.ftl_order.specs.orders.Lawful.{IsLawful}
-use Rattle.ftl_order.specs.orders.Ordered.{IsOrdered}
-use Rattle.ftl_order.specs.orders.Schedule.{Schedule, pass_at, placing_of}
+use Rattle.ftl_order.specs.orders.Schedule.{EachStandsOnce, Schedule, pass_at, placing_of}
 use Rattle.ftl_order.specs.orders.Sequence.{sequence}
 use Rattle.ftl_items.specs.stage_items.Items.{pass_place}
 use Rattle.ftl_order.specs.steps.Steps.{IsStepOf, target_of}
@@ -55,7 +54,7 @@ inorder_steps g t attributes p =
 -- the steps of a pass compute its sequence
 abbrev pub StepsComputeTheSequence : Type 0
 StepsComputeTheSequence =
-    (g : AttributeGrammar) (s : Schedule) (t : Forest) → IsLawful g → IsOrdered g s → IsTreeOf g t
+    (g : AttributeGrammar) (s : Schedule) (t : Forest) → IsLawful g → EachStandsOnce g s → IsTreeOf g t
     → (stage pass : ℕ)
     → map (target_of g t) (inorder_steps g t (pass_at s stage pass).attributes top)
     ≡ sequence g (placing_of s) (pass_place stage pass) t

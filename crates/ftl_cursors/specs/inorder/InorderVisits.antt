@@ -7,8 +7,7 @@ use Rattle.ftl_model.specs.layout.Solves.{Instance}
 use Rattle.ftl_model.specs.layout.Tree.{Forest}
 use Rattle.ftl_model.specs.layout.TreeOf.{IsTreeOf}
 use Rattle.ftl_order.specs.orders.Lawful.{IsLawful}
-use Rattle.ftl_order.specs.orders.Ordered.{IsOrdered}
-use Rattle.ftl_order.specs.orders.Schedule.{Schedule, pass_at, placing_of}
+use Rattle.ftl_order.specs.orders.Schedule.{EachStandsOnce, Schedule, pass_at, placing_of}
 use Rattle.ftl_order.specs.orders.Sequence.{sequence_at}
 use Rattle.ftl_items.specs.stage_items.Items.{pass_place}
 use Rattle.ftl_order.specs.steps.Steps.{target_of_rule}
@@ -41,7 +40,7 @@ done_at g t attributes visit p =
 -- there
 abbrev pub VisitsAreTheSequence : Type 0
 VisitsAreTheSequence =
-    (g : AttributeGrammar) (s : Schedule) (t : Forest) → IsLawful g → IsOrdered g s → IsTreeOf g t
+    (g : AttributeGrammar) (s : Schedule) (t : Forest) → IsLawful g → EachStandsOnce g s → IsTreeOf g t
     → (stage pass : ℕ) (p : Path) → Has t p
     → sequence_at g (placing_of s) (pass_place stage pass) t p
     ≡ done_at g t (pass_at s stage pass).attributes (sequence_at g (placing_of s) (pass_place stage pass) t) p

@@ -6,8 +6,7 @@ use Rattle.ftl_items.specs.stage_items.Items.{passes_of, steps_of_item}
 use Rattle.ftl_model.specs.layout.AttributeGrammar.{AttributeGrammar}
 use Rattle.ftl_model.specs.layout.Solves.{Instance}
 use Rattle.ftl_model.specs.layout.Tree.{Forest}
-use Rattle.ftl_order.specs.orders.Ordered.{IsOrdered}
-use Rattle.ftl_order.specs.orders.Schedule.{Schedule}
+use Rattle.ftl_order.specs.orders.Schedule.{EachStandsOnce, Schedule}
 use Rattle.ftl_schedule.specs.declared.syntax.kind.PassKind.{PassKind}
 use Rattle.ftl_schedule.specs.declared.syntax.kind.PassKind.TheVariants.{BottomUp, InOrder, TopDown}
 use Rattle.ftl_cursors.specs.stages.StageRows.{pass_places, pass_visits}
@@ -56,9 +55,10 @@ order_of TopDown = Preorder
 order_of BottomUp = Reverse
 order_of InOrder = Preorder
 
--- what is left are the steps of the item of this number, in a stage of an ordered schedule that has these passes
+-- what is left are the steps of the item of this number, in a stage of a schedule that has these passes and each
+-- computed attribute once
 abbrev pub IsCursorOf : ItemTables → (item : ℕ) → ItemCursor → Type 0
 IsCursorOf x i cursor =
-    (s : Schedule) (stage : ℕ) → IsOrdered (grammar_in x) s → passes_of s stage ≡ passes_in x.items
+    (s : Schedule) (stage : ℕ) → EachStandsOnce (grammar_in x) s → passes_of s stage ≡ passes_in x.items
     → AreStepsOf (grammar_in x) (forest_in x)
     (steps_of_item (grammar_in x) s stage (forest_in x) x.items.rows.now.grain (item_in x.items i)) (steps_left cursor)

@@ -1,11 +1,12 @@
 -- The parts of the rule of a step that folds.
-use Rattle.std.proofs.Common.{◌≡◌, ℕ, ◌<◌, ◌+◌, List, None, true, map, refl, sym, ◌∙◌, ap, arith, add-one, get_or}
+use Rattle.std.proofs.Common.{◌≡◌, ℕ, ◌<◌, ◌≤◌, ◌+◌, List, Option, None, Some, true, map, refl, sym, ◌∙◌, ap, subst, arith, add-one, get_or}
+use Rattle.std.specs.Option.{IfNone, IfSome}
 use Rattle.ftl_deps.specs.parts.RuleParts.{parts_named, read_meant}
 use Rattle.ftl_deps.specs.reads.Meant.{meant}
 use Rattle.ftl_deps.specs.declared.parts.part_read.PartRead.{PartRead}
 use Rattle.ftl_meaning.specs.faults.FirstFault.{first_fault}
 use Rattle.ftl_meaning.specs.grammars.Meaning.{sight}
-use Rattle.ftl_model.specs.layout.AttributeGrammar.{Parts, fold_over, from_part, reads_in, seen_by, with_part}
+use Rattle.ftl_model.specs.layout.AttributeGrammar.{Parts, Read, fold_over, from_part, reads_in, seen_by, with_part}
 use Rattle.ftl_model.specs.layout.TreeOf.{IsTreeOf}
 use Rattle.ftl_model.specs.layout.Values.{Value, overflow}
 use Rattle.ftl_order.specs.declared.steps.step.Step.{Step}
@@ -19,7 +20,8 @@ use Rattle.ftl_tree.specs.trees.CheckedTree.{CheckedTree}
 use Rattle.ftl_visit.specs.rule_values.PartValues.{IsRuleOf, has_part, meant_rule, part_value}
 use Rattle.ftl_visit.specs.step_reads.StepReads.{AreOfChildren, children_in, kids_in}
 use Rattle.ftl_demand.specs.declared.demand.waiting.NodeAttr.{NodeAttr}
-use Rattle.ftl_demand.specs.demand.Frames.{fold_over_first}
+use Rattle.ftl_demand.specs.declared.demand.waiting.Waiting.{Waiting}
+use Rattle.ftl_demand.specs.demand.Frames.{IsWaiting, fold_over_first}
 use Rattle.ftl_demand.specs.demand.Outcomes.{IsLacking, instances_seen, value_at}
 use Rattle.ftl_demand.specs.demand.Words.{IsSolution}
 use Rattle.ftl_demand.proofs.demand.StepValues.{ByParts, all_there, has_it, lacks, reads_are, rule_is, start_read, step_read, value_is}
@@ -92,3 +94,37 @@ fold_more t values x n so_far v before is =
     (λ (w : Value).
     part_value t.checked x.rule with_part (sight (kids_in t x.node) n (value_at t values x.node) w)) before
     ∙ sym (ap (fold_over_first t values x) (add-one n))
+
+-- a fold that has taken some kids waits for the next
+pub fold_waits : (t : CheckedTree) (w now : Waiting) (child : ℕ) (start each : List Read)
+    → parts_named (meant t.checked) (rule_at (meant t.checked) w.step.rule) ≡ fold_over child start each
+    → IsWaiting t w → now.step ≡ w.step → now.cell ≡ w.cell
+    → (kid : ℕ) (v : Value) → now.taken ≡ kid → now.so_far ≡ Some v
+    → ((values : List Value) → IsSolution (meant t.checked) t.tree values → v ≡ fold_over_first t values w.step kid)
+    → kid ≤ kids_in t w.step.node child → IsWaiting t now
+fold_waits t w now child start each is before same_step same_cell kid v taken held so_far few = record {
+  step = subst (IsStepOf (meant t.checked) t.tree) (sym same_step) before.step;
+  cell = same_cell ∙ before.cell ∙ ap (filled_cell (meant t.checked) t.tree) (sym same_step);
+  begun = subst (λ (o : Option Value). IfNone o (now.taken ≡ 0)) (sym held) tt;
+  so_far_is =
+      subst
+      (λ (o : Option Value).
+      IfSome o
+      (λ u.
+      (values : List Value) → IsSolution (meant t.checked) t.tree values
+      → u ≡ fold_over_first t values now.step now.taken))
+      (sym held)
+      (λ values solved.
+      so_far values solved
+      ∙ ap (λ (x : Step). fold_over_first t values x kid) (sym same_step)
+      ∙ ap (fold_over_first t values now.step) (sym taken));
+  few = λ other s e named.
+      let here : fold_over child start each ≡ fold_over other s e =
+      sym is
+      ∙ ap (λ (x : Step). parts_named (meant t.checked) (rule_at (meant t.checked) x.rule)) (sym same_step)
+      ∙ named in
+      let one : child ≡ other = cc in
+      subst (λ (n : ℕ). n ≤ kids_in t now.step.node other) (sym taken)
+      (subst (λ (x : Step). kid ≤ kids_in t x.node other) (sym same_step)
+      (subst (λ (d : ℕ). kid ≤ kids_in t w.step.node d) one few));
+}

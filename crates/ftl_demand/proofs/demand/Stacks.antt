@@ -1,8 +1,9 @@
 -- The stack of the steps that wait.
-use Rattle.std.proofs.Common.{◌≡◌, ◌≢◌, ℕ, suc, ◌+◌, ◌-◌, ◌*◌, ◌<◌, ◌≤◌, List, [], ◌∷◌, ◌++◌, length, get_or, sym, ap, ◌∙◌, subst, arith}
+use Rattle.std.proofs.Common.{◌≡◌, ◌≢◌, ℕ, suc, ◌+◌, ◌-◌, ◌*◌, ◌<◌, ◌≤◌, List, [], ◌∷◌, ◌++◌, length, get_or, refl, sym, ap, ◌∙◌, subst, ⊎_elim, arith}
 use lib.ListN.{set}
 use Rattle.std.proofs.lemmas.List.{length-append, length-set}
 use Rattle.ftl_deps.specs.reads.Meant.{meant}
+use Rattle.ftl_model.proofs.lists.Elements.{nothing_in}
 use Rattle.ftl_model.specs.layout.Solves.{Instance, IsInstance}
 use Rattle.ftl_model.specs.layout.Table.{instance_count, instance_number}
 use Rattle.ftl_model.specs.layout.TreeOf.{IsTreeOf}
@@ -17,8 +18,8 @@ use Rattle.ftl_demand.specs.declared.demand.waiting.Outcome.TheVariants.{Done, L
 use Rattle.ftl_demand.specs.declared.demand.waiting.Waiting.{Waiting}
 use Rattle.ftl_demand.specs.demand.Frames.{IsWaiting}
 use Rattle.ftl_demand.specs.demand.Outcomes.{IsStepOutcome}
-use Rattle.ftl_demand.specs.demand.Sites.{instance_at}
-use Rattle.ftl_demand.proofs.demand.WaitingSteps.{IsUnderWay, computed, pushed, few_wait, top_is, top_within, zeros_fall}
+use Rattle.ftl_demand.specs.demand.Sites.{AreWordsOf, instance_at, word_at}
+use Rattle.ftl_demand.proofs.demand.WaitingSteps.{IsUnderWay, computed, first_waits, pushed, few_wait, top_is, top_within, zeros_fall}
 use Rattle.ftl_demand.proofs.demand.Zeros.{less_to_do, more_waits, zeros}
 
 -- the instance that a step computes
@@ -136,3 +137,30 @@ module _ (t : CheckedTree) (law : IsLawful (meant t.checked)) (fits : IsTreeOf (
         (λ n.
         zeros (set words at w) * (length words + 2) + ((length words + 1) - length front) < left_to_do words n)
         (sym waits) (less_to_do (zeros words) (zeros (set words at w)) (length words) (length front) fall))
+
+-- a step that lacks nothing never waits
+module _ (t : CheckedTree) (law : IsLawful (meant t.checked)) (fits : IsTreeOf (meant t.checked) t.tree)
+    (ends : (i : Instance) → IsInstance (meant t.checked) t.tree i
+    → EndsWithin (meant t.checked) t.tree (instance_count (meant t.checked) t.tree) i)
+    (wanted : NodeAttr) (words : List ℕ) (first : Waiting) (so_far : AreWordsOf t words) (is : IsWaiting t first)
+    (at : target t first ≡ instance_at t wanted) (lacking : word_at t words (instance_at t wanted) ≡ 0) where
+  pub alone : IsStack t wanted words words (first ∷ [])
+  alone =
+      first_waits (meant t.checked) t.tree (target t) (λ (w : Waiting). w.cell) (IsWaiting t)
+      (instance_number (meant t.checked) t.tree (instance_at t wanted)) words first so_far is
+      (cells_are t first is ∙ ap (instance_number (meant t.checked) t.tree) at) lacking
+
+  pub first_within : first.cell < length words
+  first_within = next_within t law fits ends wanted words words (first ∷ []) [] first refl alone
+
+  module _ (value : Value) (w : ℕ) (some : 0 < w) (word : w ≡ word_of_value value)
+      (done : IsStepOutcome t words first.step (Done value)) where
+    pub none_waits : IsStack t wanted words (set words first.cell w) []
+    none_waits =
+        next_computed t law fits ends wanted words words (first ∷ []) [] first refl alone value first.cell w refl some
+        word done
+
+    pub first_there : word_at t (set words first.cell w) (instance_at t wanted) ≢ 0
+    first_there =
+        ⊎_elim (λ waits. absurd (nothing_in waits.0 waits.1)) (λ (there : word_at t (set words first.cell w)
+        (instance_at t wanted) ≢ 0). there) none_waits.started

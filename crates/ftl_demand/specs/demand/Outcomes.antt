@@ -56,10 +56,23 @@ IsPartOutcome t words x so_far (outcome.Lacks y) =
     IsLacking t words
     (instances_seen t x.step.node (seen_by (kids_in t x.step.node) x.at_hand (map read_meant x.reads.now))) y
 
--- what a step gives
-abbrev pub IsStepOutcome : CheckedTree → (words : List ℕ) → Step → Outcome → Type 0
-IsStepOutcome t words x (outcome.Done v) =
+-- the value of a cell, whatever values solve
+abbrev pub IsValueAt : CheckedTree → (cell : ℕ) → Value → Type 0
+IsValueAt t cell v =
+    (values : List Value) → IsSolution (meant t.checked) t.tree values → v ≡ slice_index_or values cell overflow
+
+-- the value that a step gives
+abbrev pub IsValueOf : CheckedTree → Step → Value → Type 0
+IsValueOf t x v = IsValueAt t (filled_cell (meant t.checked) t.tree x) v
+
+-- the values of some cells, whatever values solve
+abbrev pub AreValuesAt : CheckedTree → (cells : List ℕ) → List Value → Type 0
+AreValuesAt t cells vs =
     (values : List Value) → IsSolution (meant t.checked) t.tree values
-    → v ≡ slice_index_or values (filled_cell (meant t.checked) t.tree x) overflow
+    → vs ≡ map (λ cell. slice_index_or values cell overflow) cells
+
+-- what comes of a step
+abbrev pub IsStepOutcome : CheckedTree → (words : List ℕ) → Step → Outcome → Type 0
+IsStepOutcome t words x (outcome.Done v) = IsValueOf t x v
 IsStepOutcome t words x (outcome.Lacks y) =
     IsLacking t words (reads_of (meant t.checked) t.tree (target_of (meant t.checked) t.tree x)) y

@@ -1,5 +1,5 @@
 -- A tree with the tables and the code of its rules, and parts of rules at its nodes.
-use Rattle.std.specs.Prelude.{◌≡◌, ℕ, ◌<◌, true, List, map, slice_index}
+use Rattle.std.specs.Prelude.{◌≡◌, ℕ, ◌<◌, true, List, Contains, length, map, slice_index}
 use Rattle.ftl_deps.specs.parts.RuleParts.{read_meant}
 use Rattle.ftl_deps.specs.reads.Meant.{meant}
 use Rattle.ftl_limits.specs.reads.ReadTables.{AreTables, IsSound, class_in, instance_in}
@@ -10,6 +10,8 @@ use Rattle.ftl_model.specs.layout.Tree.{size}
 use Rattle.ftl_order.specs.orders.Lawful.{EachMay, OfClass}
 use Rattle.ftl_order.specs.orders.Reads.{EndsWithin}
 use Rattle.ftl_step_value.specs.cells.Seen.{IsThere}
+use Rattle.ftl_step_value.specs.neighbours.NeighbourParts.{AreNeighbourParts}
+use Rattle.ftl_step_value.specs.value.RuleCopies.{AreCopies}
 use Rattle.ftl_step_value.specs.value.StepValue.{IsCodeFor}
 use Rattle.ftl_tree.specs.trees.CheckedTree.{CheckedTree}
 use Rattle.ftl_visit.specs.rule_values.PartValues.{IsRuleOf, has_part, meant_rule, part_of}
@@ -22,6 +24,8 @@ use Rattle.ftl_demand.specs.demand.Words.{AreWordsSoFar}
 pub record IsSite (x : Site) : Type 0 where
   pub sound : IsSound (meant x.tree.now.checked)
   pub tables : AreTables (meant x.tree.now.checked) x.tables.now
+  pub copies : AreCopies x.tree.now.checked x.copies.now
+  pub neighbours : AreNeighbourParts x.tree.now.checked x.neighbours.now
   pub code : IsCodeFor x.tree.now.checked x.programs.now
 
 -- the instance that an attribute of a node is
@@ -50,6 +54,10 @@ AreWordsOf t words = AreWordsSoFar (meant t.checked) t.tree words
 -- the word of an instance; 0 where it is not there yet
 abbrev pub word_at : CheckedTree → (words : List ℕ) → Instance → ℕ
 word_at t words i = slice_index words (instance_number (meant t.checked) t.tree i)
+
+-- each of some cells has its place among the words
+abbrev pub HaveWords : (words : List ℕ) → (cells : List ℕ) → Type 0
+HaveWords words cells = (cell : ℕ) → Contains cells cell → cell < length words
 
 -- each chain of reads has fewer reads than the tree has instances
 abbrev pub HasShortChains : CheckedTree → Type 0

@@ -13,6 +13,7 @@ ghost use Rattle.ftl_demand.specs.demand.Outcomes.{IsStepOutcome};
 ghost use Rattle.ftl_demand.specs.demand.Sites.{AreWordsOf, IsSite};
 
 use crate::demand::part::part_outcome;
+use crate::demand::ready::ready_value;
 use crate::demand::waiting::{Buffers, Outcome, PartReads, Site, Waiting};
 use ftl_base::Val;
 use ftl_deps::{PartRead, RuleParts};
@@ -23,6 +24,33 @@ use std::alloc::AllocError;
 
 /// Goes on with a step that waits.
 pub(crate) fn advance(
+    site: &Site<'_>,
+    top: &mut Waiting,
+    words: &[u64],
+    buffers: &mut Buffers,
+) -> Result<Outcome, AllocError>
+    requires site { IsSite site.now }
+    requires top { IsWaiting site.now.tree.now top.old }
+    requires words { AreWordsOf site.now.tree.now words.now }
+    requires room { site.now.programs.now.max_stack ≤ buffers.old.stack.room }
+    ensures outcome { IfOk result
+        (IsStepOutcome site.now.tree.now words.now top.old.step) }
+    ensures top { IsWaiting site.now.tree.now top.new }
+    ensures step { top.new.step ≡ top.old.step }
+    ensures cell { top.new.cell ≡ top.old.cell }
+    ensures room { buffers.new.stack.room ≡ buffers.old.stack.room }
+{
+    // A fold that has begun doesn't read again what it has taken.
+    if top.so_far.is_none() {
+        if let Some(value) = ready_value(site, top.step, words, buffers)? {
+            return Ok(Outcome::Done(value));
+        }
+    }
+    advance_parts(site, top, words, buffers)
+}
+
+/// Goes on with a step part by part.
+fn advance_parts(
     site: &Site<'_>,
     top: &mut Waiting,
     words: &[u64],

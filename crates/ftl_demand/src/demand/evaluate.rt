@@ -8,12 +8,14 @@ ghost use Rattle.ftl_demand.specs.demand.Sites.{instance_at, word_at};
 ghost use Rattle.ftl_demand.specs.demand.Words.{StaysWhereThere};
 
 use crate::demand::advance::advance;
+use crate::demand::ready::ready_value;
 use crate::demand::waiting::{Buffers, NodeAttr, Outcome, Site, Waiting};
 use crate::demand::writer::writer;
 use ftl_base::word_of;
 use std::alloc::AllocError;
 
 /// Computes an attribute whose word is not there yet, and before it what it lacks.
+#[inline(never)]
 pub(crate) fn evaluate(
     site: &Site<'_>,
     wanted: NodeAttr,
@@ -37,7 +39,44 @@ pub(crate) fn evaluate(
     ensures room { buffers.new.stack.room ≡ buffers.old.stack.room }
 {
     let _nodes = site.tree.node_count();
-    waiting.push(waiting_step(site, wanted, words))?;
+    let first = waiting_step(site, wanted, words);
+    // What reads nothing that is lacking need not wait.
+    let Some(value) = ready_value(site, first.step, words, buffers)? else {
+        return evaluate_first(site, wanted, first, waiting, words, buffers);
+    };
+    words[first.cell as usize] = word_of(value);
+    Ok(())
+}
+
+/// The same by this step, which computes the attribute, and may have to wait.
+#[inline(never)]
+fn evaluate_first(
+    site: &Site<'_>,
+    wanted: NodeAttr,
+    first: Waiting,
+    waiting: &mut Vec<Waiting>,
+    words: &mut [u64],
+    buffers: &mut Buffers,
+) -> Result<(), AllocError>
+    requires site { IsSite site.now }
+    requires first { IsWaiting site.now.tree.now first }
+    requires target { target_of (meant site.now.tree.now.checked) site.now.tree.now.tree first.step
+        ≡ instance_at site.now.tree.now wanted }
+    requires lacking { word_at site.now.tree.now words.old
+        (instance_at site.now.tree.now wanted) ≡ 0 }
+    requires empty { waiting.old.items ≡ [] }
+    requires words { AreWordsOf site.now.tree.now words.old }
+    requires ends { HasShortChains site.now.tree.now }
+    requires room { site.now.programs.now.max_stack ≤ buffers.old.stack.room }
+    ensures there { OnOk result (word_at site.now.tree.now words.new
+        (instance_at site.now.tree.now wanted) ≢ 0) }
+    ensures stays { StaysWhereThere words.old words.new }
+    ensures words { AreWordsOf site.now.tree.now words.new }
+    ensures empty { OnOk result (waiting.new.items ≡ []) }
+    ensures room { buffers.new.stack.room ≡ buffers.old.stack.room }
+{
+    let _nodes = site.tree.node_count();
+    waiting.push(first)?;
     while let Some(next) = waiting.pop() {
         let mut top = next;
         match advance(site, &mut top, words, buffers)? {
@@ -52,6 +91,7 @@ pub(crate) fn evaluate(
 }
 
 /// The step that computes an attribute whose word is not there yet; it has taken nothing.
+#[inline(always)]
 fn waiting_step(site: &Site<'_>, wanted: NodeAttr, words: &[u64]) -> Waiting
     requires site { IsSite site.now }
     requires known { IsAttr site.now.tree.now wanted }

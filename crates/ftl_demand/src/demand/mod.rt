@@ -7,6 +7,7 @@ mod advance;
 mod evaluate;
 mod part;
 mod reads;
+mod ready;
 mod seen;
 mod solve;
 mod waiting;

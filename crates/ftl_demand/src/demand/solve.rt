@@ -13,12 +13,14 @@ ghost use Rattle.ftl_demand.specs.demand.Words.{StaysWhereThere};
 
 use crate::demand::evaluate::evaluate;
 use crate::demand::waiting::{Buffers, NodeAttr, Site, Waiting};
+use crate::demand::writer::own_rule;
 use ftl_base::CodeStack;
 use ftl_checked::Checked;
 use ftl_limits::{ReadTables, is_sound};
 use ftl_noncircular::{Noncircular, chains_of_reads_end, one_list_where_noncircular};
 use ftl_order::values_are_in_range;
 use ftl_plan::first_words;
+use ftl_step_value::{neighbour_parts, rule_copies};
 use ftl_tree::Tree;
 use ftl_visit::Programs;
 use std::alloc::{AllocError, Global};
@@ -46,12 +48,17 @@ pub fn solve_by_demand(
     let _noncircular = found.checked();
     let _nodes = tree.node_count();
     let tables = ReadTables::new(alloc, checked)?;
+    let copies = rule_copies(alloc, programs, &tables, checked)?;
+    let neighbours = neighbour_parts(alloc, &tables, checked)?;
     let site = Site {
         tables: &tables,
+        copies: copies.as_slice(),
+        neighbours: neighbours.as_slice(),
         programs,
         tree,
     };
     let mut buffers = Buffers {
+        reads: Vec::new(alloc),
         values: Vec::new(alloc),
         stack: CodeStack::new(alloc, programs.max_stack())?,
     };
@@ -78,8 +85,69 @@ fn evaluate_all(
         → word_at site.now.tree.now words.new i ≢ 0) }
     ensures words { AreWordsOf site.now.tree.now words.new }
 {
+    evaluate_downwards(site, waiting, words, buffers)?;
+    // Of what is left the kids' is there before their parent's.
+    let nodes = site.tree.node_count();
+    for behind in 0..nodes {
+        evaluate_node(site, nodes - 1 - behind, waiting, words, buffers)?;
+    }
+    Ok(())
+}
+
+/// Computes, from the first node to the last, what each has from its parent, and all of the leaves:
+/// in this order few steps have to wait.
+fn evaluate_downwards(
+    site: &Site<'_>,
+    waiting: &mut Vec<Waiting>,
+    words: &mut [u64],
+    buffers: &mut Buffers,
+) -> Result<(), AllocError>
+    requires site { IsSite site.now }
+    requires empty { waiting.old.items ≡ [] }
+    requires words { AreWordsOf site.now.tree.now words.old }
+    requires ends { HasShortChains site.now.tree.now }
+    requires room { site.now.programs.now.max_stack ≤ buffers.old.stack.room }
+    ensures words { AreWordsOf site.now.tree.now words.new }
+    ensures empty { OnOk result (waiting.new.items ≡ []) }
+    ensures room { buffers.new.stack.room ≡ buffers.old.stack.room }
+{
     for node in 0..site.tree.node_count() {
-        evaluate_node(site, node, waiting, words, buffers)?;
+        if site.tree.subtree_size(node) == 1 {
+            evaluate_node(site, node, waiting, words, buffers)?;
+        } else {
+            evaluate_inherited(site, node, waiting, words, buffers)?;
+        }
+    }
+    Ok(())
+}
+
+/// Computes what a node has from its parent.
+fn evaluate_inherited(
+    site: &Site<'_>,
+    node: u32,
+    waiting: &mut Vec<Waiting>,
+    words: &mut [u64],
+    buffers: &mut Buffers,
+) -> Result<(), AllocError>
+    requires site { IsSite site.now }
+    requires node { node < size site.now.tree.now.tree }
+    requires empty { waiting.old.items ≡ [] }
+    requires words { AreWordsOf site.now.tree.now words.old }
+    requires ends { HasShortChains site.now.tree.now }
+    requires room { site.now.programs.now.max_stack ≤ buffers.old.stack.room }
+    ensures words { AreWordsOf site.now.tree.now words.new }
+    ensures empty { OnOk result (waiting.new.items ≡ []) }
+    ensures room { buffers.new.stack.room ≡ buffers.old.stack.room }
+{
+    let tree = site.tree;
+    let _nodes = tree.node_count();
+    let class = tree.class(node);
+    let rows = site.tables.attributes.as_slice();
+    for attr in rows[class as usize].as_slice() {
+        if own_rule(site.tables, tree, node, *attr).is_none() {
+            let wanted = NodeAttr { node, attr: *attr };
+            evaluate_attr(site, wanted, waiting, words, buffers)?;
+        }
     }
     Ok(())
 }
@@ -118,6 +186,7 @@ fn evaluate_node(
 }
 
 /// Computes the word of an attribute if it is not there yet.
+#[inline(always)]
 fn evaluate_attr(
     site: &Site<'_>,
     wanted: NodeAttr,

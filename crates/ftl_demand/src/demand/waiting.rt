@@ -3,6 +3,7 @@ use ftl_base::{CodeStack, Val};
 use ftl_deps::PartRead;
 use ftl_limits::ReadTables;
 use ftl_order::Step;
+use ftl_step_value::{NeighbourParts, RuleCopy};
 use ftl_tree::Tree;
 use ftl_visit::{Part, Programs};
 
@@ -10,6 +11,8 @@ use ftl_visit::{Part, Programs};
 #[derive(Clone, Copy)]
 pub(crate) struct Site<'a> {
     pub tables: &'a ReadTables,
+    pub copies: &'a [RuleCopy],
+    pub neighbours: &'a [NeighbourParts],
     pub programs: &'a Programs,
     pub tree: &'a Tree<'a>,
 }
@@ -59,6 +62,8 @@ pub(crate) enum Outcome {
 /// What is written to again and again while parts are computed.
 #[derive(Drop)]
 pub(crate) struct Buffers {
+    /// The values of all that a step reads.
+    pub reads: Vec<Val>,
     /// What the reads of a part give.
     pub values: Vec<Option<Val>>,
     /// What code runs on.

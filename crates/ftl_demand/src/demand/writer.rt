@@ -15,6 +15,7 @@ use ftl_order::Step;
 use ftl_tree::Tree;
 
 /// The step that computes an attribute that is no input.
+#[inline(always)]
 pub(crate) fn writer(site: &Site<'_>, wanted: NodeAttr) -> Step
     requires site { IsSite site.now }
     requires known { IsAttr site.now.tree.now wanted }
@@ -56,7 +57,8 @@ fn writer_above(site: &Site<'_>, wanted: NodeAttr) -> Step
 }
 
 /// The number of the rule of a node's class for an attribute of the node itself.
-fn own_rule(tables: &ReadTables, tree: &Tree<'_>, node: u32, attr: u32) -> Option<u32>
+#[inline(always)]
+pub(crate) fn own_rule(tables: &ReadTables, tree: &Tree<'_>, node: u32, attr: u32) -> Option<u32>
     requires sound { IsSound (meant tree.now.checked) }
     requires tables { AreTables (meant tree.now.checked) tables.now }
     requires node { node < size tree.now.tree }

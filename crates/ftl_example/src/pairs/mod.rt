@@ -8,6 +8,7 @@ mod laws;
 mod part_read;
 mod refused_pair;
 
+pub(crate) use first_pair::first_pair;
 pub use first_read::FirstRead;
 pub use laws::first_pairs;
 pub use part_read::PlacedRead;

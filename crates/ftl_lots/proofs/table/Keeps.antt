@@ -1,5 +1,5 @@
 -- Each step keeps the rule of the lots.
-use Rattle.std.proofs.Common.{zero, suc, ◌≡◌, ◌≢◌, ℕ, ◌<◌, List, [], ◌∷◌, map, replicate, get_or, set, sym, refl, ◌∙◌, ap, subst, arith, length, length-set, get_or-set_same, get_or-set_other}
+use Rattle.std.proofs.Common.{zero, suc, ◌≡◌, ◌≢◌, ℕ, ◌+◌, ◌<◌, List, [], ◌∷◌, map, replicate, get_or, set, sym, refl, ◌∙◌, ap, subst, arith, length, length-set, get_or-set_same, get_or-set_other}
 use Rattle.std.proofs.lemmas.List.{get_or-replicate, length-replicate}
 use mathlib.Core.Logic.{dite}
 use mathlib.Core.Option.{Option, some, none}
@@ -7,7 +7,8 @@ use native.Mathlib.Decide.{ℕ_discrete}
 use lib.ListN.{get_elem?}
 use Rattle.atomic_table.specs.Table.{keeps, takes, gives, Allows, Arrives}
 use Rattle.atomic_table.proofs.Lists.{set_here, set_else, at_map}
-use Rattle.ftl_lots.specs.table.Lots.{Part, Wanted, lot_total, HaveRoom, IsFresh, IsFilled, IsKept, Known, Has, TakeTold}
+use Rattle.ftl_lots.specs.table.Lots.{AreBegunFrom, Wanted, lot_total, IsBegun, IsFilled, IsKept, Known, Has, TakeTold}
+use Rattle.ftl_lots.specs.words.Parts.{Part}
 
 -- a state becomes 1, and the slot of that lot may be out
 out : (want : Wanted) (words : List ℕ) (homes after : List (Option Part)) (k : ℕ) → k < lot_total want
@@ -90,13 +91,21 @@ there [] k l = absurd (omega (arith, l))
 there (x ∷ xs) zero l = (x, refl, refl)
 there (x ∷ xs) (suc k) l = there xs k (omega (arith, l))
 
+zero_plus : (k : ℕ) → 0 + k ≡ k
+zero_plus k = omega arith
+
 -- before any lot is taken
 pub opens : (want : Wanted) (n : ℕ) (words : List ℕ) (parts : List Part) → words ≡ replicate n 0 → n ≡ length parts
-    → length parts ≡ lot_total want → HaveRoom want.phases.size parts → IsKept want words (map some parts)
-opens want n words parts z e count fresh = record {
+    → length parts ≡ lot_total want → AreBegunFrom want 0 parts → IsKept want words (map some parts)
+opens want n words parts z e count are_begun = record {
   count = ap length z ∙ length-replicate n 0 ∙ e ∙ count;
-  free = λ k l _. let f = there parts k (omega (arith, l, count)) in
-      (f.0, at_map some parts k f.0 f.1, subst (IsFresh want) f.2 (fresh k f.0 (omega (arith, l, count))));
+  free = λ k l _. let f = there parts k (omega (arith, l, count)) in (
+    f.0,
+    at_map some parts k f.0 f.1,
+    subst (IsBegun want k) f.2
+        (subst (λ i. IsBegun want i (get_or parts k f.0)) (zero_plus k)
+        (are_begun k f.0 (omega (arith, l, count)))),
+  );
   full = λ k l t.
       let here : get_or words k 0 ≡ 0 =
       ap (λ w. get_or w k 0) z ∙ get_or-replicate n k 0 0 (omega (arith, l, e, count)) in

@@ -5,31 +5,36 @@ ghost use Rattle.ftl_lots.specs.filling.Filled.{IsFilledIn};
 ghost use Rattle.ftl_lots.specs.filling.Spans.{IsSpanOf};
 ghost use Rattle.ftl_cells.specs.work_phases.Phases.{phase_at};
 
-use crate::filling::filler::RangeFiller;
+use crate::filling::filler::PhaseFiller;
 use crate::filling::run_items::RunItems;
 use crate::filling::spans::Span;
+use crate::words::WordRow;
 use ftl_base::{CodeStack, Val};
 use ftl_cells::{Phase, Phases};
 
-/// Fills the items of a phase in order, on the words of the cells from the first one on. They lie
-/// in this span.
-pub(crate) fn fill_phase<W: RunItems>(
+/// Fills the items of a phase in order, on the words of the cells from the first one on. The items
+/// lie in this span.
+pub(crate) fn fill_phase<W: RunItems, S: WordRow>(
     work: &W,
     phases: &Phases,
     phase: Phase,
     span: Span,
     first: u32,
-    words: &mut [u64],
+    words: &mut S,
     reads: &mut Vec<Val>,
     stack: &mut CodeStack,
 )
-    requires filled { IsFilledIn (W.meaning work.now) phases.now phase words.old first 0 0 }
+    requires filled { IsFilledIn (W.meaning work.now) phases.now phase
+        (S.words words.old) first 0 0 }
+    requires laid_out { S.fit words.old }
     requires span { IsSpanOf phases.now (item_total (W.meaning work.now)) phase span }
     requires reads { (W.meaning work.now).max_reads ≤ vec_capacity reads.old }
     requires room { (W.meaning work.now).max_stack ≤ stack.old.room }
-    ensures filled { IsFilledIn (W.meaning work.now) phases.now phase words.new first
-        (item_total (W.meaning work.now)) 0 }
-    ensures count { length words.new ≡ length words.old }
+    ensures filled { IsFilledIn (W.meaning work.now) phases.now phase
+        (S.words words.new) first (item_total (W.meaning work.now)) 0 }
+    ensures count { length (S.words words.new) ≡ length (S.words words.old) }
+    ensures laid_out { S.fit words.new }
+    ensures layout { S.layout words.new ≡ S.layout words.old }
     ensures reads { vec_capacity reads.old ≤ vec_capacity reads.new }
     ensures room { stack.new.room ≡ stack.old.room }
 {
@@ -41,27 +46,32 @@ pub(crate) fn fill_phase<W: RunItems>(
 }
 
 /// Fills one item of a phase.
-fn fill_item<W: RunItems>(
+fn fill_item<W: RunItems, S: WordRow>(
     work: &W,
     phases: &Phases,
     phase: Phase,
     first: u32,
-    words: &mut [u64],
+    words: &mut S,
     item: u32,
     reads: &mut Vec<Val>,
     stack: &mut CodeStack,
 )
-    requires filled { IsFilledIn (W.meaning work.now) phases.now phase words.old first item 0 }
+    requires filled { IsFilledIn (W.meaning work.now) phases.now phase
+        (S.words words.old) first item 0 }
+    requires laid_out { S.fit words.old }
     requires item { item < item_total (W.meaning work.now) }
     requires phase { phase_at phases.now item ≡ phase }
     requires reads { (W.meaning work.now).max_reads ≤ vec_capacity reads.old }
     requires room { (W.meaning work.now).max_stack ≤ stack.old.room }
-    ensures filled { IsFilledIn (W.meaning work.now) phases.now phase words.new first (item + 1) 0 }
-    ensures count { length words.new ≡ length words.old }
+    ensures filled { IsFilledIn (W.meaning work.now) phases.now phase
+        (S.words words.new) first (item + 1) 0 }
+    ensures count { length (S.words words.new) ≡ length (S.words words.old) }
+    ensures laid_out { S.fit words.new }
+    ensures layout { S.layout words.new ≡ S.layout words.old }
     ensures reads { vec_capacity reads.old ≤ vec_capacity reads.new }
     ensures room { stack.new.room ≡ stack.old.room }
 {
-    let mut filler = RangeFiller {
+    let mut filler = PhaseFiller {
         work,
         phases,
         phase,

@@ -1,6 +1,6 @@
 //! A work without what it may share with other threads.
 ghost use Rattle.std.specs.Prelude.{◌≡◌, ◌<◌, ◌≤◌, vec_capacity};
-ghost use Rattle.ftl_cells.specs.shared.Work.{item_total, step_total};
+ghost use Rattle.ftl_cells.specs.shared.Work.{cell_total, item_total, step_total};
 ghost use Rattle.ftl_cells.specs.shared.State.{live};
 ghost use Rattle.ftl_cells.specs.declared.shared.place.HandPlace.TheVariants.{Working};
 
@@ -9,6 +9,10 @@ use ftl_cells::{Filler, Meant, Work};
 
 /// What it takes to fill the items of a work one after the other.
 pub(crate) trait RunItems: Meant {
+    /// How many cells there are.
+    fn cell_count(&self) -> u32
+        ensures count { result ≡ cell_total (Self.meaning self.now) };
+
     /// No step reads more.
     fn most_reads(&self) -> u32
         ensures bound { result ≡ (Self.meaning self.now).max_reads };
@@ -41,6 +45,10 @@ pub(crate) trait RunItems: Meant {
 }
 
 impl<W: Work> RunItems for W {
+    fn cell_count(&self) -> u32 {
+        self.cells()
+    }
+
     fn most_reads(&self) -> u32 {
         self.max_reads()
     }

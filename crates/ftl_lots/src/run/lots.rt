@@ -1,10 +1,8 @@
 //! The lots of a work, by workers.
-ghost use Rattle.std.specs.Prelude.{◌≡◌, ℕ, ◌^◌, ◌<◌, ◌≤◌, length, vec_len, IfOk};
-ghost use Rattle.ftl_cells.specs.shared.Work.{IsLawfulWork, cell_total, item_total};
+ghost use Rattle.std.specs.Prelude.{◌≡◌, ℕ, ◌^◌, ◌<◌, ◌≤◌, vec_len, IfOk};
+ghost use Rattle.ftl_cells.specs.shared.Work.{IsLawfulWork, cell_total};
 ghost use Rattle.ftl_cells.specs.work_phases.Phases.{CanTake};
-ghost use Rattle.ftl_lots.specs.filling.Filled.{HoldMade, IsOfFirst};
-ghost use Rattle.ftl_lots.specs.run.Copied.{AreFilledFrom};
-ghost use Rattle.ftl_lots.specs.table.Lots.{HaveRoom, lot_total, wanted};
+ghost use Rattle.ftl_lots.specs.table.Lots.{AreBegunFrom, AreFilledFrom, lot_total, wanted};
 
 use crate::filling::spans_of;
 use crate::table::{FillLots, LotFiller, Lots};
@@ -16,27 +14,23 @@ use std::alloc::{AllocError, Global};
 use std::sync::Wait;
 use std::thread::Threads;
 
-/// The parts of all lots, each filled by one of so many workers from the words after the first
-/// phase. Parts that are left from another stage serve again.
+/// The parts of all lots, each filled by one of so many workers.
 pub(crate) fn filled_parts<R: Threads + Wait + Sync, W: Work, G: Gate>(
     rt: &R,
     alloc: Global,
     work: &W,
     phases: &Phases,
-    words: &[u64],
-    left: &mut Vec<Vec<u64>>,
+    parts: Vec<Vec<u64>>,
     workers: u32,
     gate: &G,
 ) -> Result<Vec<Vec<u64>>, AllocError>
     requires lawful { IsLawfulWork (W.meaning work.now) }
     requires phases { CanTake (W.meaning work.now) phases.now }
-    requires cells { length words.now ≡ cell_total (W.meaning work.now) }
-    requires made { HoldMade (W.meaning work.now) (IsOfFirst phases.now) words.now
-        0 }
+    requires count { vec_len parts ≡ phases.now.ranges }
+    requires begun { AreBegunFrom (wanted (W.meaning work.now) phases.now) 0 parts.items }
     requires some { 0 < workers }
     requires few { workers ≤ 64 }
     ensures count { IfOk result (λ v. vec_len v ≡ phases.now.ranges) }
-    ensures few { IfOk result (λ v. vec_len v < 2 ^ 32) }
     ensures filled { IfOk result (λ v. AreFilledFrom (wanted (W.meaning work.now)
         phases.now) 0 v.items) }
 {
@@ -46,32 +40,10 @@ pub(crate) fn filled_parts<R: Threads + Wait + Sync, W: Work, G: Gate>(
         work,
         phases,
         spans: spans.as_slice(),
-        words,
     };
-    let parts = fresh_parts(alloc, phases, left)?;
     let lots = Lots::new(alloc, &filler, parts)?;
     fill_lots(rt, alloc, &lots, &filler, workers, gate)?;
     taken_parts(rt, alloc, &lots, phases.ranges)
-}
-
-/// A part with room for each lot: those that are left, and new ones after these.
-fn fresh_parts(
-    alloc: Global,
-    phases: &Phases,
-    left: &mut Vec<Vec<u64>>,
-) -> Result<Vec<Vec<u64>>, AllocError>
-    ensures count { IfOk result (λ v. vec_len v ≡ phases.now.ranges) }
-    ensures fresh { IfOk result (λ v. HaveRoom phases.now.size v.items) }
-{
-    let lots = phases.ranges;
-    let mut parts = Vec::with_capacity(alloc, lots as usize)?;
-    for _lot in 0..lots {
-        let mut part = left.pop().unwrap_or(Vec::new(alloc));
-        part.clear();
-        part.reserve(phases.size as usize)?;
-        parts.push(part)?;
-    }
-    Ok(parts)
 }
 
 /// Opens a stage whose items are the lots, runs it by so many workers, and closes it.

@@ -1,7 +1,6 @@
 //! All phases of a work, its lots by workers. Goes in: a work, its phases and the words of its
-//! cells. Comes out: the words of the solution.
+//! cells. Comes out: the words of the solution, in the parts of the lots.
 
-mod copying;
 mod lots;
 mod phases;
 

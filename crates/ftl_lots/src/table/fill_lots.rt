@@ -1,5 +1,5 @@
 ghost use Rattle.std.specs.Prelude.{◌≡◌, ◌<◌, ◌≤◌, vec_capacity};
-ghost use Rattle.ftl_lots.specs.table.Lots.{IsFilled, IsFresh, Wanted, lot_total};
+ghost use Rattle.ftl_lots.specs.table.Lots.{IsBegun, IsFilled, Wanted, lot_total};
 
 use ftl_base::{CodeStack, Val};
 
@@ -22,7 +22,7 @@ pub(crate) trait FillLots {
     /// Fills the part of a lot.
     fn fill_part(&self, lot: u32, part: &mut Vec<u64>, reads: &mut Vec<Val>, stack: &mut CodeStack)
         requires lot { lot < lot_total (Self.wanted self.now) }
-        requires fresh { IsFresh (Self.wanted self.now) part.old }
+        requires begun { IsBegun (Self.wanted self.now) lot part.old }
         requires reads { (Self.wanted self.now).of.max_reads ≤ vec_capacity reads.old }
         requires room { (Self.wanted self.now).of.max_stack ≤ stack.old.room }
         ensures filled { IsFilled (Self.wanted self.now) lot part.new }

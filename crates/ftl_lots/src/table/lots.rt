@@ -1,6 +1,6 @@
 //! Lots in the slots of a table, with a state each.
 ghost use Rattle.std.specs.Prelude.{◌≡◌, ℕ, ◌<◌, ◌≤◌, length, vec_capacity, vec_len, IfOk};
-ghost use Rattle.ftl_lots.specs.table.Lots.{Has, HaveRoom, IsFilled, TakeTold, lot_total};
+ghost use Rattle.ftl_lots.specs.table.Lots.{AreBegunFrom, Has, IsFilled, TakeTold, lot_total};
 
 use crate::table::fill_lots::FillLots;
 use crate::table::rule::{Give, Law, Take, Told};
@@ -46,7 +46,7 @@ impl<F: FillLots> Lots<F> {
         parts: Vec<Vec<u64>>,
     ) -> Result<Lots<F>, AllocError>
         requires count { vec_len parts ≡ lot_total (F.wanted filler.now) }
-        requires fresh { HaveRoom (F.wanted filler.now).phases.size parts.items }
+        requires begun { AreBegunFrom (F.wanted filler.now) 0 parts.items }
         ensures of { IfOk result (λ l. l.1 ≡ F.wanted filler.now) }
     {
         let states = Vec::from_elem(alloc, FREE, parts.len())?;

@@ -20,7 +20,7 @@ impl Model for Told {
     ghost view = { λ t. wanted no_work t.phases };
 }
 
-/// Each lot that nobody has is at home: fresh where its state is 0, filled where it is 2.
+/// Each lot that nobody has is at home: begun where its state is 0, filled where it is 2.
 pub(crate) struct Law;
 
 impl<F: FillLots> TableRule<Vec<u64>, Told, F> for Law {

@@ -148,7 +148,7 @@ module _ (w : StageParts) (fit : IsStage w) where
       subst
       (λ (ps : List Pass). AreStepsOf g t (steps_of_item g s w.stage t (grain_of w) (get_or (items ps t (grain_of w)) i
       no_item)) (steps_left cursor))
-      (sym fit.passes) (is s w.stage fit.can.ordered fit.passes)
+      (sym fit.passes) (is s w.stage fit.can.ordered.once fit.passes)
 
   pub count_is : (i : ℕ) (xs : List Step) → i < item_total m → AreStepsOf g t (steps_of w i) xs
       → length xs ≡ step_total m i

@@ -5,7 +5,7 @@ use Rattle.ftl_model.specs.layout.AttributeGrammar.{AttributeGrammar}
 use Rattle.ftl_model.specs.layout.Tree.{Forest}
 use Rattle.ftl_model.specs.layout.Values.{Value, number}
 use Rattle.ftl_edits.specs.declared.meaning.types.Edit.{Edit}
-use Rattle.ftl_relayout.specs.laws.Edits.{AreEdits, IsEdit, edited_cell, written}
+use Rattle.ftl_relayout.specs.laws.Edits.{AreInputEdits, IsInputEdit, edited_cell, written}
 
 module _ (g : AttributeGrammar) (t : Forest) where
   written-last : (es : List Edit) (e : Edit) (vs : List Value)
@@ -20,7 +20,7 @@ module _ (g : AttributeGrammar) (t : Forest) where
       ap (λ xs. written g t xs vs) (ap (λ n. take n es) (add-one k) ∙ take-suc es k d below)
       ∙ written-last (take k es) (get_or es k d) vs
 
-  pub edit_at : (es : List Edit) (k : ℕ) (d : Edit) → AreEdits g t es → k < length es → IsEdit g t (get_or es k d)
+  pub edit_at : (es : List Edit) (k : ℕ) (d : Edit) → AreInputEdits g t es → k < length es → IsInputEdit g t (get_or es k d)
   edit_at [] k d are below = absurd (let z : ⊥ = omega (arith, below) in z)
   edit_at (e ∷ es) zero d are below = are.0
   edit_at (e ∷ es) (suc k) d are below = edit_at es k d are.1 (let z : k < length es = omega (arith, below) in z)

@@ -18,7 +18,7 @@ use Rattle.ftl_order.specs.orders.LegalOrder.{HoldsInputs, IsStep}
 use Rattle.ftl_order.proofs.orders.Instances.{instance_at_number, number_within}
 use Rattle.ftl_order.proofs.orders.Kids.{root_there}
 use Rattle.ftl_edits.specs.declared.meaning.types.Edit.{Edit}
-use Rattle.ftl_relayout.specs.laws.Edits.{AreEdits, AreWritten, edited, edited_cell, written}
+use Rattle.ftl_relayout.specs.laws.Edits.{AreInputEdits, AreWritten, with_edits, edited_cell, written}
 use Rattle.ftl_relayout.proofs.laws.Rising.{tree_size}
 
 pub same_size : (t u : Forest) → IsSameButInputs t u → size t ≡ size u
@@ -174,7 +174,7 @@ module _ (g : AttributeGrammar) (law : IsLawful g) (t : Forest) (fits : IsTreeOf
   }
 
 pub still_edits : (g : AttributeGrammar) (t u : Forest) → ((m b : ℕ) → IsInputOf g t m b → IsInputOf g u m b)
-    → (es : List Edit) → AreEdits g t es → AreEdits g u es
+    → (es : List Edit) → AreInputEdits g t es → AreInputEdits g u es
 still_edits g t u still [] h = tt
 still_edits g t u still (e ∷ es) h =
     ((still e.node e.attr h.0.0, h.0.1), still_edits g t u still es h.1)
@@ -201,9 +201,9 @@ StayTrees =
 
 -- the law by what is said of one edit
 pub edits_are_written : ChangesOneInput → StayTrees → (g : AttributeGrammar) (t : Forest) → IsLawful g
-    → IsTreeOf g t → (es : List Edit) → AreEdits g t es → (values : List Value)
+    → IsTreeOf g t → (es : List Edit) → AreInputEdits g t es → (values : List Value)
     → length values ≡ instance_count g t → HoldsInputs g t values
-    → AreWritten g t (edited g t es) values (written g t es values)
+    → AreWritten g t (with_edits g t es) values (written g t es values)
 edits_are_written one stay g t law fits [] edits values count holds = record {
   alike = same_self t;
   fits = fits;
@@ -223,12 +223,12 @@ edits_are_written one stay g t law fits (e ∷ es) edits values count holds =
     (now_holds g law t fits e.node e.attr e.value edits.0.0 fits' there values count holds) in
     let moved = written_same g t u there.same es after in
     record {
-      alike = same_trans t u (edited g u es) there.same rest.alike;
+      alike = same_trans t u (with_edits g u es) there.same rest.alike;
       fits = rest.fits;
       count = ap length moved ∙ rest.count ∙ length-set values (edited_cell g t e) (number e.value);
-      inputs = subst (HoldsInputs g (edited g u es)) (sym moved) rest.inputs;
+      inputs = subst (HoldsInputs g (with_edits g u es)) (sym moved) rest.inputs;
       stays = λ i step.
-          let last = edited g u es in
+          let last = with_edits g u es in
           let step_u : IsStep g u i = (
             (
               same_nodes last u (same_sym u last rest.alike) i.node step.0.0,

@@ -19,7 +19,7 @@ use Rattle.ftl_relayout.specs.laws.Relayout.{IsChanged, IsLaidOut, RunGives}
 use Rattle.ftl_relayout.specs.laws.TreeNets.{HasSmallKeys, cost_at, instance_at, net_of, parts_cost}
 use Rattle.ftl_relayout.specs.queue.Nets.{IsKeyOf, IsReaderBy, IsStep, Net, table}
 use Rattle.ftl_relayout.specs.queue.Ready.{HasChangedRead, IsDone, IsDue, IsReady}
-use Rattle.ftl_relayout.specs.queue.Trails.{cost_of}
+use Rattle.ftl_relayout.specs.queue.Trails.{total_cost}
 use Rattle.ftl_relayout.proofs.laws.Edited.{same_size}
 use Rattle.ftl_relayout.proofs.laws.Relaid.{rule_back, runs_lay_out_anew}
 
@@ -223,8 +223,8 @@ module _ (g : AttributeGrammar) (t u : Forest) (same : IsSameButInputs t u) wher
       waiting ran gives
 
   pub same_cost_of : (cells : List ℕ)
-      → cost_of (λ k. cost_at g t (instance_at g t k)) cells ≡ cost_of (λ k. cost_at g u (instance_at g u k)) cells
-  same_cost_of cells = ap (λ f. cost_of f cells) (fun_ext same_cell_cost)
+      → total_cost (λ k. cost_at g t (instance_at g t k)) cells ≡ total_cost (λ k. cost_at g u (instance_at g u k)) cells
+  same_cost_of cells = ap (λ f. total_cost f cells) (fun_ext same_cell_cost)
 
 -- the keys that wait are just those of the steps with a changed read
 pub record WaitsForChanged (n : Net) (old values : List Value) (waiting : List ℕ) : Type 0 where

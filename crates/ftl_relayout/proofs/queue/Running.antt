@@ -1,11 +1,6 @@
 -- The queue of a net, step by step.
 use Rattle.std.proofs.Common.{ℤ, ◌≡◌, ◌≢◌, ◌⊎◌, ℕ, ◌+◌, ◌<◌, ◌≤◌, Bool, true, false, refl, sym, ◌∙◌, ap, subst, inl, inr, ⊎_elim, arith, List, [], ◌∷◌, Contains, length, get_or, get_or-set_other}
 use Rattle.std.specs.List.{All}
-use Rattle.std.specs.BTreeMap.Range.{IsLtBy}
-use Rattle.std.specs.Ordering.{nat_cmp}
-use Rattle.std.specs.declared.cmp.Ordering.TheVariants.{Less}
-use Rattle.std.proofs.lemmas.Cmp.{ranked}
-use Rattle.std.proofs.lemmas.List.Elements.{All-contains}
 use Rattle.std.proofs.Math.IntN.{ℤ_discrete}
 use Rattle.std.proofs.lemmas.List.{get_or-set_same}
 use Rattle.ftl_model.proofs.lists.Elements.{here_in, in_cases, later_in, nothing_in}
@@ -13,7 +8,8 @@ use Rattle.ftl_model.specs.layout.Values.{Value, number, overflow}
 use Rattle.ftl_order.proofs.orders.EquationSystem.{System}
 use Rattle.ftl_relayout.specs.queue.Nets.{IsKeyOf, IsLawfulNet, IsStep, Net, table}
 use Rattle.ftl_relayout.specs.queue.Ready.{HasChangedRead, HoldsAtSteps, IsDone, IsReady, IsRun}
-use Rattle.ftl_relayout.specs.queue.Trails.{cells_of, cost_of, undone}
+use Rattle.ftl_relayout.specs.queue.Trails.{cells_of, total_cost, undone}
+use Rattle.ftl_relayout.specs.queue.Waiting.{IsTaken}
 use Rattle.ftl_relayout.specs.declared.queue.trail.Before.{Before}
 use Rattle.ftl_relayout.proofs.queue.Queues.{At, Keys, Step, computes, ends, next, ran_touched, starts}
 
@@ -196,7 +192,8 @@ pub record IsRunning (n : Net) (first : List Value) (begin : List ℕ) (spent_be
   pub now :
       (law : IsLawfulNet n) (old final : ℕ → Value) → IsReady n old final first begin
       → Now n law old final (cells_of trail) waiting values
-  pub cost : spent ≤ spent_before + cost_of n.cost (cells_of trail)
+  pub grown : spent_before ≤ spent
+  pub cost : spent ≤ spent_before + total_cost n.cost (cells_of trail)
   pub undone_is : undone trail values ≡ first
   pub within : All (λ b. b.cell < length values) trail
 
@@ -208,6 +205,7 @@ running_first n first begin spent count known = record {
   known = known;
   low = λ k h. omega arith;
   now = λ law old final ready. at_first n law old final first begin ready;
+  grown = omega arith;
   cost = omega arith;
   undone_is = refl;
   within = λ k d below. absurd (let x : ⊥ = omega (arith, below) in x);
@@ -220,12 +218,13 @@ pub running_on : (n : Net) → IsLawfulNet n → (first : List Value) (begin : L
     → ((k : ℕ) → Contains rest k → key < k)
     → IsRun n key values w rest after trail longer
     → length w ≡ length values
-    → more + cost_of n.cost (cells_of trail) ≤ spent + cost_of n.cost (cells_of longer)
+    → spent ≤ more
+    → more + total_cost n.cost (cells_of trail) ≤ spent + total_cost n.cost (cells_of longer)
     → undone longer w ≡ undone trail values
     → All (λ b. b.cell < length w) longer
     → IsRunning n first begin spent_before w after longer more (key + 1)
-running_on n law first begin spent_before values rest trail spent least key w after longer more r above run same few back
-    within = record {
+running_on n law first begin spent_before values rest trail spent least key w after longer more r above run same up few
+    back within = record {
       count = same ∙ r.count;
       known = λ k h.
           ⊎_elim (λ old. r.known k (later_in key k rest old))
@@ -240,35 +239,59 @@ running_on n law first begin spent_before values rest trail spent least key w af
       now = λ law old final ready.
           step_on n law old final ready.old_holds ready.final_holds key rest after values w trail longer r.count above
           (r.now law old final ready) run;
+      grown = let g = r.grown in omega (arith, g, up);
       cost = let c = r.cost in omega (arith, c, few);
       undone_is = back ∙ r.undone_is;
       within = within;
     }
 
-pub empty_by : (ks : List ℕ) → (0 < length ks → ⊥) → ks ≡ []
-empty_by [] h = refl
-empty_by (k ∷ ks) h = absurd (h (omega arith))
-
-pub all_later : (key : ℕ) (rest : List ℕ) → All (IsLtBy nat_cmp key) rest → (k : ℕ) → Contains rest k → key < k
-all_later key rest above k h = ranked key k Less (sym (All-contains (IsLtBy nat_cmp key) rest k above h))
+-- what is kept speaks of what waits, in whatever list
+pub running_as : (n : Net) (first : List Value) (begin : List ℕ) (spent_before : ℕ) (values : List Value)
+    (waiting others : List ℕ) (trail : List Before) (spent least : ℕ)
+    → ((k : ℕ) → Contains others k → Contains waiting k) → ((k : ℕ) → Contains waiting k → Contains others k)
+    → IsRunning n first begin spent_before values waiting trail spent least
+    → IsRunning n first begin spent_before values others trail spent least
+running_as n first begin spent_before values waiting others trail spent least back into r = record {
+  count = r.count;
+  known = λ k h. r.known k (back k h);
+  low = λ k h. r.low k (back k h);
+  now = λ law old final ready.
+      let a = r.now law old final ready in
+      record {
+        inputs = a.inputs;
+        stays = a.stays;
+        ran = a.ran;
+        earlier = λ i q h w. a.earlier i q h (w.0, back (n.key q) w.1);
+        due = λ i step c. ⊎_elim (λ d. inl d) (λ w. inr (w.0, into (n.key i) w.1)) (a.due i step c);
+        only = λ i w. a.only i (w.0, back (n.key i) w.1);
+        once = a.once;
+      };
+  grown = r.grown;
+  cost = r.cost;
+  undone_is = r.undone_is;
+  within = r.within;
+}
 
 -- the same of a net that is another by name alone
 pub running_same : (m n : Net) → m ≡ n → IsLawfulNet n → (first : List Value) (begin : List ℕ) (spent_before : ℕ)
     (values : List Value) (waiting rest : List ℕ) (trail : List Before) (spent least key : ℕ)
     (w : List Value) (after : List ℕ) (longer : List Before) (more : ℕ)
-    → waiting ≡ key ∷ rest
+    → IsTaken waiting rest key
     → IsRunning n first begin spent_before values waiting trail spent least
-    → All (IsLtBy nat_cmp key) rest
     → IsRun m key values w rest after trail longer
     → length w ≡ length values
-    → more + cost_of m.cost (cells_of trail) ≤ spent + cost_of m.cost (cells_of longer)
+    → spent ≤ more
+    → more + total_cost m.cost (cells_of trail) ≤ spent + total_cost m.cost (cells_of longer)
     → undone longer w ≡ undone trail values
     → All (λ b. b.cell < length w) longer
     → IsRunning n first begin spent_before w after longer more (key + 1)
-running_same m n is law first begin spent_before values waiting rest trail spent least key w after longer more popped r
-    above run same few back within =
+running_same m n is law first begin spent_before values waiting rest trail spent least key w after longer more taken r run
+    same up few back within =
     running_on n law first begin spent_before values rest trail spent least key w after longer more
-    (subst (λ ks. IsRunning n first begin spent_before values ks trail spent least) popped r)
-    (all_later key rest above)
-    (subst (λ x. IsRun x key values w rest after trail longer) is run) same
-    (subst (λ x. more + cost_of x.cost (cells_of trail) ≤ spent + cost_of x.cost (cells_of longer)) is few) back within
+    (running_as n first begin spent_before values waiting (key ∷ rest) trail spent least
+    (λ k h. ⊎_elim (λ e. subst (Contains waiting) e taken.was) (λ l. taken.only k l) (in_cases key k rest h))
+    (λ k h.
+    ⊎_elim (λ e. subst (Contains (key ∷ rest)) e (here_in key rest)) (λ l. later_in key k rest l) (taken.keeps k h)) r)
+    taken.above
+    (subst (λ x. IsRun x key values w rest after trail longer) is run) same up
+    (subst (λ x. more + total_cost x.cost (cells_of trail) ≤ spent + total_cost x.cost (cells_of longer)) is few) back within

@@ -7,7 +7,7 @@ use Rattle.std.specs.declared.result.Result.TheVariants.{Ok, Err}
 use Rattle.std.proofs.lemmas.Bool.{cases_lt}
 use Rattle.std.proofs.lemmas.List.{get_or-append-add, get_or_append_left, length-append, set-get_or, set-set}
 use Rattle.ftl_model.specs.layout.Values.{Value}
-use Rattle.ftl_relayout.specs.queue.Trails.{cells_of, cost_of, undone}
+use Rattle.ftl_relayout.specs.queue.Trails.{cells_of, total_cost, undone}
 use Rattle.ftl_relayout.specs.declared.queue.trail.Before.{Before}
 
 pub undone-last : (bs : List Before) (b : Before) (vs : List Value)
@@ -19,7 +19,7 @@ pub cells-last : (bs : List Before) (b : Before) → cells_of (bs ++ (b ∷ []))
 cells-last [] b = refl
 cells-last (x ∷ bs) b = ap (λ xs. x.cell ∷ xs) (cells-last bs b)
 
-pub cost-last : (cost : ℕ → ℕ) (xs : List ℕ) (x : ℕ) → cost_of cost (xs ++ (x ∷ [])) ≡ cost_of cost xs + cost x
+pub cost-last : (cost : ℕ → ℕ) (xs : List ℕ) (x : ℕ) → total_cost cost (xs ++ (x ∷ [])) ≡ total_cost cost xs + cost x
 cost-last cost [] x = let z : cost x + 0 ≡ 0 + cost x = omega arith in z
 cost-last cost (y ∷ xs) x = let i = cost-last cost xs x in omega (arith, i)
 
@@ -36,9 +36,9 @@ undone_written bs b vs v d is =
     ∙ ap (undone bs) (set-set vs b.cell v b.value ∙ ap (set vs b.cell) is ∙ set-get_or vs b.cell d)
 
 pub more_spent : (cost : ℕ → ℕ) (bs : List Before) (b : Before) (spent after : ℕ) → after ≤ spent + cost b.cell
-    → after + cost_of cost (cells_of bs) ≤ spent + cost_of cost (cells_of (bs ++ (b ∷ [])))
+    → after + total_cost cost (cells_of bs) ≤ spent + total_cost cost (cells_of (bs ++ (b ∷ [])))
 more_spent cost bs b spent after few =
-    let e = ap (cost_of cost) (cells-last bs b) ∙ cost-last cost (cells_of bs) b.cell in omega (arith, e, few)
+    let e = ap (total_cost cost) (cells-last bs b) ∙ cost-last cost (cells_of bs) b.cell in omega (arith, e, few)
 
 -- what holds of all writes holds of those before the last
 pub front_within : (n m : ℕ) (all bs : List Before) (b : Before) → all ≡ bs ++ (b ∷ []) → m ≡ n

@@ -10,10 +10,10 @@ use Rattle.ftl_model.specs.layout.TreeOf.{IsTreeOf}
 use Rattle.ftl_model.specs.layout.Values.{Value}
 use Rattle.ftl_tree.specs.trees.CheckedTree.{CheckedTree}
 use Rattle.ftl_visit.specs.rule_values.Runs.{CountedCode}
-use Rattle.ftl_relayout.specs.laws.Edits.{AreEdits, edited}
+use Rattle.ftl_relayout.specs.laws.Edits.{AreInputEdits, with_edits}
 use Rattle.ftl_relayout.specs.laws.Relayout.{AreTouched}
 use Rattle.ftl_relayout.specs.laws.TreeNets.{cost_at, instance_at}
-use Rattle.ftl_relayout.specs.queue.Trails.{cost_of}
+use Rattle.ftl_relayout.specs.queue.Trails.{total_cost}
 use Rattle.ftl_relayout.specs.relaid.Relaid.{IsRelaid, edited_tree, relayout_cost}
 use Rattle.ftl_relayout.specs.relayouter.Relaid.{RelayoutGives}
 
@@ -24,7 +24,7 @@ if_ok (Err e) each holds = tt
 
 -- edits of a tree are of inputs of it
 pub are_edits : (t : CheckedTree) → IsTreeOf (meant t.checked) t.tree → (es : List Edit) → AreEditsOf t es
-    → AreEdits (meant t.checked) t.tree es
+    → AreInputEdits (meant t.checked) t.tree es
 are_edits t fits [] all = tt
 are_edits t fits (e ∷ es) all =
     let first = All-head (IsEditOf t) e es all in
@@ -35,7 +35,7 @@ module _ (k : CheckedGrammar) (t u : CheckedTree) (es : List Edit) (old new : Li
     (touched : List ℕ) (grammar : t.checked ≡ k) (x : RelayoutGives t u es old new r s touched) where
   pub tree_given : u.tree ≡ edited_tree k t.tree es
   tree_given =
-      subst (λ (c : CheckedGrammar). u.tree ≡ edited (meant c) t.tree es) grammar
+      subst (λ (c : CheckedGrammar). u.tree ≡ with_edits (meant c) t.tree es) grammar
       (ap (λ (y : CheckedTree). y.tree) x.tree)
 
   pub relaid_given : IsRelaid k u.tree old new touched
@@ -50,4 +50,4 @@ module _ (k : CheckedGrammar) (t u : CheckedTree) (es : List Edit) (old new : Li
   pub runs_given : s.runs ≤ r.runs + relayout_cost k u.tree touched
   runs_given =
       subst (λ (c : CheckedGrammar). s.runs
-      ≤ r.runs + cost_of (λ n. cost_at (meant c) u.tree (instance_at (meant c) u.tree n)) touched) grammar x.runs
+      ≤ r.runs + total_cost (λ n. cost_at (meant c) u.tree (instance_at (meant c) u.tree n)) touched) grammar x.runs

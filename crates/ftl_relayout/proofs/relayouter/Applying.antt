@@ -7,25 +7,25 @@ use Rattle.ftl_model.specs.layout.WithInput.{with_input}
 use Rattle.ftl_order.specs.orders.Lawful.{IsLawful}
 use Rattle.ftl_tree.proofs.trees.OneInput.{changes_one}
 use Rattle.ftl_edits.specs.declared.meaning.types.Edit.{Edit}
-use Rattle.ftl_relayout.specs.laws.Edits.{AreEdits, IsEdit, edited}
+use Rattle.ftl_relayout.specs.laws.Edits.{AreInputEdits, IsInputEdit, with_edits}
 use Rattle.ftl_relayout.proofs.laws.Edited.{input_still, still_edits}
 use Rattle.ftl_relayout.proofs.laws.EditsWritten.{stay_trees}
 
-edited-last : (g : AttributeGrammar) (t : Forest) (es : List Edit) (e : Edit)
-    → edited g t (es ++ (e ∷ [])) ≡ with_input g (edited g t es) e.node e.attr e.value
-edited-last g t [] e = refl
-edited-last g t (x ∷ es) e = edited-last g (with_input g t x.node x.attr x.value) es e
+with_edits-last : (g : AttributeGrammar) (t : Forest) (es : List Edit) (e : Edit)
+    → with_edits g t (es ++ (e ∷ [])) ≡ with_input g (with_edits g t es) e.node e.attr e.value
+with_edits-last g t [] e = refl
+with_edits-last g t (x ∷ es) e = with_edits-last g (with_input g t x.node x.attr x.value) es e
 
 pub edited_more : (g : AttributeGrammar) (t : Forest) (es : List Edit) (k : ℕ) (d : Edit) → k < length es
-    → edited g t (take (k + 1) es)
-    ≡ with_input g (edited g t (take k es)) (get_or es k d).node (get_or es k d).attr (get_or es k d).value
+    → with_edits g t (take (k + 1) es)
+    ≡ with_input g (with_edits g t (take k es)) (get_or es k d).node (get_or es k d).attr (get_or es k d).value
 edited_more g t es k d below =
-    ap (edited g t) (ap (λ n. take n es) (add-one k) ∙ take-suc es k d below)
-    ∙ edited-last g t (take k es) (get_or es k d)
+    ap (with_edits g t) (ap (λ n. take n es) (add-one k) ∙ take-suc es k d below)
+    ∙ with_edits-last g t (take k es) (get_or es k d)
 
 -- each edit is one of the tree that has those before it
-pub edit_then : (g : AttributeGrammar) → IsLawful g → (es : List Edit) (t : Forest) → AreEdits g t es
-    → (k : ℕ) (d : Edit) → k < length es → IsEdit g (edited g t (take k es)) (get_or es k d)
+pub edit_then : (g : AttributeGrammar) → IsLawful g → (es : List Edit) (t : Forest) → AreInputEdits g t es
+    → (k : ℕ) (d : Edit) → k < length es → IsInputEdit g (with_edits g t (take k es)) (get_or es k d)
 edit_then g law [] t are k d below = absurd (let z : ⊥ = omega (arith, below) in z)
 edit_then g law (e ∷ es) t are zero d below = are.0
 edit_then g law (e ∷ es) t are (suc k) d below =

@@ -17,12 +17,12 @@ use Rattle.ftl_order.specs.orders.LegalOrder.{HoldsInputs}
 use Rattle.ftl_order.specs.orders.Ordered.{IsOrdered}
 use Rattle.ftl_order.specs.orders.Schedule.{Schedule, placing_of}
 use Rattle.ftl_edits.specs.declared.meaning.types.Edit.{Edit}
-use Rattle.ftl_relayout.specs.laws.Edits.{AreEdits, AreWritten, edited, written}
+use Rattle.ftl_relayout.specs.laws.Edits.{AreInputEdits, AreWritten, with_edits, written}
 use Rattle.ftl_relayout.specs.laws.Relayout.{IsChanged, IsLaidOut, RunGives}
 use Rattle.ftl_relayout.specs.laws.TreeNets.{HasSmallKeys, cost_at, instance_at, net_of}
 use Rattle.ftl_relayout.specs.queue.Nets.{IsKeyOf, IsLawfulNet, IsStep, Net, table}
 use Rattle.ftl_relayout.specs.queue.Ready.{HasChangedRead, IsDue}
-use Rattle.ftl_relayout.specs.queue.Trails.{cost_of}
+use Rattle.ftl_relayout.specs.queue.Trails.{total_cost}
 use Rattle.ftl_relayout.specs.relayouter.Due.{AreEditedFrom}
 use Rattle.ftl_relayout.proofs.laws.EditsWritten.{edits_written}
 use Rattle.ftl_relayout.proofs.laws.Relaid.{nets_are_lawful, runs_lay_out_anew}
@@ -49,9 +49,9 @@ if_ok_both P Q R (Ok x) f h k = f x h k
 if_ok_both P Q R (Err e) f h k = h
 
 module _ (g : AttributeGrammar) (law : IsLawful g) (t : Forest) (fits : IsTreeOf g t) (es : List Edit)
-    (are : AreEdits g t es) (old : List Value) (solved : SolvesList g t old) where
+    (are : AreInputEdits g t es) (old : List Value) (solved : SolvesList g t old) where
   abbrev u : Forest
-  u = edited g t es
+  u = with_edits g t es
 
   holds : HoldsInputs g t old
   holds i valid given =
@@ -62,8 +62,8 @@ module _ (g : AttributeGrammar) (law : IsLawful g) (t : Forest) (fits : IsTreeOf
 
   -- what is run costs as much in the edited tree
   pub costs_over : (cells : List ℕ)
-      → cost_of (λ k. cost_at g t (instance_at g t k)) cells ≡ cost_of (λ k. cost_at g u (instance_at g u k)) cells
-  costs_over cells = ap (λ cost. cost_of cost cells) (fun_ext (same_cell_cost g t u all_written.alike))
+      → total_cost (λ k. cost_at g t (instance_at g t k)) cells ≡ total_cost (λ k. cost_at g u (instance_at g u k)) cells
+  costs_over cells = ap (λ cost. total_cost cost cells) (fun_ext (same_cell_cost g t u all_written.alike))
 
   module _ (s : Schedule) (ordered : IsOrdered g s) (small : HasSmallKeys g (placing_of s) t) (now : List Value)
       (is : now ≡ written g t es old) where

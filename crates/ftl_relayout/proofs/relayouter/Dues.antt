@@ -15,7 +15,7 @@ use Rattle.ftl_tree.proofs.rows.Access.{has_at}
 use Rattle.ftl_edits.specs.declared.meaning.types.Edit.{Edit}
 use Rattle.ftl_relayout.specs.declared.readers.add.ReaderSite.{ReaderSite}
 use Rattle.ftl_relayout.specs.keys.KeysHere.{IsAttributeOf}
-use Rattle.ftl_relayout.specs.laws.Edits.{AreEdits, IsEdit, edited_cell, written}
+use Rattle.ftl_relayout.specs.laws.Edits.{AreInputEdits, IsInputEdit, edited_cell, written}
 use Rattle.ftl_relayout.specs.queue.Nets.{IsStep, table}
 use Rattle.ftl_relayout.specs.queue.Ready.{HasChangedRead, IsDue}
 use Rattle.ftl_relayout.specs.readers.Sites.{IsReaderSite, site_grammar, site_net}
@@ -65,7 +65,7 @@ module _ (g : AttributeGrammar) (t : Forest) where
     pub given : g.sort e.attr ≡ input
     pub within : edited_cell g t e < instance_count g t
 
-  pub edited_input : (e : Edit) → IsEdit g t e → EditedInput e
+  pub edited_input : (e : Edit) → IsInputEdit g t e → EditedInput e
   edited_input e is =
       let both =
       in_filter (λ b. is_input (g.sort b)) (attributes_of g (class_at t (node_at t e.node))) e.attr is.0.input in
@@ -77,7 +77,7 @@ module _ (g : AttributeGrammar) (t : Forest) where
         within = number_within g t (node_at t e.node) e.attr there both.0;
       }
 
-  pub old_at : (es : List Edit) (old values : List Value) → AreEditedFrom g t es old values → (e : Edit) → IsEdit g t e
+  pub old_at : (es : List Edit) (old values : List Value) → AreEditedFrom g t es old values → (e : Edit) → IsInputEdit g t e
       → table old (edited_cell g t e) ≡ value_at g t (node_at t e.node) e.attr
   old_at es old values from e is =
       let i = edited_input e is in from.inputs (instance_of (node_at t e.node) e.attr) i.valid i.given
@@ -89,7 +89,7 @@ module _ (x : ReaderSite) where
   abbrev forest : Forest
   forest = x.tree.now.tree
 
-  pub edited_attribute : IsReaderSite x → (e : Edit) → IsEdit grammar forest e
+  pub edited_attribute : IsReaderSite x → (e : Edit) → IsInputEdit grammar forest e
       → IsAttributeOf x.tree.now e.node e.attr
   edited_attribute site e is =
       let i = edited_input grammar forest e is in
@@ -112,7 +112,7 @@ module _ (x : ReaderSite) where
       );
     }
 
-    pub all_wait : AreEdits grammar forest es → (keys : List ℕ)
+    pub all_wait : AreInputEdits grammar forest es → (keys : List ℕ)
         → ((m : ℕ) (d : Edit) → m < length es → (k : ℕ) → IsDueBy x values (get_or es m d) k → Contains keys k)
         → (k : ℕ) → IsStep (site_net x) k → HasChangedRead (site_net x) (table old) (table values) k
         → Contains keys ((site_net x).key k)

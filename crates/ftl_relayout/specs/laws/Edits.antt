@@ -14,9 +14,9 @@ use Rattle.ftl_order.specs.orders.LegalOrder.{HoldsInputs, IsStep}
 use Rattle.ftl_edits.specs.declared.meaning.types.Edit.{Edit}
 
 -- the tree after edits, the first one first
-abbrev pub edited : AttributeGrammar → Forest → List Edit → Forest
-edited g t [] = t
-edited g t (e ∷ es) = edited g (with_input g t e.node e.attr e.value) es
+abbrev pub with_edits : AttributeGrammar → Forest → List Edit → Forest
+with_edits g t [] = t
+with_edits g t (e ∷ es) = with_edits g (with_input g t e.node e.attr e.value) es
 
 -- the number of the instance that an edit is of
 abbrev pub edited_cell : AttributeGrammar → Forest → Edit → ℕ
@@ -28,13 +28,13 @@ written g t [] values = values
 written g t (e ∷ es) values = written g t es (slice_set values (edited_cell g t e) (number e.value))
 
 -- an edit is of an input of the tree, with a number in range
-abbrev pub IsEdit : AttributeGrammar → Forest → Edit → Type 0
-IsEdit g t e = IsInputOf g t e.node e.attr × IsInput g.greatest e.value
+abbrev pub IsInputEdit : AttributeGrammar → Forest → Edit → Type 0
+IsInputEdit g t e = IsInputOf g t e.node e.attr × IsInput g.greatest e.value
 
 -- each edit is of an input of the tree, with a number in range
-abbrev pub AreEdits : AttributeGrammar → Forest → List Edit → Type 0
-AreEdits g t [] = Unit {0}
-AreEdits g t (e ∷ es) = IsEdit g t e × AreEdits g t es
+abbrev pub AreInputEdits : AttributeGrammar → Forest → List Edit → Type 0
+AreInputEdits g t [] = Unit {0}
+AreInputEdits g t (e ∷ es) = IsInputEdit g t e × AreInputEdits g t es
 
 -- values with the inputs of a tree, but for edits that were written
 pub record AreWritten (g : AttributeGrammar) (t u : Forest) (values after : List Value) : Type 0 where
@@ -47,6 +47,6 @@ pub record AreWritten (g : AttributeGrammar) (t u : Forest) (values after : List
 -- edits make such values of a list that has the inputs of a tree
 abbrev pub EditsAreWritten : Type 0
 EditsAreWritten =
-    (g : AttributeGrammar) (t : Forest) → IsLawful g → IsTreeOf g t → (es : List Edit) → AreEdits g t es
+    (g : AttributeGrammar) (t : Forest) → IsLawful g → IsTreeOf g t → (es : List Edit) → AreInputEdits g t es
     → (values : List Value) → length values ≡ instance_count g t → HoldsInputs g t values
-    → AreWritten g t (edited g t es) values (written g t es values)
+    → AreWritten g t (with_edits g t es) values (written g t es values)

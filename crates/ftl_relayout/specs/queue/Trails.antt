@@ -13,6 +13,6 @@ abbrev pub cells_of : List Before → List ℕ
 cells_of bs = map (λ b. b.cell) bs
 
 -- the sum of what some cells cost
-abbrev pub cost_of : (ℕ → ℕ) → List ℕ → ℕ
-cost_of cost [] = 0
-cost_of cost (x ∷ xs) = cost x + cost_of cost xs
+abbrev pub total_cost : (ℕ → ℕ) → List ℕ → ℕ
+total_cost cost [] = 0
+total_cost cost (x ∷ xs) = cost x + total_cost cost xs

@@ -15,6 +15,7 @@ use Rattle.ftl_relayout.specs.declared.readers.add.ReaderSite.{ReaderSite}
 use Rattle.ftl_relayout.specs.declared.readers.reader.Range.{Range}
 use Rattle.ftl_relayout.specs.declared.readers.reader.Reader.{Reader}
 use Rattle.ftl_relayout.specs.keys.Keys.{key_of}
+use Rattle.ftl_relayout.specs.keys.KeyPlaces.{AreKeyPlaces}
 use Rattle.ftl_relayout.specs.keys.KeysHere.{IsAttributeOf, placing}
 use Rattle.ftl_relayout.specs.laws.TreeNets.{HasSmallKeys, instance_at, net_of}
 use Rattle.ftl_relayout.specs.queue.Nets.{Net}
@@ -35,11 +36,12 @@ site_net x = net_of (site_grammar x) (site_placing x) x.tree.now.tree
 abbrev pub cell_of : CheckedTree → (node attribute : ℕ) → ℕ
 cell_of t node a = instance_number (meant t.checked) t.tree (instance_in t node a)
 
--- the grammar is lawful, its instances have keys, and the readers are its
+-- the grammar is lawful, its instances have keys, and the readers are its and the places in keys its and the schedule's
 pub record IsReaderSite (x : ReaderSite) : Type 0 where
   pub law : IsLawful (site_grammar x)
   pub small : HasSmallKeys (site_grammar x) (site_placing x) x.tree.now.tree
   pub readers : AreReaders (site_grammar x) x.readers.now
+  pub places : AreKeyPlaces x.tree.now.checked x.accepted.now.schedule x.places.now
 
 -- the key of what a rule computes that runs at the node for one of these kids
 pub record IsKeyOfKid (x : ReaderSite) (node : ℕ) (e : Reader) (range : Range) (key : ℕ) : Type 0 where

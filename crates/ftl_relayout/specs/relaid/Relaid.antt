@@ -6,14 +6,14 @@ use Rattle.ftl_model.specs.layout.Table.{SolvesList, value_in}
 use Rattle.ftl_model.specs.layout.Tree.{Forest}
 use Rattle.ftl_model.specs.layout.Values.{Value}
 use Rattle.ftl_edits.specs.declared.meaning.types.Edit.{Edit}
-use Rattle.ftl_relayout.specs.laws.Edits.{edited}
+use Rattle.ftl_relayout.specs.laws.Edits.{with_edits}
 use Rattle.ftl_relayout.specs.laws.Relayout.{AreTouched}
 use Rattle.ftl_relayout.specs.laws.TreeNets.{cost_at, instance_at}
-use Rattle.ftl_relayout.specs.queue.Trails.{cost_of}
+use Rattle.ftl_relayout.specs.queue.Trails.{total_cost}
 
 -- the tree after edits, in their order
 abbrev pub edited_tree : CheckedGrammar → Forest → List Edit → Forest
-edited_tree c t edits = edited (meant c) t edits
+edited_tree c t edits = with_edits (meant c) t edits
 
 -- These values solve the changed tree, and these are the numbers of the instances that are touched: that are computed
 -- and have a read whose value is another one than before.
@@ -23,4 +23,4 @@ pub record IsRelaid (c : CheckedGrammar) (u : Forest) (old values : List Value) 
 
 -- what computing these instances anew costs: 1 for each, and for a fold 1 more for each kid
 abbrev pub relayout_cost : CheckedGrammar → Forest → (numbers : List ℕ) → ℕ
-relayout_cost c u numbers = cost_of (λ n. cost_at (meant c) u (instance_at (meant c) u n)) numbers
+relayout_cost c u numbers = total_cost (λ n. cost_at (meant c) u (instance_at (meant c) u n)) numbers

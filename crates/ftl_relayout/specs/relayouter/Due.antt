@@ -9,7 +9,7 @@ use Rattle.ftl_model.specs.layout.WithInput.{value_at}
 use Rattle.ftl_order.specs.orders.LegalOrder.{HoldsInputs}
 use Rattle.ftl_edits.specs.declared.meaning.types.Edit.{Edit}
 use Rattle.ftl_relayout.specs.declared.readers.add.ReaderSite.{ReaderSite}
-use Rattle.ftl_relayout.specs.laws.Edits.{IsEdit, edited_cell, written}
+use Rattle.ftl_relayout.specs.laws.Edits.{IsInputEdit, edited_cell, written}
 use Rattle.ftl_relayout.specs.queue.Nets.{IsReaderBy, table}
 use Rattle.ftl_relayout.specs.readers.Sites.{site_grammar, site_net}
 
@@ -26,6 +26,6 @@ IsChangedBy g t values e = table values (edited_cell g t e) ≢ value_at g t (no
 
 -- the key of a step that reads the edited input, whose value is changed
 pub record IsDueBy (x : ReaderSite) (values : List Value) (e : Edit) (key : ℕ) : Type 0 where
-  pub edit : IsEdit (site_grammar x) x.tree.now.tree e
+  pub edit : IsInputEdit (site_grammar x) x.tree.now.tree e
   pub changed : IsChangedBy (site_grammar x) x.tree.now.tree values e
   pub reader : IsReaderBy (site_net x) (edited_cell (site_grammar x) x.tree.now.tree e) key

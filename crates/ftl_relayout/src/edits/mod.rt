@@ -2,8 +2,6 @@
 //! the values with these numbers, and a trail that takes the writes back; `specs/laws/Edits.antt`
 //! has the words.
 
-mod edit;
 mod write;
 
-pub use edit::{Edit, EditList, InstanceList};
 pub(crate) use write::write_inputs;

@@ -4,12 +4,12 @@ ghost use Rattle.std.specs.List.{All};
 ghost use Rattle.ftl_deps.specs.reads.Meant.{meant};
 ghost use Rattle.ftl_model.specs.layout.Table.{instance_count};
 ghost use Rattle.ftl_model.specs.layout.Values.{number};
-ghost use Rattle.ftl_relayout.specs.laws.Edits.{AreEdits, IsEdit, edited_cell, written};
+ghost use Rattle.ftl_relayout.specs.laws.Edits.{AreInputEdits, IsInputEdit, edited_cell, written};
 ghost use Rattle.ftl_relayout.specs.queue.Trails.{undone};
 
-use crate::edits::edit::Edit;
 use crate::queue::Before;
 use ftl_base::Val;
+use ftl_edits::Edit;
 use ftl_tree::Tree;
 use std::alloc::AllocError;
 
@@ -20,7 +20,7 @@ pub(crate) fn write_inputs(
     values: &mut [Val],
     trail: &mut Vec<Before>,
 ) -> Result<(), AllocError>
-    requires edits { AreEdits (meant tree.now.checked) tree.now.tree edits.now }
+    requires edits { AreInputEdits (meant tree.now.checked) tree.now.tree edits.now }
     requires count { length values.old ≡ instance_count (meant tree.now.checked) tree.now.tree }
     requires empty { trail.old.items ≡ [] }
     ensures written { OnOk result (values.new
@@ -42,7 +42,7 @@ fn write_input(
     values: &mut [Val],
     trail: &mut Vec<Before>,
 ) -> Result<(), AllocError>
-    requires edit { IsEdit (meant tree.now.checked) tree.now.tree edit }
+    requires edit { IsInputEdit (meant tree.now.checked) tree.now.tree edit }
     requires count { length values.old ≡ instance_count (meant tree.now.checked) tree.now.tree }
     requires within { All (λ b. b.cell < length values.old) trail.old.items }
     ensures written { OnOk result (values.new ≡ slice_set values.old

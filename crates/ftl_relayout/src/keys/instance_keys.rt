@@ -6,33 +6,31 @@ ghost use Rattle.ftl_model.specs.layout.Path.{node_at, number_of};
 ghost use Rattle.ftl_model.specs.layout.Solves.{instance_of, rule_node};
 ghost use Rattle.ftl_model.specs.layout.Tree.{size};
 ghost use Rattle.ftl_relayout.specs.keys.Keys as keys;
-ghost use Rattle.ftl_relayout.specs.laws.TreeNets.{HasSmallKeys};
+ghost use Rattle.ftl_schedule.specs.declared.stages.types.Schedule.{Schedule};
 ghost use Rattle.ftl_schedule.specs.stages.Stages.{kind_of as kind_meant};
 ghost use Rattle.ftl_relayout.specs.keys.KeysHere.{IsAttributeOf, placing};
+ghost use Rattle.ftl_relayout.specs.keys.KeyPlaces.{IsKeyPlace};
 
-use crate::keys::sorts::kind_of;
-use ftl_checked::Checked;
+use crate::keys::places::KeyPlace;
 use ftl_grammar::AttrKind;
-use ftl_schedule::{Accepted, PassKind};
+use ftl_schedule::PassKind;
 use ftl_tree::Tree;
 
-/// The key of an attribute of a node: the stage, the time and the tie in its pass, the place in the
-/// list, the node, the attribute.
-pub fn key_of(checked: &Checked, accepted: &Accepted, tree: &Tree<'_>, node: u32, attr: u32) -> u128
-    requires grammar { tree.now.checked ≡ checked.now }
+/// The key of an attribute of a node, of which it is known where the schedule has it: the stage, the
+/// time and the tie in its pass, the place in the list, the node, the attribute.
+pub(crate) fn key_of(at: &KeyPlace, tree: &Tree<'_>, node: u32, attr: u32) -> u128
     requires attribute { IsAttributeOf tree.now node attr }
-    requires small { HasSmallKeys (meant checked.now) (placing accepted.now.schedule)
-        tree.now.tree }
-    ensures key { result ≡ keys.key_of (meant checked.now) (placing accepted.now.schedule)
-        tree.now.tree (instance_of (node_at tree.now.tree node) attr) }
+    requires stage { at.now.stage < 2097152 }
+    requires index { at.now.index < 2097152 }
+    ensures key { (s : Schedule) → IsKeyPlace tree.now.checked s attr at.now
+        → result ≡ keys.key_of (meant tree.now.checked) (placing s) tree.now.tree
+        (instance_of (node_at tree.now.tree node) attr) }
 {
     let _nodes = tree.node_count();
-    let place = accepted.schedule_place(attr);
-    let kind = kind_of(checked, attr);
-    let time = time_of(tree, place.kind, kind, node);
-    let tie = tie_of(tree, place.kind, kind, node);
-    let high = (place.stage as u128 * 2097152 + time as u128) * 2097152 + tie as u128;
-    let low = (high * 2097152 + place.index as u128) * 2097152 + node as u128;
+    let time = time_of(tree, at.pass, at.kind, node);
+    let tie = tie_of(tree, at.pass, at.kind, node);
+    let high = (at.stage as u128 * 2097152 + time as u128) * 2097152 + tie as u128;
+    let low = (high * 2097152 + at.index as u128) * 2097152 + node as u128;
     low * 2097152 + attr as u128
 }
 

@@ -3,8 +3,10 @@
 //! read there. `specs/keys/Keys.antt` says which.
 
 mod instance_keys;
+mod places;
 mod sorts;
 mod told;
 
-pub use instance_keys::key_of;
+pub(crate) use instance_keys::key_of;
+pub(crate) use places::{KeyPlace, key_places};
 pub(crate) use told::told;

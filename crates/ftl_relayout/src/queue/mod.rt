@@ -4,10 +4,14 @@
 //! computed, by which all can be taken back. `specs/queue/Nets.antt` says what rules are asked to
 //! be.
 
+mod laws;
 mod rules;
 mod run;
 mod trail;
+mod waiting;
 
+pub use laws::touched_depend;
 pub use rules::Rules;
 pub use run::run_all;
 pub use trail::{Before, is_same, undo};
+pub use waiting::Waiting;

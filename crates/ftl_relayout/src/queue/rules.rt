@@ -4,9 +4,9 @@ ghost use Rattle.ftl_relayout.specs.queue.Nets.{IsKeyOf, IsLawfulNet, IsReaderBy
 ghost use Rattle.ftl_relayout.specs.queue.Nets.{table};
 ghost use Rattle.ftl_visit.specs.compiled.RuleCode.{Compiled};
 
+use crate::queue::waiting::Waiting;
 use ftl_base::Val;
 use std::alloc::AllocError;
-use std::collections::BTreeSet;
 
 /// Rules that compute cells from one another by some code, with a count of what they have cost.
 pub trait Rules {
@@ -31,15 +31,11 @@ pub trait Rules {
         ensures value { result ≡ (net self.old).value (table values.now) cell }
         ensures stays { net self.new ≡ net self.old }
         ensures code { code self.new ≡ code self.old }
+        ensures grows { spent self.old ≤ spent self.new }
         ensures spent { spent self.new ≤ spent self.old + (net self.old).cost cell };
 
     /// Lets all wait that read a cell.
-    fn add_readers(
-        &self,
-        cell: u32,
-        key: u128,
-        waiting: &mut BTreeSet<u128>,
-    ) -> Result<(), AllocError>
+    fn add_readers(&self, cell: u32, key: u128, waiting: &mut Waiting) -> Result<(), AllocError>
         requires cell { cell < (net self.now).cells }
         requires key { (net self.now).key cell ≡ key }
         ensures kept { (k : ℕ) → Contains waiting.old.keys k → Contains waiting.new.keys k }

@@ -4,20 +4,20 @@ ghost use Rattle.std.specs.List.{All};
 ghost use Rattle.ftl_model.specs.layout.Values.{Value};
 ghost use Rattle.ftl_relayout.specs.queue.Nets.{IsKeyOf, IsLawfulNet};
 ghost use Rattle.ftl_relayout.specs.queue.Ready.{IsDone, IsReady, IsRun};
-ghost use Rattle.ftl_relayout.specs.queue.Trails.{cells_of, cost_of, undone};
+ghost use Rattle.ftl_relayout.specs.queue.Trails.{cells_of, total_cost, undone};
 
 use crate::queue::rules::Rules;
 use crate::queue::trail::{Before, is_same};
+use crate::queue::waiting::Waiting;
 use ftl_base::Val;
 use std::alloc::AllocError;
-use std::collections::BTreeSet;
 
 /// Computes all that waits, the least key first, and all that comes to wait. The trail has what was
 /// computed, and takes all of it back.
 pub fn run_all<R: Rules>(
     rules: &mut R,
     values: &mut [Val],
-    waiting: &mut BTreeSet<u128>,
+    waiting: &mut Waiting,
     trail: &mut Vec<Before>,
 ) -> Result<(), AllocError>
     requires lawful { IsLawfulNet (R.net rules.old) }
@@ -27,8 +27,9 @@ pub fn run_all<R: Rules>(
     ensures done { (old final : ℕ → Value) → IsReady (R.net rules.old) old final
         values.old waiting.old.keys
         → OnOk result (IsDone (R.net rules.old) old final values.new (cells_of trail.new.items)) }
+    ensures grows { R.spent rules.old ≤ R.spent rules.new }
     ensures spent { R.spent rules.new ≤ R.spent rules.old
-        + cost_of (R.net rules.old).cost (cells_of trail.new.items) }
+        + total_cost (R.net rules.old).cost (cells_of trail.new.items) }
     // what a failure leaves
     ensures undone { undone trail.new.items values.new ≡ values.old }
     ensures within { All (λ b. b.cell < length values.new) trail.new.items }
@@ -36,7 +37,7 @@ pub fn run_all<R: Rules>(
     ensures code { R.code rules.new ≡ R.code rules.old }
 {
     let mut least = 0u128;
-    while let Some(key) = waiting.pop_first() {
+    while let Some(key) = waiting.pop_least() {
         run_one(rules, values, waiting, trail, key)?;
         least = key + 1;
     }
@@ -47,7 +48,7 @@ pub fn run_all<R: Rules>(
 fn run_one<R: Rules>(
     rules: &mut R,
     values: &mut [Val],
-    waiting: &mut BTreeSet<u128>,
+    waiting: &mut Waiting,
     trail: &mut Vec<Before>,
     key: u128,
 ) -> Result<(), AllocError>
@@ -56,9 +57,10 @@ fn run_one<R: Rules>(
     requires within { All (λ b. b.cell < length values.old) trail.old.items }
     ensures ran { OnOk result (IsRun (R.net rules.old) key values.old values.new
         waiting.old.keys waiting.new.keys trail.old.items trail.new.items) }
+    ensures grows { R.spent rules.old ≤ R.spent rules.new }
     ensures spent { R.spent rules.new
-        + cost_of (R.net rules.old).cost (cells_of trail.old.items)
-        ≤ R.spent rules.old + cost_of (R.net rules.old).cost (cells_of trail.new.items) }
+        + total_cost (R.net rules.old).cost (cells_of trail.old.items)
+        ≤ R.spent rules.old + total_cost (R.net rules.old).cost (cells_of trail.new.items) }
     ensures undone { undone trail.new.items values.new ≡ undone trail.old.items values.old }
     ensures within { All (λ b. b.cell < length values.new) trail.new.items }
     ensures count { length values.new ≡ length values.old }

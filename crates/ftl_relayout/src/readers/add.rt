@@ -15,11 +15,13 @@ ghost use Rattle.ftl_relayout.specs.readers.Readers.{rule_kids, seen_as};
 ghost use Rattle.ftl_relayout.specs.readers.Sites.{Adds, IsKeyOfKid, IsReaderKeyAt, IsReaderSite};
 ghost use Rattle.ftl_relayout.specs.readers.Sites.{IsCellOfKey, IsTarget, IsTold, cell_of};
 ghost use Rattle.ftl_relayout.specs.readers.Sites.{site_net};
+ghost use Rattle.ftl_relayout.specs.keys.KeyPlaces.{IsKeyPlace};
 ghost use Rattle.ftl_relayout.specs.keys.KeysHere.{IsAttributeOf};
 ghost use Rattle.ftl_relayout.specs.queue.Nets.{IsReaderBy};
 ghost use Rattle.ftl_relayout.specs.readers.Sites.{site_grammar, site_placing};
 
-use crate::keys::{key_of, told};
+use crate::keys::{KeyPlace, key_of, told};
+use crate::queue::Waiting;
 use crate::readers::kids::reader_kids;
 use crate::readers::reader::{Range, Reader};
 use ftl_meaning::RuleInfo;
@@ -27,14 +29,14 @@ use ftl_schedule::Accepted;
 use ftl_tree::{Place, Tree};
 use sqlite_items::Items;
 use std::alloc::AllocError;
-use std::collections::BTreeSet;
 
-/// A tree and its schedule, with the readers of each attribute.
+/// A tree and its schedule, with the readers of each attribute and its place in keys.
 #[derive(Clone, Copy)]
 pub(crate) struct ReaderSite<'a> {
     pub accepted: &'a Accepted<'a>,
     pub tree: &'a Tree<'a>,
     pub readers: &'a [Items<Reader>],
+    pub places: &'a [KeyPlace],
 }
 
 /// Lets all steps wait that read an attribute of a node.
@@ -42,7 +44,7 @@ pub(crate) fn add_readers(
     site: &ReaderSite<'_>,
     node: u32,
     attr: u32,
-    waiting: &mut BTreeSet<u128>,
+    waiting: &mut Waiting,
 ) -> Result<(), AllocError>
     requires site { IsReaderSite site.now }
     requires attribute { IsAttributeOf site.now.tree.now node attr }
@@ -68,7 +70,7 @@ fn add_at(
     node: u32,
     place: Option<Place>,
     attr: u32,
-    waiting: &mut BTreeSet<u128>,
+    waiting: &mut Waiting,
 ) -> Result<(), AllocError>
     requires site { IsReaderSite site.now }
     requires node { node < size site.now.tree.now.tree }
@@ -96,7 +98,7 @@ fn add_by(
     place: Option<Place>,
     class: u32,
     reader: &Reader,
-    waiting: &mut BTreeSet<u128>,
+    waiting: &mut Waiting,
 ) -> Result<(), AllocError>
     requires site { IsReaderSite site.now }
     requires node { node < size site.now.tree.now.tree }
@@ -126,7 +128,7 @@ fn add_kids(
     node: u32,
     reader: &Reader,
     kids: Range,
-    waiting: &mut BTreeSet<u128>,
+    waiting: &mut Waiting,
 ) -> Result<(), AllocError>
     requires site { IsReaderSite site.now }
     requires node { node < size site.now.tree.now.tree }
@@ -161,7 +163,17 @@ fn step_key(site: &ReaderSite<'_>, node: u32, info: RuleInfo, kid: u32) -> u128
     let tree = site.tree;
     let _nodes = tree.node_count();
     let target = target_node(tree, node, info, kid);
-    key_of(tree.checked(), site.accepted, tree, target, info.attr)
+    let at = key_place(site, info.attr);
+    key_of(&at, tree, target, info.attr)
+}
+
+/// The place of an attribute in keys.
+fn key_place(site: &ReaderSite<'_>, attr: u32) -> KeyPlace
+    requires site { IsReaderSite site.now }
+    requires attr { attr < (site_grammar site.now).attribute_count }
+    ensures place { IsKeyPlace site.now.tree.now.checked site.now.accepted.now.schedule attr result }
+{
+    site.places[attr as usize]
 }
 
 /// The node whose attribute a rule defines that runs at a node for a kid.

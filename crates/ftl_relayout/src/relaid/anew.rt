@@ -8,13 +8,12 @@ ghost use Rattle.ftl_model.specs.layout.Table.{SolvesList};
 ghost use Rattle.ftl_step_value.specs.value.StepValue.{IsCodeFor};
 ghost use Rattle.ftl_relayout.specs.relaid.Relaid.{IsRelaid, edited_tree, relayout_cost};
 
-use crate::edits::InstanceList;
 use crate::relayouter::Relayouter;
 use ftl_base::Val;
 use ftl_checked::Checked;
 use ftl_edits::EditList;
 use ftl_schedule::Accepted;
-use ftl_tree::Tree;
+use ftl_tree::{InstanceList, Tree};
 use ftl_visit::Runner;
 use std::alloc::{AllocError, Global};
 
@@ -41,6 +40,7 @@ pub fn relayout(
     ensures relaid { IfOk result (λ touched.
         IsRelaid checked.now tree.new.tree values.old values.new touched) }
     ensures rising { IfOk result (λ touched. IsStrictlyIncreasing touched) }
+    ensures grows { IfOk result (λ _. runner.old.runs ≤ runner.new.runs) }
     ensures runs { IfOk result (λ touched. runner.new.runs
         ≤ runner.old.runs + relayout_cost checked.now tree.new.tree touched) }
     // what stays

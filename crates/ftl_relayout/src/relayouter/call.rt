@@ -3,19 +3,20 @@ ghost use Rattle.std.specs.Prelude.{◌≡◌, ◌∷◌, [], IfOk, OnErr};
 ghost use Rattle.ftl_deps.specs.reads.Meant.{meant};
 ghost use Rattle.ftl_model.specs.layout.Table.{SolvesList};
 ghost use Rattle.ftl_step_value.specs.value.StepValue.{IsCodeFor};
-ghost use Rattle.ftl_relayout.specs.laws.Edits.{AreEdits, IsEdit};
-ghost use Rattle.ftl_relayout.specs.relayouter.Relaid.{RelayoutGives, after_edits};
+ghost use Rattle.ftl_relayout.specs.laws.Edits.{AreInputEdits, IsInputEdit};
+ghost use Rattle.ftl_relayout.specs.relayouter.Relaid.{RelayoutGives, tree_with_edits};
 
-use crate::edits::{Edit, EditList, InstanceList};
+use crate::keys::{KeyPlace, key_places};
 use crate::readers::{Reader, ReaderSite, all_readers};
 use crate::relayouter::touched::touched;
 use crate::relayouter::tree_rules::TreeRules;
 use crate::values::Buffers;
 use ftl_base::{CodeStack, Val};
 use ftl_checked::Checked;
+use ftl_edits::{Edit, EditList};
 use ftl_limits::{ReadTables, is_sound};
 use ftl_schedule::Accepted;
-use ftl_tree::Tree;
+use ftl_tree::{InstanceList, Tree};
 use ftl_visit::Runner;
 use sqlite_items::Items;
 use std::alloc::{AllocError, Global};
@@ -28,6 +29,7 @@ pub struct Relayouter<'a> {
     accepted: &'a Accepted<'a>,
     tables: ReadTables,
     readers: Vec<Items<Reader>>,
+    places: Vec<KeyPlace>,
 }
 
 impl<'a> Model for Relayouter<'a> {
@@ -42,7 +44,8 @@ impl<'a> Model for Relayouter<'a> {
 
     ghost view = { λ r. r.accepted.now };
 
-    ghost invariant = { λ r. IsRelayouter r.accepted.now r.tables r.readers.items };
+    ghost invariant = { λ r. IsRelayouter r.accepted.now r.tables r.readers.items
+        r.places.items };
 }
 
 impl<'a> Relayouter<'a> {
@@ -58,10 +61,12 @@ impl<'a> Relayouter<'a> {
         is_sound(checked);
         let tables = ReadTables::new(alloc, checked)?;
         let readers = all_readers(alloc, checked, tables.parts.as_slice())?;
+        let places = key_places(alloc, checked, accepted)?;
         Ok(Relayouter {
             accepted,
             tables,
             readers,
+            places,
         })
     }
 
@@ -78,7 +83,7 @@ impl<'a> Relayouter<'a> {
         requires grammar { self.now.checked ≡ tree.old.checked }
         requires code { IsCodeFor tree.old.checked runner.old.programs }
         requires solved { SolvesList (meant tree.old.checked) tree.old.tree values.old }
-        requires edits { AreEdits (meant tree.old.checked) tree.old.tree edits.now }
+        requires edits { AreInputEdits (meant tree.old.checked) tree.old.tree edits.now }
         ensures relaid { IfOk result (RelayoutGives tree.old tree.new edits.now values.old values.new
             runner.old runner.new) }
         ensures grammar { tree.new.checked ≡ tree.old.checked }
@@ -104,8 +109,8 @@ impl<'a> Relayouter<'a> {
         requires grammar { self.now.checked ≡ tree.now.checked }
         requires code { IsCodeFor tree.now.checked runner.now.programs }
         requires solved { SolvesList (meant tree.now.checked) tree.now.tree values.old }
-        requires edits { AreEdits (meant tree.now.checked) tree.now.tree edits.now }
-        ensures relaid { IfOk result (λ x. RelayoutGives tree.now (after_edits tree.now edits.now)
+        requires edits { AreInputEdits (meant tree.now.checked) tree.now.tree edits.now }
+        ensures relaid { IfOk result (λ x. RelayoutGives tree.now (tree_with_edits tree.now edits.now)
             edits.now values.old values.new runner.now x.1 x.0) }
         ensures stay { OnErr result (values.new ≡ values.old) }
     {
@@ -115,6 +120,7 @@ impl<'a> Relayouter<'a> {
             accepted: self.accepted,
             tree,
             readers: self.readers.as_slice(),
+            places: self.places.as_slice(),
         };
         let buffers = Buffers {
             reads: Vec::from_elem(alloc, None, 256)?,
@@ -128,8 +134,8 @@ impl<'a> Relayouter<'a> {
 
 /// Applies edits to a tree, one after the other. It takes no memory.
 fn apply(tree: &mut Tree<'_>, edits: &[Edit])
-    requires edits { AreEdits (meant tree.old.checked) tree.old.tree edits.now }
-    ensures edited { tree.new ≡ after_edits tree.old edits.now }
+    requires edits { AreInputEdits (meant tree.old.checked) tree.old.tree edits.now }
+    ensures edited { tree.new ≡ tree_with_edits tree.old edits.now }
 {
     is_sound(tree.checked());
     for edit in edits {
@@ -139,8 +145,8 @@ fn apply(tree: &mut Tree<'_>, edits: &[Edit])
 
 /// Applies an edit to a tree.
 fn apply_one(tree: &mut Tree<'_>, edit: Edit)
-    requires edit { IsEdit (meant tree.old.checked) tree.old.tree edit }
-    ensures edited { tree.new ≡ after_edits tree.old (edit ∷ []) }
+    requires edit { IsInputEdit (meant tree.old.checked) tree.old.tree edit }
+    ensures edited { tree.new ≡ tree_with_edits tree.old (edit ∷ []) }
 {
     tree.set_input(edit.node, edit.attr, edit.value);
 }

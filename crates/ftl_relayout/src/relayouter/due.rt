@@ -2,27 +2,27 @@
 ghost use Rattle.std.specs.Prelude.{◌≡◌, ◌≢◌, ℕ, List, [], length, Contains, IsTrue, not, OnOk};
 ghost use Rattle.ftl_model.specs.layout.Table.{instance_count};
 ghost use Rattle.ftl_model.specs.layout.Values as model;
-ghost use Rattle.ftl_relayout.specs.laws.Edits.{AreEdits, IsEdit, edited_cell};
+ghost use Rattle.ftl_relayout.specs.laws.Edits.{AreInputEdits, IsInputEdit, edited_cell};
 ghost use Rattle.ftl_relayout.specs.queue.Nets.{IsReaderBy, IsStep, table};
 ghost use Rattle.ftl_relayout.specs.queue.Ready.{HasChangedRead, IsDue};
 ghost use Rattle.ftl_relayout.specs.readers.Sites.{Adds, IsReaderSite, site_grammar, site_net};
 ghost use Rattle.ftl_relayout.specs.relayouter.Due.{AreEditedFrom, IsChangedBy, IsDueBy};
 
-use crate::edits::Edit;
+use crate::queue::Waiting;
 use crate::readers::{ReaderSite, add_readers};
 use ftl_base::Val;
+use ftl_edits::Edit;
 use std::alloc::AllocError;
-use std::collections::BTreeSet;
 
 /// Lets wait what reads an edited input whose value is not that of the tree.
 pub(crate) fn add_due(
     readers: &ReaderSite<'_>,
     values: &[Val],
     edits: &[Edit],
-    waiting: &mut BTreeSet<u128>,
+    waiting: &mut Waiting,
 ) -> Result<(), AllocError>
     requires site { IsReaderSite readers.now }
-    requires edits { AreEdits (site_grammar readers.now) readers.now.tree.now.tree edits.now }
+    requires edits { AreInputEdits (site_grammar readers.now) readers.now.tree.now.tree edits.now }
     requires count { length values.now
         ≡ instance_count (site_grammar readers.now) readers.now.tree.now.tree }
     requires empty { waiting.old.keys ≡ [] }
@@ -49,10 +49,10 @@ fn add_changed(
     readers: &ReaderSite<'_>,
     values: &[Val],
     edit: Edit,
-    waiting: &mut BTreeSet<u128>,
+    waiting: &mut Waiting,
 ) -> Result<(), AllocError>
     requires site { IsReaderSite readers.now }
-    requires edit { IsEdit (site_grammar readers.now) readers.now.tree.now.tree edit }
+    requires edit { IsInputEdit (site_grammar readers.now) readers.now.tree.now.tree edit }
     requires count { length values.now
         ≡ instance_count (site_grammar readers.now) readers.now.tree.now.tree }
     ensures adds { Adds waiting.old.keys waiting.new.keys (IsDueBy readers.now values.now edit) }

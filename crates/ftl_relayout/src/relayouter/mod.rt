@@ -6,6 +6,7 @@
 
 mod call;
 mod due;
+mod sorted;
 mod touched;
 mod tree_rules;
 

@@ -1,25 +1,26 @@
 //! The touched instances, with the values computed anew.
 ghost use Rattle.std.specs.Prelude.{◌≡◌, ◌≤◌, ◌+◌, ◌<◌, [], length, IfOk, OnErr};
 ghost use Rattle.std.specs.List.{All};
-ghost use Rattle.std.specs.List.Sorted.{IsNonDecreasing, IsPermutation, IsStrictlyIncreasing};
+ghost use Rattle.std.specs.List.Sorted.{IsStrictlyIncreasing};
 ghost use Rattle.ftl_model.specs.layout.Table.{SolvesList};
 ghost use Rattle.ftl_order.specs.orders.Ordered.{IsOrdered};
 ghost use Rattle.ftl_schedule.specs.stages.Stages.{stages_of};
-ghost use Rattle.ftl_relayout.specs.laws.Edits.{AreEdits, edited};
+ghost use Rattle.ftl_relayout.specs.laws.Edits.{AreInputEdits, with_edits};
 ghost use Rattle.ftl_relayout.specs.laws.Relayout.{IsLaidOut};
-ghost use Rattle.ftl_relayout.specs.queue.Trails.{cells_of, cost_of, undone};
+ghost use Rattle.ftl_relayout.specs.queue.Trails.{total_cost, undone};
 ghost use Rattle.ftl_relayout.specs.readers.Sites.{IsReaderSite, site_grammar, site_net};
 ghost use Rattle.ftl_relayout.specs.relayouter.TreeRules.{run_net};
 
-use crate::edits::{Edit, InstanceList, write_inputs};
-use crate::queue::{Before, run_all, undo};
+use crate::edits::write_inputs;
+use crate::queue::{Before, Waiting, run_all, undo};
 use crate::readers::ReaderSite;
 use crate::relayouter::due::add_due;
+use crate::relayouter::sorted::sorted_cells;
 use crate::relayouter::tree_rules::TreeRules;
 use ftl_base::Val;
-use sqlite_items::Items;
+use ftl_edits::Edit;
+use ftl_tree::InstanceList;
 use std::alloc::{AllocError, Global};
-use std::collections::BTreeSet;
 
 /// The touched instances, with the values computed anew; after want of memory the values are as
 /// before.
@@ -35,13 +36,14 @@ pub(crate) fn touched(
         (stages_of readers.now.accepted.now.schedule) }
     requires net { run_net rules.old ≡ site_net readers.now }
     requires solved { SolvesList (site_grammar readers.now) readers.now.tree.now.tree values.old }
-    requires edits { AreEdits (site_grammar readers.now) readers.now.tree.now.tree edits.now }
+    requires edits { AreInputEdits (site_grammar readers.now) readers.now.tree.now.tree edits.now }
     ensures laid_out { IfOk result (IsLaidOut (site_grammar readers.now)
-        (edited (site_grammar readers.now) readers.now.tree.now.tree edits.now)
+        (with_edits (site_grammar readers.now) readers.now.tree.now.tree edits.now)
         values.old values.new) }
     ensures rising { IfOk result (λ cells. IsStrictlyIncreasing cells) }
+    ensures grows { rules.old.runs ≤ rules.new.runs }
     ensures spent { IfOk result (λ cells. rules.new.runs
-        ≤ rules.old.runs + cost_of (site_net readers.now).cost cells) }
+        ≤ rules.old.runs + total_cost (site_net readers.now).cost cells) }
     ensures programs { rules.new.programs ≡ rules.old.programs }
     ensures stay { OnErr result (values.new ≡ values.old) }
 {
@@ -78,15 +80,16 @@ fn compute(
         (stages_of readers.now.accepted.now.schedule) }
     requires net { run_net rules.old ≡ site_net readers.now }
     requires solved { SolvesList (site_grammar readers.now) readers.now.tree.now.tree values.old }
-    requires edits { AreEdits (site_grammar readers.now) readers.now.tree.now.tree edits.now }
+    requires edits { AreInputEdits (site_grammar readers.now) readers.now.tree.now.tree edits.now }
     requires no_inputs { inputs.old.items ≡ [] }
     requires none_computed { computed.old.items ≡ [] }
     ensures laid_out { IfOk result (IsLaidOut (site_grammar readers.now)
-        (edited (site_grammar readers.now) readers.now.tree.now.tree edits.now)
+        (with_edits (site_grammar readers.now) readers.now.tree.now.tree edits.now)
         values.old values.new) }
     ensures rising { IfOk result (λ cells. IsStrictlyIncreasing cells) }
+    ensures grows { rules.old.runs ≤ rules.new.runs }
     ensures spent { IfOk result (λ cells. rules.new.runs
-        ≤ rules.old.runs + cost_of (site_net readers.now).cost cells) }
+        ≤ rules.old.runs + total_cost (site_net readers.now).cost cells) }
     ensures programs { rules.new.programs ≡ rules.old.programs }
     // what a failure leaves
     ensures undone { undone inputs.new.items (undone computed.new.items values.new)
@@ -95,22 +98,9 @@ fn compute(
     ensures computed_within { All (λ b. b.cell < length values.new) computed.new.items }
 {
     let _nodes = readers.tree.node_count();
-    let mut waiting = BTreeSet::new(alloc);
+    let mut waiting = Waiting::new(alloc);
     write_inputs(readers.tree, edits, values, inputs)?;
     add_due(readers, values, edits, &mut waiting)?;
     run_all(rules, values, &mut waiting, computed)?;
     sorted_cells(alloc, computed)
-}
-
-/// The cells of a trail, in rising order.
-fn sorted_cells(alloc: Global, trail: &[Before]) -> Result<InstanceList, AllocError>
-    ensures cells { IfOk result (λ cells. IsPermutation (cells_of trail.now) cells) }
-    ensures sorted { IfOk result (λ cells. IsNonDecreasing cells) }
-{
-    let mut cells = Vec::with_capacity(alloc, trail.len())?;
-    for before in trail {
-        cells.push(before.cell)?;
-    }
-    cells.sort_unstable();
-    Ok(Items::from_vec(cells))
 }

@@ -3,14 +3,13 @@ ghost use Rattle.ftl_relayout.specs.relayouter.TreeRules.{AreTreeRules, tree_run
 ghost use Rattle.std.specs.Prelude.{◌≡◌, ◌<◌, ◌≤◌, ◌⊎◌, ◌+◌, ℕ, Contains, length, OnOk};
 ghost use Rattle.ftl_relayout.specs.queue.Nets.{IsKeyOf, IsLawfulNet, IsReaderBy, IsStep, table};
 
-use crate::queue::Rules;
+use crate::queue::{Rules, Waiting};
 use crate::readers::{ReaderSite, add_readers, told_instance};
 use crate::values::{Buffers, Site, value_of, writer};
 use ftl_base::Val;
 use ftl_limits::ReadTables;
 use ftl_visit::Runner;
 use std::alloc::AllocError;
-use std::collections::BTreeSet;
 use std::marker::Model;
 
 /// The rules of a tree, with what they are run by. Contracts see the tree, its schedule, and the
@@ -91,12 +90,7 @@ impl<'a, 'p> Rules for TreeRules<'a, 'p> {
         value_of(&site, step, values, &mut self.runner, &mut self.buffers)
     }
 
-    fn add_readers(
-        &self,
-        cell: u32,
-        key: u128,
-        waiting: &mut BTreeSet<u128>,
-    ) -> Result<(), AllocError> {
+    fn add_readers(&self, cell: u32, key: u128, waiting: &mut Waiting) -> Result<(), AllocError> {
         let (node, attr) = told_instance(&self.readers, key);
         add_readers(&self.readers, node, attr, waiting)
     }

@@ -24,6 +24,7 @@ pub(crate) fn part_value(
     requires values { length values.now ≡ instance_count (meant tree.now.checked) tree.now.tree }
     requires runs { CanRun tree.now.checked runner.old buffers.old }
     ensures value { result ≡ part_gives tree.now values.now part.now so_far }
+    ensures grows { runner.old.runs ≤ runner.new.runs }
     ensures count { runner.new.runs ≤ runner.old.runs + 1 }
     ensures programs { runner.new.programs ≡ runner.old.programs }
     ensures runs { CanRun tree.now.checked runner.new buffers.new }
@@ -55,11 +56,14 @@ fn run_part(
     requires room { IsRoomFor runner.old.programs stack.old.room }
     requires row { 256 ≤ length row.old }
     ensures value { result ≡ part_gives tree.now values.now part.now so_far }
+    ensures grows { runner.old.runs ≤ runner.new.runs }
     ensures count { runner.new.runs ≤ runner.old.runs + 1 }
     ensures programs { runner.new.programs ≡ runner.old.programs }
     ensures room { stack.new.room ≡ stack.old.room }
 {
     parts_give_the_rule();
+    // So it is known to be a number of 64 bits.
+    let _before = runner.runs();
     let step = part.step;
     load(tree, step.node, part.at_hand, part.reads, values, row);
     let given = &row[..part.reads.len()];

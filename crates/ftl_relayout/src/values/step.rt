@@ -38,6 +38,7 @@ pub(crate) fn value_of(
     requires runs { CanRun site.now.tree.now.checked runner.old buffers.old }
     ensures value { result ≡ value_of_step (meant site.now.tree.now.checked) site.now.tree.now.tree
         (value_in (meant site.now.tree.now.checked) site.now.tree.now.tree values.now) step }
+    ensures grows { runner.old.runs ≤ runner.new.runs }
     ensures count { runner.new.runs ≤ runner.old.runs
         + cost_at (meant site.now.tree.now.checked) site.now.tree.now.tree
         (target_of (meant site.now.tree.now.checked) site.now.tree.now.tree step) }
@@ -92,6 +93,7 @@ fn one_part(
     requires runs { CanRun site.now.tree.now.checked runner.old buffers.old }
     ensures value { result ≡ value_of_step (meant site.now.tree.now.checked) site.now.tree.now.tree
         (value_in (meant site.now.tree.now.checked) site.now.tree.now.tree values.now) step }
+    ensures grows { runner.old.runs ≤ runner.new.runs }
     ensures count { runner.new.runs ≤ runner.old.runs + 1 }
     ensures programs { runner.new.programs ≡ runner.old.programs }
     ensures runs { CanRun site.now.tree.now.checked runner.new buffers.new }
@@ -141,6 +143,7 @@ fn fold_value(
     requires runs { CanRun site.now.tree.now.checked runner.old buffers.old }
     ensures value { result ≡ value_of_step (meant site.now.tree.now.checked) site.now.tree.now.tree
         (value_in (meant site.now.tree.now.checked) site.now.tree.now.tree values.now) step }
+    ensures grows { runner.old.runs ≤ runner.new.runs }
     ensures count { runner.new.runs ≤ runner.old.runs
         + (1 + kids_in site.now.tree.now step.node fold.now.child) }
     ensures programs { runner.new.programs ≡ runner.old.programs }

@@ -45,7 +45,7 @@ cells_solve undone t k grammar words x cells are =
 
 -- edits keep the number of instances
 same_count : (g : AttributeGrammar) (t : Forest) (es : List Edit)
-    → instance_count g t ≡ instance_count g (change.edited g t es)
+    → instance_count g t ≡ instance_count g (change.with_edits g t es)
 same_count g t [] = refl
 same_count g t (e ∷ es) =
     let place = place_in (class_inputs g (class_at t (node_at t e.node))) e.attr in

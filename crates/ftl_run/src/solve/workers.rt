@@ -9,7 +9,7 @@ ghost use Rattle.ftl_cells.specs.declared.work_phases.phase.Phases.{Phases};
 
 use ftl_cells::{Cells, Phases, Work};
 use ftl_edge::Gate;
-use ftl_lots::run_lots;
+use ftl_lots::{CellWords, run_lots};
 use ftl_plan::{Plan, solve_alone};
 use ftl_steal::{run_alone, run_stage};
 use std::alloc::{AllocError, Global};
@@ -35,15 +35,15 @@ pub fn solve<R: Threads + Wait + Sync, G: Gate>(
         return solve_alone(alloc, plan);
     }
     plan.words_fit();
-    let mut words = plan.first_words(alloc)?;
-    let mut parts = Vec::new(alloc);
+    let mut words = CellWords::in_a_row(plan.first_words(alloc)?, Vec::new(alloc));
     for stage in 0..plan.stage_count() {
         let work = plan.stage(stage);
         let lots = lot_count(work.cells(), workers);
         let phases = work.phases(alloc, lots)?;
-        words = words_after(rt, alloc, work, phases, words, &mut parts, workers, gate)?;
+        words = words_after(rt, alloc, work, phases, words, workers, gate)?;
     }
-    Ok(words)
+    let (row, _parts) = words.into_row(rt);
+    Ok(row)
 }
 
 // So many lots for each worker, so that those who are done early find more to take.
@@ -63,30 +63,32 @@ fn lot_count(cells: u32, workers: u32) -> u32
 
 /// The words after a work, from those that fit it. An item by itself is computed by the calling
 /// thread on the words as they are. Elsewhere workers share cells and take items from each other:
-/// those of the work, or where the items have phases lots of them, which are filled in `parts`.
+/// those of the work, or where the items have phases lots of them.
 fn words_after<R: Threads + Wait + Sync, W: Work + Drop, G: Gate>(
     rt: &R,
     alloc: Global,
     work: W,
     phases: Option<Phases>,
-    words: Vec<u64>,
-    parts: &mut Vec<Vec<u64>>,
+    words: CellWords,
     workers: u32,
     gate: &G,
-) -> Result<Vec<u64>, AllocError>
-    requires first { AreFirst (W.meaning work) words.items }
+) -> Result<CellWords, AllocError>
+    requires first { AreFirst (W.meaning work) words }
     requires phases { (t : Phases) → phases ≡ Some t → CanTake (W.meaning work) t }
     requires some { 0 < workers }
     requires few { workers ≤ 64 }
-    ensures last { IfOk result (λ v. AreLast (W.meaning work) v.items) }
+    ensures last { IfOk result (AreLast (W.meaning work)) }
 {
     if work.items() < 2 {
-        return run_alone(alloc, &work, words);
+        let (row, parts) = words.into_row(rt);
+        let row = run_alone(alloc, &work, row)?;
+        return Ok(CellWords::in_a_row(row, parts));
     }
     if let Some(phases) = phases {
-        return run_lots(rt, alloc, &work, &phases, words, parts, workers, gate);
+        return run_lots(rt, alloc, &work, &phases, words, workers, gate);
     }
-    let (cells, hand) = Cells::open(alloc, work, words)?;
+    let (row, parts) = words.into_row(rt);
+    let (cells, hand) = Cells::open(alloc, work, row)?;
     let hand = run_stage(rt, alloc, &cells, hand, workers, gate)?;
-    Ok(cells.close(hand))
+    Ok(CellWords::in_a_row(cells.close(hand), parts))
 }

@@ -9,6 +9,7 @@ mod build;
 mod class_attrs;
 mod class_table;
 mod input_counts;
+mod instances;
 mod laws;
 mod runs;
 mod tree;
@@ -16,6 +17,7 @@ mod widths;
 mod zeroed;
 
 pub use crate::rows::{NodeRow, Place};
+pub use instances::InstanceList;
 pub use laws::{one_input_changes, second_word_is_wider, two_bare_words};
 pub use tree::Tree;
 pub use zeroed::bare_tree;

@@ -1,11 +1,12 @@
 -- The parts of a fold are read at the step's node, and the fold goes on from what it has.
-use Rattle.std.proofs.Common.{◌≡◌, ◌<◌, None, refl, subst, ◌∙◌, arith}
+use Rattle.std.proofs.Common.{◌≡◌, ◌<◌, None, map, refl, subst, ◌∙◌, arith}
+use Rattle.ftl_deps.specs.parts.RuleParts.{read_meant}
 use Rattle.ftl_meaning.specs.faults.Checked.{CheckedGrammar}
 use Rattle.ftl_meaning.specs.faults.FirstFault.{first_fault}
 use Rattle.ftl_visit.specs.step_reads.StepReads.{kids_in}
 use Rattle.ftl_visit.specs.declared.compiled.part.Part.TheVariants.{From, With}
 use Rattle.ftl_demand.specs.demand.Outcomes.{IsPartOutcome}
-use Rattle.ftl_demand.proofs.demand.Folds.{each_lacks, each_reads, each_reads_there, fold_has_start, fold_has_step, fold_is, fold_more, fold_rule, start_lacks, start_reads, start_reads_there}
+use Rattle.ftl_demand.proofs.demand.Folds.{each_lacks, each_reads, each_reads_there, fold_has_start, fold_has_step, fold_is, fold_more, fold_rule, fold_waits, start_lacks, start_reads, start_reads_there}
 use Rattle.ftl_demand.proofs.demand.advance.advance_fold.Goals as goal
 
 pub part_outcome-requires-clause-part : goal.part_outcome-requires-clause-part
@@ -134,3 +135,24 @@ returns-clause-outcome c = λ values solved.
     c.loop-kid.invariant.so_far_is values solved
     ∙ fold_is t law fits none x is c.args.child start each c.requires.fold c.parts_give_the_rule.ensures.value values
     solved c.loop-kid.kid all
+
+pub returns-in_err-value-clause-top : goal.returns-in_err-value-clause-top
+returns-in_err-value-clause-top c =
+    let i = c.loop-kid.invariant in
+    fold_waits c.args.site.now.tree.now c.args.top.now c.loop-kid.top c.args.child (map read_meant c.args.start.now)
+    (map read_meant c.args.each.now) c.requires.fold c.requires.top i.step i.cell c.loop-kid.kid c.loop-kid.so_far
+    i.taken i.held i.so_far_is i.few
+
+pub returns-in-Lacks-2-clause-top : goal.returns-in-Lacks-2-clause-top
+returns-in-Lacks-2-clause-top c =
+    let i = c.loop-kid.invariant in
+    fold_waits c.args.site.now.tree.now c.args.top.now c.loop-kid.top c.args.child (map read_meant c.args.start.now)
+    (map read_meant c.args.each.now) c.requires.fold c.requires.top i.step i.cell c.loop-kid.kid c.loop-kid.so_far
+    i.taken i.held i.so_far_is i.few
+
+pub returns-clause-top : goal.returns-clause-top
+returns-clause-top c =
+    let i = c.loop-kid.invariant in
+    fold_waits c.args.site.now.tree.now c.args.top.now c.loop-kid.top c.args.child (map read_meant c.args.start.now)
+    (map read_meant c.args.each.now) c.requires.fold c.requires.top i.step i.cell c.loop-kid.kid c.loop-kid.so_far
+    i.taken i.held i.so_far_is i.few

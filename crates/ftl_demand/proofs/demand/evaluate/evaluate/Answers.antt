@@ -1,94 +1,49 @@
--- The stack stays one, and less is left to do.
-use Rattle.std.proofs.Common.{◌≡◌, ◌++◌, ◌∷◌, [], List, ap, arith, refl, subst, sym, ◌∙◌}
-use Rattle.ftl_deps.specs.reads.Meant.{meant}
-use Rattle.ftl_model.specs.layout.Table.{instance_number}
-use Rattle.ftl_demand.specs.declared.demand.waiting.Waiting.{Waiting}
-use Rattle.ftl_demand.specs.demand.Frames.{IsWaiting}
-use Rattle.ftl_demand.specs.demand.Outcomes.{IsStepOutcome}
-use Rattle.ftl_demand.specs.demand.Sites.{instance_at}
-use Rattle.ftl_demand.proofs.demand.WaitingSteps.{first_waits}
-use Rattle.ftl_demand.proofs.demand.Stacks.{IsStack, cells_are, less_when_computed, less_when_pushed, next_computed, next_is, next_pushed, next_within, target}
+-- What lacks nothing never waits.
+use Rattle.std.proofs.Common.{Option, subst}
+use Rattle.std.specs.Option.{IfSome}
+use Rattle.ftl_model.specs.layout.Values.{Value}
+use Rattle.ftl_demand.specs.demand.Outcomes.{IsValueOf}
+use Rattle.ftl_demand.proofs.demand.Stacks.{first_there, first_within, none_waits}
 use Rattle.ftl_demand.proofs.demand.evaluate.evaluate.Goals as goal
 
-pub loop-next-init : goal.loop-next-init
-loop-next-init c =
-    let t = c.args.site.now.tree.now in
-    let w = c.waiting_step.result in
-    let start = instance_number (meant t.checked) t.tree (instance_at t c.args.wanted) in
-    let items : c.push.new.self.items ≡ w ∷ [] =
-    c.in_ok-push.ensures.items ∙ ap (λ (xs : List Waiting). xs ++ w ∷ []) c.requires.empty in
-    record {
-      stack =
-          subst (IsStack t c.args.wanted c.args.words.now c.args.words.now) (sym items)
-          (first_waits (meant t.checked) t.tree (target t) (λ (v : Waiting). v.cell) (IsWaiting t) start
-          c.args.words.now w c.requires.words c.waiting_step.ensures.waiting
-          (cells_are t w c.waiting_step.ensures.waiting
-          ∙ ap (instance_number (meant t.checked) t.tree) c.waiting_step.ensures.target)
-          c.requires.lacking);
-      room = refl;
-    }
+pub ready_value-requires-clause-step : goal.ready_value-requires-clause-step
+ready_value-requires-clause-step c = c.waiting_step-first.ensures.waiting.step
 
-pub advance-requires-clause-top : goal.advance-requires-clause-top
-advance-requires-clause-top c =
-    next_is c.args.site.now.tree.now c.requires.site.sound.law c.node_count-nodes.ensures.is_tree c.requires.ends
-    c.args.wanted c.args.words.now c.loop-next.words c.loop-next.waiting.items c.pop.new.self.items c.in-Some.next
-    c.in-Some.ensures.items c.loop-next.invariant.stack
+pub bounds-words-first : goal.bounds-words-first
+bounds-words-first c =
+    first_within c.args.site.now.tree.now c.requires.site.sound.law c.node_count-nodes.ensures.is_tree c.requires.ends
+    c.args.wanted c.args.words.now c.waiting_step-first.result c.requires.words c.waiting_step-first.ensures.waiting
+    c.waiting_step-first.ensures.target c.requires.lacking
 
-pub bounds-words-top : goal.bounds-words-top
-bounds-words-top c =
-    let within = next_within c.args.site.now.tree.now c.requires.site.sound.law c.node_count-nodes.ensures.is_tree
-    c.requires.ends c.args.wanted c.args.words.now c.loop-next.words c.loop-next.waiting.items c.pop.new.self.items
-    c.in-Some.next c.in-Some.ensures.items c.loop-next.invariant.stack in
-    let same = c.in_ok-value.ensures.cell in
-    omega (arith, within, same)
+pub returns-clause-there : goal.returns-clause-there
+returns-clause-there c =
+    let first = c.waiting_step-first.result in
+    let is : IsValueOf c.args.site.now.tree.now first.step c.in-Some.value =
+    subst (λ (o : Option Value). IfSome o (IsValueOf c.args.site.now.tree.now first.step)) c.in-Some.is
+    c.in_ok-value.ensures.value in
+    first_there c.args.site.now.tree.now c.requires.site.sound.law c.node_count-nodes.ensures.is_tree c.requires.ends
+    c.args.wanted c.args.words.now c.waiting_step-first.result c.requires.words c.waiting_step-first.ensures.waiting
+    c.waiting_step-first.ensures.target c.requires.lacking c.in-Some.value c.word_of.result c.word_of.ensures.not_empty
+    c.word_of.ensures.word is
 
-pub loop-next-smaller-in-Done : goal.loop-next-smaller-in-Done
-loop-next-smaller-in-Done c =
-    less_when_computed c.args.site.now.tree.now c.requires.site.sound.law c.node_count-nodes.ensures.is_tree
-    c.requires.ends c.args.wanted c.args.words.now c.loop-next.words c.loop-next.waiting.items c.pop.new.self.items
-    c.in-Some.next c.in-Some.ensures.items c.loop-next.invariant.stack c.in-Done.value c.advance.new.top.cell
-    c.word_of.result c.in_ok-value.ensures.cell c.word_of.ensures.not_empty c.word_of.ensures.word
-    (subst (IsStepOutcome c.args.site.now.tree.now c.loop-next.words c.in-Some.next.step) c.in-Done.is
-    c.in_ok-value.ensures.outcome)
+pub returns-clause-stays : goal.returns-clause-stays
+returns-clause-stays c =
+    let first = c.waiting_step-first.result in
+    let is : IsValueOf c.args.site.now.tree.now first.step c.in-Some.value =
+    subst (λ (o : Option Value). IfSome o (IsValueOf c.args.site.now.tree.now first.step)) c.in-Some.is
+    c.in_ok-value.ensures.value in
+    (none_waits c.args.site.now.tree.now c.requires.site.sound.law c.node_count-nodes.ensures.is_tree c.requires.ends
+    c.args.wanted c.args.words.now c.waiting_step-first.result c.requires.words c.waiting_step-first.ensures.waiting
+    c.waiting_step-first.ensures.target c.requires.lacking c.in-Some.value c.word_of.result c.word_of.ensures.not_empty
+    c.word_of.ensures.word is).stays
 
-pub loop-next-preserved-in-Done : goal.loop-next-preserved-in-Done
-loop-next-preserved-in-Done c = record {
-  stack =
-      next_computed c.args.site.now.tree.now c.requires.site.sound.law c.node_count-nodes.ensures.is_tree
-      c.requires.ends c.args.wanted c.args.words.now c.loop-next.words c.loop-next.waiting.items c.pop.new.self.items
-      c.in-Some.next c.in-Some.ensures.items c.loop-next.invariant.stack c.in-Done.value c.advance.new.top.cell
-      c.word_of.result c.in_ok-value.ensures.cell c.word_of.ensures.not_empty c.word_of.ensures.word
-      (subst (IsStepOutcome c.args.site.now.tree.now c.loop-next.words c.in-Some.next.step) c.in-Done.is
-      c.in_ok-value.ensures.outcome);
-  room = c.in_ok-value.ensures.room ∙ c.loop-next.invariant.room;
-}
-
-pub loop-next-smaller : goal.loop-next-smaller
-loop-next-smaller c =
-    let items : c.push-in-Lacks-2.new.self.items
-    ≡ (c.pop.new.self.items ++ c.advance.new.top ∷ []) ++ c.waiting_step-in-Lacks.result ∷ [] =
-    c.in_ok-push-in-Lacks-2.ensures.items
-    ∙ ap (λ (xs : List Waiting). xs ++ c.waiting_step-in-Lacks.result ∷ []) c.in_ok-push-in-Lacks.ensures.items in
-    less_when_pushed c.args.site.now.tree.now c.requires.site.sound.law c.node_count-nodes.ensures.is_tree
-    c.requires.ends c.args.wanted c.args.words.now c.loop-next.words c.loop-next.waiting.items c.pop.new.self.items
-    c.in-Some.next c.in-Some.ensures.items c.loop-next.invariant.stack c.advance.new.top c.waiting_step-in-Lacks.result
-    c.push-in-Lacks-2.new.self.items c.in_ok-value.ensures.step c.in_ok-value.ensures.cell items
-
-pub loop-next-preserved : goal.loop-next-preserved
-loop-next-preserved c =
-    let items : c.push-in-Lacks-2.new.self.items
-    ≡ (c.pop.new.self.items ++ c.advance.new.top ∷ []) ++ c.waiting_step-in-Lacks.result ∷ [] =
-    c.in_ok-push-in-Lacks-2.ensures.items
-    ∙ ap (λ (xs : List Waiting). xs ++ c.waiting_step-in-Lacks.result ∷ []) c.in_ok-push-in-Lacks.ensures.items in
-    record {
-      stack =
-          next_pushed c.args.site.now.tree.now c.requires.site.sound.law c.node_count-nodes.ensures.is_tree
-          c.requires.ends c.args.wanted c.args.words.now c.loop-next.words c.loop-next.waiting.items
-          c.pop.new.self.items c.in-Some.next c.in-Some.ensures.items c.loop-next.invariant.stack c.advance.new.top
-          c.waiting_step-in-Lacks.result c.push-in-Lacks-2.new.self.items c.in_ok-value.ensures.step
-          c.in_ok-value.ensures.cell items c.in-Lacks.lacking c.in_ok-value.ensures.top
-          c.waiting_step-in-Lacks.ensures.waiting c.waiting_step-in-Lacks.ensures.target
-          (subst (IsStepOutcome c.args.site.now.tree.now c.loop-next.words c.in-Some.next.step) c.in-Lacks.is
-          c.in_ok-value.ensures.outcome);
-      room = c.in_ok-value.ensures.room ∙ c.loop-next.invariant.room;
-    }
+pub returns-clause-words : goal.returns-clause-words
+returns-clause-words c =
+    let first = c.waiting_step-first.result in
+    let is : IsValueOf c.args.site.now.tree.now first.step c.in-Some.value =
+    subst (λ (o : Option Value). IfSome o (IsValueOf c.args.site.now.tree.now first.step)) c.in-Some.is
+    c.in_ok-value.ensures.value in
+    (none_waits c.args.site.now.tree.now c.requires.site.sound.law c.node_count-nodes.ensures.is_tree c.requires.ends
+    c.args.wanted c.args.words.now c.waiting_step-first.result c.requires.words c.waiting_step-first.ensures.waiting
+    c.waiting_step-first.ensures.target c.requires.lacking c.in-Some.value c.word_of.result c.word_of.ensures.not_empty
+    c.word_of.ensures.word is).so_far

@@ -1,9 +1,12 @@
 -- The first words are those of inputs, and in the end all are there.
 use Rattle.std.proofs.Common.{◌≡◌, arith, length, subst, sym, ◌∙◌}
 use Rattle.ftl_deps.specs.reads.Meant.{meant}
-use Rattle.ftl_limits.specs.reads.ReadTables.{AreTables}
+use Rattle.ftl_limits.specs.reads.ReadTables.{AreTables, IsSound}
 use Rattle.ftl_meaning.specs.faults.Checked.{CheckedGrammar}
 use Rattle.ftl_plan.proofs.plans.InputRows.{written}
+use Rattle.ftl_step_value.specs.neighbours.NeighbourParts.{AreNeighbourParts}
+use Rattle.ftl_step_value.specs.value.RuleCopies.{AreCopies}
+use Rattle.ftl_step_value.specs.value.StepValue.{IsCodeFor}
 use Rattle.ftl_demand.specs.demand.Solved.{IsSolvedBy}
 use Rattle.ftl_demand.proofs.demand.Filled.{first_so_far}
 use Rattle.ftl_demand.proofs.demand.NoncircularTrees.{chains_end, law, solved, some_values}
@@ -13,6 +16,29 @@ pub first_words-requires-clause-tables : goal.first_words-requires-clause-tables
 first_words-requires-clause-tables c =
     subst (λ (k : CheckedGrammar). AreTables (meant k) c.in_ok-tables.tables) (sym c.requires.tree)
     c.in_ok-tables.ensures.tables
+
+pub evaluate_all-requires-clause-site : goal.evaluate_all-requires-clause-site
+evaluate_all-requires-clause-site c =
+    let same = sym c.requires.tree in
+    record {
+      sound = subst (λ (k : CheckedGrammar). IsSound (meant k)) same c.is_sound.ensures.sound;
+      tables =
+          subst (λ (k : CheckedGrammar). AreTables (meant k) c.in_ok-tables.tables) same c.in_ok-tables.ensures.tables;
+      copies =
+          subst (λ (k : CheckedGrammar). AreCopies k c.as_slice.result.now) same
+          (subst (AreCopies c.args.checked.now) (sym c.as_slice.ensures.value) c.in_ok-copies.ensures.copies);
+      neighbours =
+          subst (λ (k : CheckedGrammar). AreNeighbourParts k c.as_slice-2.result.now) same
+          (subst (AreNeighbourParts c.args.checked.now) (sym c.as_slice-2.ensures.value)
+          c.in_ok-neighbours.ensures.parts);
+      code =
+          subst (λ (k : CheckedGrammar). IsCodeFor k c.args.programs.now) same
+          (record {
+            rules = c.requires.rules;
+            width = c.requires.width;
+            compilable = c.is_sound.ensures.code;
+          });
+    }
 
 pub evaluate_all-requires-clause-room : goal.evaluate_all-requires-clause-room
 evaluate_all-requires-clause-room c =

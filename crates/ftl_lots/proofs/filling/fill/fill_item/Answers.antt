@@ -4,6 +4,6 @@ use Rattle.ftl_lots.proofs.filling.fill.fill_item.Goals as goal
 
 pub returns-clause-filled : goal.returns-clause-filled
 returns-clause-filled g c =
-    let next = goes_on (g.W.Meant.meaning c.args.work.now) c.args.phases.now c.args.phase c.run_one.new.filler.words.now
+    let next = goes_on (g.W.Meant.meaning c.args.work.now) c.args.phases.now c.args.phase (g.S.WordRow.words c.run_one.new.filler.words.now)
     c.args.first c.args.item in
     search rules

@@ -22,6 +22,6 @@ loop-item-preserved g c =
           let other : phase_at t item ≢ c.args.phase = λ same.
           let is_true = c.is.ensures.same.1 (at ∙ same) in
           absurd (cc) in
-          let next = passes_by m t c.args.phase c.loop-item.words c.args.first item inv.filled other in
+          let next = passes_by m t c.args.phase (g.S.WordRow.words c.loop-item.words) c.args.first item inv.filled other in
           search rules
     ]

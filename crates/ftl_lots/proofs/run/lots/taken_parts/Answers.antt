@@ -1,5 +1,5 @@
 use Rattle.std.proofs.Common.{rules, arith}
-use Rattle.ftl_lots.proofs.run.Copies.{push_filled}
+use Rattle.ftl_lots.proofs.run.LotParts.{push_filled}
 use Rattle.ftl_lots.proofs.run.lots.taken_parts.Goals as goal
 
 pub loop-lot-preserved : goal.loop-lot-preserved

@@ -1,5 +1,5 @@
 use Rattle.std.proofs.Common.{◌≡◌, vec_len}
-use Rattle.ftl_lots.specs.run.Copied.{AreFilledFrom}
+use Rattle.ftl_lots.specs.table.Lots.{AreFilledFrom}
 use Rattle.ftl_lots.proofs.run.lots.taken_parts.Given as goal
 
 abbrev pub invariant-loop-lot : goal.invariant-loop-lot

@@ -1,51 +1,84 @@
-use Rattle.std.proofs.Common.{rules, ◌≡◌, ◌<◌, ◌^◌, subst, sym, ap, length, arith}
-use Rattle.std.proofs.lemmas.List.{with_items_is}
+use Rattle.std.proofs.Common.{◌≡◌, ◌+◌, subst, sym, ap, ◌∙◌, length, arith}
 use Rattle.ftl_cells.specs.shared.Work.{cell_total}
 use Rattle.ftl_cells.specs.shared.State.{AreLast}
-use Rattle.ftl_lots.specs.filling.Filled.{HoldMade, IsOfFirstOrRanges}
-use Rattle.ftl_lots.proofs.filling.Joins.{ends, last_begins}
-use Rattle.ftl_lots.proofs.run.Copies.{all_can}
+use Rattle.ftl_cells.specs.declared.work_phases.phase.Phase.TheVariants.{First}
+use Rattle.ftl_lots.specs.filling.Filled.{HoldMade, IsFilledIn, IsOfFirstOrRanges}
+use Rattle.ftl_lots.specs.words.Parts.{IsCut, all_words}
+use Rattle.ftl_lots.proofs.filling.Joins.{begins, ends, first_made, last_begins}
+use Rattle.ftl_lots.proofs.run.LotParts.{begun, filled_cut, first_begins, joined, lots_end}
 use Rattle.ftl_lots.proofs.run.phases.run_lots.Goals as goal
 
-pub copy_back-requires-clause-ready : goal.copy_back-requires-clause-ready
-copy_back-requires-clause-ready g c κs within =
+pub fill_alone-requires-clause-filled : goal.fill_alone-requires-clause-filled
+fill_alone-requires-clause-filled g c κs within =
     let m = g.W.Meant.meaning c.args.work.now in
-    let narrow : cell_total m < 2 ^ 32 = search rules in
-    let cells : length c.fill_alone.new.words ≡ cell_total m =
-    omega (arith, c.fill_alone.ensures.count, ap length c.as_mut_slice-all.ensures.value, c.requires.first.count) in
-    let lots = c.in_ok-filled.ensures in
-    all_can m c.args.phases.now c.fill_alone.new.words c.as_slice.result.now c.items-items.ensures.lawful
-    c.requires.phases cells (search rules) (omega (arith, lots.few, lots.count)) narrow (search rules)
+    let t = c.args.phases.now in
+    subst (λ ws. IsFilledIn m t First ws 0 0 0) (sym c.in_ok-all.ensures.cut.words_are)
+    (begins m t c.args.words c.items-items.ensures.lawful c.requires.phases c.requires.first)
+
+pub filled_parts-requires-clause-begun : goal.filled_parts-requires-clause-begun
+filled_parts-requires-clause-begun g c κs within =
+    let m = g.W.Meant.meaning c.args.work.now in
+    let t = c.args.phases.now in
+    let parts = c.fill_alone.new.words.parts.items in
+    let size = c.fill_alone.ensures.size ∙ c.in_ok-all.ensures.size in
+    let cut : IsCut t.size parts = subst (λ n. IsCut n parts) size c.fill_alone.ensures.cut in
+    let count : 0 + length (all_words parts) ≡ cell_total m =
+    omega (
+      arith,
+      c.fill_alone.ensures.count,
+      ap length c.in_ok-all.ensures.cut.words_are,
+      c.requires.first.count,
+    ) in
+    begun m t 0 0 parts cut (first_begins m t) count
+    (first_made m t (all_words parts) c.fill_alone.ensures.filled)
 
 pub fill_alone-requires-2-clause-filled : goal.fill_alone-requires-2-clause-filled
 fill_alone-requires-2-clause-filled g c κs within =
     let m = g.W.Meant.meaning c.args.work.now in
     let t = c.args.phases.now in
-    let copied = c.copy_back.ensures.copied in
-    let lots : length c.as_slice.result.now ≡ t.ranges = search rules in
-    last_begins m t c.copy_back.new.words c.items-items.ensures.lawful c.requires.phases
-    (omega (
+    let law = c.items-items.ensures.lawful in
+    let parts = c.in_ok-parts.parts.items in
+    let filled = c.in_ok-parts.ensures.filled in
+    let lots : length parts ≡ t.ranges = omega (arith, c.in_ok-parts.ensures.count) in
+    let stop = (filled_cut m t 0 0 parts (first_begins m t) filled).1 in
+    let count : length (all_words parts) ≡ cell_total m =
+    omega (arith, stop, lots_end m t (length parts) c.requires.phases lots) in
+    last_begins m t (all_words parts) law c.requires.phases count
+    (subst (λ n. HoldMade m (IsOfFirstOrRanges t 0 n) (all_words parts) 0) lots
+    (joined m t 0 0 parts law c.requires.phases (first_begins m t) filled))
+
+pub fill_alone-requires-2-clause-cut : goal.fill_alone-requires-2-clause-cut
+fill_alone-requires-2-clause-cut g c κs within =
+    let m = g.W.Meant.meaning c.args.work.now in
+    let t = c.args.phases.now in
+    (filled_cut m t 0 0 c.in_ok-parts.parts.items (first_begins m t) c.in_ok-parts.ensures.filled).0
+
+pub in_parts-requires-clause-count : goal.in_parts-requires-clause-count
+in_parts-requires-clause-count g c =
+    let m = g.W.Meant.meaning c.args.work.now in
+    let t = c.args.phases.now in
+    let parts = c.in_ok-parts.parts.items in
+    let lots : length parts ≡ t.ranges = omega (arith, c.in_ok-parts.ensures.count) in
+    let stop = (filled_cut m t 0 0 parts (first_begins m t) c.in_ok-parts.ensures.filled).1 in
+    omega (
       arith,
-      copied.count_is,
-      c.fill_alone.ensures.count,
-      ap length c.as_mut_slice-all.ensures.value,
+      c.in_ok-all.ensures.row,
       c.requires.first.count,
-    ))
-    (subst (λ n. HoldMade m (IsOfFirstOrRanges t 0 n) c.copy_back.new.words 0) lots copied.made)
+      c.fill_alone-2.ensures.count,
+      stop,
+      lots_end m t (length parts) c.requires.phases lots,
+    )
 
 pub returns : goal.returns
 returns g c =
     let m = g.W.Meant.meaning c.args.work.now in
-    let words = c.fill_alone-2.new.words in
-    let same : length words ≡ length c.args.words.items =
-    omega (
-      arith,
-      c.fill_alone-2.ensures.count,
-      c.copy_back.ensures.copied.count_is,
-      c.fill_alone.ensures.count,
-      ap length c.as_mut_slice-all.ensures.value,
-    ) in
-    let count : length words ≡ c.args.words.len = omega (arith, same) in record {
-      last = subst (AreLast m) (sym (with_items_is c.args.words words count))
-          (ends m c.args.phases.now words c.fill_alone-2.ensures.filled (omega (arith, same, c.requires.first.count)));
+    let t = c.args.phases.now in
+    let parts = c.in_ok-parts.parts.items in
+    let words = all_words c.fill_alone-2.new.words.parts.items in
+    let lots : length parts ≡ t.ranges = omega (arith, c.in_ok-parts.ensures.count) in
+    let stop = (filled_cut m t 0 0 parts (first_begins m t) c.in_ok-parts.ensures.filled).1 in
+    let count : length words ≡ cell_total m =
+    omega (arith, c.fill_alone-2.ensures.count, stop, lots_end m t (length parts) c.requires.phases lots) in record {
+      last = subst (AreLast m) (sym c.in_parts.ensures.words)
+          (ends m t words c.fill_alone-2.ensures.filled count);
     }

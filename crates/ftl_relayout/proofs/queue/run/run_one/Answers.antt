@@ -2,7 +2,7 @@ use Rattle.std.proofs.Common.{not, ◌≢◌, ◌∙◌, ◌+◌, ◌≤◌, ap,
 use Rattle.std.proofs.lemmas.List.{get_or_read}
 use Rattle.ftl_model.specs.layout.Values.{overflow}
 use Rattle.ftl_relayout.specs.queue.Nets.{IsReaderBy, table}
-use Rattle.ftl_relayout.specs.queue.Trails.{cells_of, cost_of, undone}
+use Rattle.ftl_relayout.specs.queue.Trails.{cells_of, total_cost, undone}
 use Rattle.ftl_relayout.specs.declared.queue.trail.Before.{Before}
 use Rattle.ftl_relayout.proofs.queue.Trails.{cells-last, more_spent, on_ok, undone_same, undone_written}
 use Rattle.ftl_relayout.proofs.queue.run.run_one.Goals as goal
@@ -12,8 +12,8 @@ returns-then-is_same-clause-spent g c =
     let b : Before = record { cell = c.cell-cell.result; value = c.index-values-cell.result } in
     let cost = (g.R.Rules.net c.args.rules.now).cost in
     subst
-    (λ xs. g.R.Rules.spent c.compute-value.new.self + cost_of cost (cells_of c.args.trail.now.items)
-    ≤ g.R.Rules.spent c.args.rules.now + cost_of cost (cells_of xs))
+    (λ xs. g.R.Rules.spent c.compute-value.new.self + total_cost cost (cells_of c.args.trail.now.items)
+    ≤ g.R.Rules.spent c.args.rules.now + total_cost cost (cells_of xs))
     (sym c.in_ok-push.ensures.items)
     (more_spent cost c.args.trail.now.items b (g.R.Rules.spent c.args.rules.now) (g.R.Rules.spent c.compute-value.new.self)
     c.compute-value.ensures.spent)
@@ -62,8 +62,8 @@ returns-clause-spent g c =
     let b : Before = record { cell = c.cell-cell.result; value = c.index-values-cell.result } in
     let cost = (g.R.Rules.net c.args.rules.now).cost in
     subst
-    (λ xs. g.R.Rules.spent c.compute-value.new.self + cost_of cost (cells_of c.args.trail.now.items)
-    ≤ g.R.Rules.spent c.args.rules.now + cost_of cost (cells_of xs))
+    (λ xs. g.R.Rules.spent c.compute-value.new.self + total_cost cost (cells_of c.args.trail.now.items)
+    ≤ g.R.Rules.spent c.args.rules.now + total_cost cost (cells_of xs))
     (sym c.in_ok-push.ensures.items)
     (more_spent cost c.args.trail.now.items b (g.R.Rules.spent c.args.rules.now) (g.R.Rules.spent c.compute-value.new.self)
     c.compute-value.ensures.spent)

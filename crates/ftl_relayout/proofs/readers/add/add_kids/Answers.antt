@@ -1,12 +1,12 @@
 -- One key more.
-use Rattle.std.proofs.Common.{◌≡◌, ◌⊎◌, ℕ, ◌+◌, ◌<◌, List, Contains, sym, subst, inl, inr, ⊎_elim, arith}
+use Rattle.std.proofs.Common.{◌≡◌, ◌⊎◌, ℕ, ◌+◌, ◌<◌, Contains, sym, subst, inl, inr, ⊎_elim, arith}
 use Rattle.std.proofs.lemmas.Bool.{cases_lt}
 use Rattle.ftl_deps.specs.reads.Products.{name_of_info}
 use Rattle.ftl_model.specs.layout.Path.{node_at}
 use Rattle.ftl_order.specs.steps.Steps.{target_of_rule}
 use Rattle.ftl_relayout.specs.keys.Keys.{key_of}
 use Rattle.ftl_relayout.specs.readers.Sites.{IsKeyOfKid, site_grammar, site_placing}
-use Rattle.ftl_relayout.proofs.readers.Inserts.{Inserted, adds_both, adds_one, adds_same, inserted}
+use Rattle.ftl_relayout.proofs.readers.Inserts.{adds_both, adds_one, adds_same}
 use Rattle.ftl_relayout.proofs.readers.add.add_kids.Goals as goal
 
 at_most : (m n : ℕ) → m < n + 1 → (m < n) ⊎ (m ≡ n)
@@ -26,8 +26,7 @@ loop-kid-preserved c =
     let here = c.step_key-key.ensures.key in
     let least = c.loop-kid.auto.kid in
     let below = c.loop-kid-test.true in
-    let i : Inserted ks after key =
-    subst (λ (xs : List ℕ). Inserted ks xs key) (sym c.in_ok-insert.ensures.keys) (inserted ks key) in
+    let i = c.in_ok-insert.ensures.inserted in
     let one : P key = record { number = kid; least = least; below = below; key_is = sym here } in
     record {
       adds =
@@ -48,5 +47,5 @@ returns-clause-all c = λ k h.
 pub returns-in_err-insert-clause-adds : goal.returns-in_err-insert-clause-adds
 returns-in_err-insert-clause-adds c =
     adds_same c.args.waiting.now.keys c.loop-kid.waiting.keys c.insert.new.self.keys
-    (IsKeyOfKid c.args.site.now c.args.node c.args.reader.now c.args.kids) (sym c.in_err-insert.ensures.err)
+    (IsKeyOfKid c.args.site.now c.args.node c.args.reader.now c.args.kids) (sym c.in_err-insert.ensures.stays)
     c.loop-kid.invariant.adds

@@ -26,5 +26,8 @@ returns-clause-runs c =
     c.relayout.new.values c.args.runner.now c.relayout.new.runner touched c.requires.grammar x)
     c.relayout.ensures.relaid
 
+pub returns-clause-grows : goal.returns-clause-grows
+returns-clause-grows c = if_ok c.relayout.result (λ touched x. x.grows) c.relayout.ensures.relaid
+
 pub returns-clause-programs : goal.returns-clause-programs
 returns-clause-programs c = if_ok c.relayout.result (λ touched x. x.programs) c.relayout.ensures.relaid

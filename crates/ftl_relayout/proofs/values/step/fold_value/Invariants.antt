@@ -18,6 +18,7 @@ invariant-loop-kid l = record {
       (sight (kids_in l.tree l.step.node) m (value_at l.tree l.values l.step.node) so_far))
       (part_value l.tree.checked l.step.rule from_part
       (sight (kids_in l.tree l.step.node) l.step.kid (value_at l.tree l.values l.step.node) overflow));
+  grows : l.fn.runner.runs ≤ l.runner.runs;
   count : l.runner.runs ≤ l.fn.runner.runs + (1 + l.kid);
   programs : l.runner.programs ≡ l.fn.runner.programs;
   runs : CanRun l.tree.checked l.runner l.buffers;

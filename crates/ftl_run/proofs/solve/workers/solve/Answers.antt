@@ -1,6 +1,9 @@
 use denote.Param.Send.{sendable}
-use Rattle.std.proofs.Common.{sym, subst, arith}
+use Rattle.std.proofs.Common.{sym, subst, ◌∙◌, arith}
 use Rattle.ftl_cells.specs.shared.State.{AreFirst, AreLast}
+use Rattle.ftl_deps.specs.reads.Meant.{meant}
+use Rattle.ftl_items.specs.solution.Solution.{solution}
+use Rattle.ftl_items.specs.stage_items.WordLaws.{HoldTheSolution}
 use Rattle.ftl_plan.specs.plans.StageParts.{StageView, meaning_at}
 use Rattle.ftl_plan.specs.plans.StageWords.{FitStage}
 use Rattle.ftl_plan.proofs.plans.Shared.{stage_work_sync}
@@ -8,13 +11,14 @@ use Rattle.ftl_run.proofs.solve.workers.solve.Goals as goal
 
 pub loop-stage-init : goal.loop-stage-init
 loop-stage-init g c =
-    subst (FitStage c.args.plan.now 0) (sym c.in_ok-words.ensures.words) c.words_fit.ensures.first
+    subst (FitStage c.args.plan.now 0) (sym (c.in_a_row-words.ensures.words ∙ c.in_ok-first_words.ensures.words))
+    c.words_fit.ensures.first
 
 -- the work may be shared, and means what the words fit
 pub words_after-requires : goal.words_after-requires
 words_after-requires g c κs =
     let first =
-    subst (λ (v : StageView). AreFirst (meaning_at v) c.loop-stage.words.items) (sym c.stage-work.ensures.stage)
+    subst (λ (v : StageView). AreFirst (meaning_at v) c.loop-stage.words) (sym c.stage-work.ensures.stage)
     c.loop-stage.invariant.first in (
       search sendable depth 30,
       (search (stage_work_sync, sendable) depth 30, (search sendable depth 30, (first, (c.in_ok-phases.ensures.phases, (c.requires.some, c.requires.few))))),
@@ -22,13 +26,16 @@ words_after-requires g c κs =
 
 pub loop-stage-preserved : goal.loop-stage-preserved
 loop-stage-preserved g c =
-    let words = c.in_ok-words-2.words.items in
+    let words = c.in_ok-words.words in
     c.words_fit.ensures.next c.loop-stage.stage words
-    (subst (λ (v : StageView). AreLast (meaning_at v) words) c.stage-work.ensures.stage c.in_ok-words-2.ensures.last)
+    (subst (λ (v : StageView). AreLast (meaning_at v) words) c.stage-work.ensures.stage c.in_ok-words.ensures.last)
 
 pub returns : goal.returns
 returns g c =
     let count = c.stage_count-stage-end.ensures.count in
     let past = c.loop-stage-test.false in
     let most = c.loop-stage.auto.stage-end in
-    record { solution = c.loop-stage.invariant.done (omega (arith, count, past, most)) }
+    let done = c.loop-stage.invariant.done (omega (arith, count, past, most)) in record {
+      solution = subst (HoldTheSolution (solution (meant c.args.plan.now.checked) c.args.plan.now.tree))
+          (sym c.into_row-row.ensures.words) done;
+    }

@@ -2,4 +2,4 @@ use Rattle.ftl_plan.specs.plans.StageWords.{FitStage}
 use Rattle.ftl_run.proofs.solve.workers.solve.Given as goal
 
 abbrev pub invariant-loop-stage : goal.invariant-loop-stage
-invariant-loop-stage g l = FitStage l.plan l.stage l.words.items
+invariant-loop-stage g l = FitStage l.plan l.stage l.words

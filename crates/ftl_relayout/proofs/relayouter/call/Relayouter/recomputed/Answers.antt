@@ -9,6 +9,7 @@ use Rattle.ftl_schedule.specs.check.AcceptedSchedule.{AcceptedSchedule, IsAccept
 use Rattle.ftl_schedule.specs.stages.Stages.{stages_of}
 use Rattle.ftl_step_value.specs.value.StepValue.{IsCodeFor}
 use Rattle.ftl_visit.specs.rule_values.Runs.{CountedCode}
+use Rattle.ftl_relayout.specs.keys.KeyPlaces.{AreKeyPlaces}
 use Rattle.ftl_relayout.specs.readers.Readers.{AreReaders}
 use Rattle.ftl_relayout.specs.relayouter.TreeRules.{TreeRun, run_net}
 use Rattle.ftl_relayout.specs.values.PartSites.{IsRoomFor}
@@ -44,6 +45,10 @@ new-rules-requires c =
           readers =
               subst (AreReaders (meant k)) (sym c.as_slice.ensures.value)
               (subst (λ (x : CheckedGrammar). AreReaders (meant x) c.self.inside.readers.items) one c.self.invariant.readers);
+          places =
+              subst (AreKeyPlaces k a.schedule) (sym c.as_slice-2.ensures.value)
+              (subst (λ (x : CheckedGrammar). AreKeyPlaces x a.schedule c.self.inside.places.items) one
+              c.self.invariant.places);
         };
         ordered = subst (λ (x : CheckedGrammar). IsOrdered (meant x) (stages_of a.schedule)) one o.ordered;
         runs = record {
@@ -81,6 +86,10 @@ returns-clause-relaid c =
           c.into_runner.ensures.programs ∙ c.touched.ensures.programs
           ∙ ap (λ (x : TreeRun). x.programs) c.new-rules.ensures.run
           ∙ ap (λ (x : CountedCode). x.programs) c.copied.ensures.same;
+      grows =
+          let grows = c.touched.ensures.grows in
+          let ended = c.into_runner.ensures.runs in
+          omega (arith, grows, ended, begun);
       runs =
           let spent = c.in_ok-touched.ensures.spent in
           let ended = c.into_runner.ensures.runs in

@@ -53,6 +53,10 @@ returns-clause-value c =
 pub returns-clause-stays : goal.returns-clause-stays
 returns-clause-stays c = ap run_net c.self.view_is
 
+pub returns-clause-grows : goal.returns-clause-grows
+returns-clause-grows c =
+    subst (λ (x : TreeRun). x.runs ≤ c.value_of.new.runner.runs) c.self.view_is c.value_of.ensures.grows
+
 pub returns-clause-spent : goal.returns-clause-spent
 returns-clause-spent c =
     let r = c.self.inside.readers in

@@ -1,0 +1,15 @@
+pub mod OptionHas
+pub mod StepTurns
+pub mod ShownBySteps
+pub mod HandKids
+pub mod Written
+pub mod PlainSteps
+pub mod EarlySteps
+pub mod ShownOrders
+pub mod NumberedOrders
+pub mod FaultPairs
+pub mod FoundFor
+pub mod WrongOrders
+pub mod NodeNumbers
+pub mod RuleNames
+pub mod EarlyTests
