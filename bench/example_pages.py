@@ -34,7 +34,7 @@ def example_pages():
             text = it.read()
         words = text.decode(errors="replace")
         command = re.search(r"^# command (\w+)$", words, re.M)
-        wanted = "".join(re.findall(r"^# ((?:\d+ |refused |touched=).*\n)", words, re.M))
+        wanted = "".join(re.findall(r"^# ((?:\d+ |refused |touched=|reader |writer |[A-Z]\w* \{ ).*\n)", words, re.M))
         yield os.path.relpath(page, TOP), command.group(1) if command else "run", text, wanted
 
 

@@ -1,7 +1,9 @@
-"""Has the C library ask the system for large pages of memory, as ./layout does: to import this sets it for all programs
-that are started afterwards."""
+"""Has the C library take memory as ./layout has it, in large pages: to import this sets it for all programs that are
+started afterwards."""
 import os
+import sys
 
-TUNABLE = "glibc.malloc.hugetlb=1"
-given = os.environ.get("GLIBC_TUNABLES")
-os.environ["GLIBC_TUNABLES"] = f"{given}:{TUNABLE}" if given else TUNABLE
+sys.path.insert(0, os.path.join(os.path.dirname(os.path.dirname(os.path.abspath(__file__))), "commands"))
+from memory import tunables
+
+os.environ["GLIBC_TUNABLES"] = tunables(os.environ.get("GLIBC_TUNABLES"))

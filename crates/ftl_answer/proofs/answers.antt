@@ -6,5 +6,6 @@ pub mod TreesRead
 pub mod Circles
 pub mod TreesEdited
 pub mod Touched
+pub mod Explained
 pub mod Commands
 pub mod WorkedRefusals

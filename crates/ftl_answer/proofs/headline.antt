@@ -6,4 +6,5 @@ mod Alone
 mod Overflows
 mod Bytes
 mod Tables
+mod Explanations
 mod Written

@@ -1,4 +1,5 @@
 pub mod refusals
 pub mod answers
+pub mod explanations
 pub mod summary
 pub mod headline

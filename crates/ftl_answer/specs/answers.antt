@@ -2,5 +2,6 @@ pub mod Stages
 pub mod Answer
 pub mod Texts
 pub mod Summary
+pub mod Explanations
 pub mod Answers
 pub mod Worked

@@ -7,12 +7,14 @@
 //! - `worked_lines`: refusal lines that were typed by hand
 //! - `answers`: the answer, built of stages each of which ends with a refusal or hands a value on
 //! - `changes`: `write_touched`: how many instances edits touched
+//! - `explanations`: `print_example`: the text of an example of a refused pair
 //! - `summary`: `print_summary`: the summary of a sample
 //! - `headline`: what is promised of the status, the text, the faults and the input
 #![tactic(auto)]
 
 pub mod answers;
 pub mod changes;
+pub mod explanations;
 pub mod headline;
 pub mod refusals;
 pub mod summary;
@@ -20,6 +22,7 @@ pub mod worked_lines;
 
 pub use answers::one_answer;
 pub use changes::write_touched;
+pub use explanations::print_example;
 pub use headline::{answers_have_statuses, one_table};
 pub use refusals::{
     write_circular_fault, write_document_fault, write_edit_fault, write_grammar_fault,

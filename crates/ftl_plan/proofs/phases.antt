@@ -1,4 +1,5 @@
 mod Cells
+mod OfKinds
 mod Ordered
 mod Taken
 mod Pushed

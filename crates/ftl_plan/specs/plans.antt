@@ -1,4 +1,5 @@
 pub mod StageParts
+pub mod KindPhases
 pub mod Driving
 pub mod Planned
 pub mod PlannedStages

@@ -1,3 +1,4 @@
 pub mod ShownTexts
 pub mod RulesAnswers
 pub mod Requests
+pub mod Explained

@@ -5,7 +5,7 @@
 //! - `sections`: `read_page`, `grammar_of`, `schedule_of`, `tree_of`, `edits_of`: from the bytes of
 //!   a page to its tree and its edits; `noncircular_of`, `grown_tree_of`: where no schedule plays a
 //!   part
-//! - `requests`: `requested`, `written`
+//! - `requests`: `requested`, `written`; what the commands come to that show no table
 #![tactic(auto)]
 
 pub mod requests;

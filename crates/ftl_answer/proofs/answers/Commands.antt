@@ -1,11 +1,13 @@
 -- Words and bytes have one answer.
-use Rattle.std.proofs.Common.{◌≡◌, ◌≤◌, refl, sym, ap, ap₂, subst, ◌∙◌, ℕ, Bool, true, false, List, length}
+use Rattle.std.proofs.Common.{◌≡◌, ◌≢◌, ◌≤◌, refl, sym, ap, ap₂, subst, ◌∙◌, ℕ, Bool, true, false, List, length}
 use Rattle.std.proofs.Common.{Option, Some, None, Result, Ok, Err, arith}
 use Rattle.std.specs.Prelude.{IfSome, nat_lt, if◌then◌else◌}
 use Rattle.std.specs.Str.{IsUtf8}
 use Rattle.std.proofs.lemmas.Bool.{ltb-false}
 use Rattle.std.proofs.lemmas.Str.{IsUtf8-nil}
 use Rattle.ftl_edits.specs.declared.meaning.types.Edit.{Edit}
+use Rattle.ftl_example.specs.pairs.FirstPair.{FaultsHavePairs}
+use Rattle.ftl_example.specs.shows.ExampleLaws.{ExamplesBySize}
 use Rattle.ftl_model.specs.layout.Table.{value_in}
 use Rattle.ftl_model.specs.layout.Tree.{Forest}
 use Rattle.ftl_model.specs.layout.TreeOf.{IsTreeOf}
@@ -32,7 +34,8 @@ use Rattle.ftl_schedule.specs.stages.Stages.{stages_of}
 use Rattle.ftl_schedule.specs.declared.stages.types.Schedule.{Schedule}
 use Rattle.ftl_answer.specs.refusals.PageLines.{page_line, too_long_line, words_line}
 use Rattle.ftl_answer.specs.answers.Answer.{Answer, refused}
-use Rattle.ftl_answer.specs.answers.Answers.{HasOneAnswer, IsLaidOutAnew, answered, boxes_and_touched, boxes_of, command_in}
+use Rattle.ftl_answer.specs.answers.Answers.{AskForNoExplanation, HasOneAnswer, IsLaidOutAnew, answered, boxes_and_touched}
+use Rattle.ftl_answer.specs.answers.Answers.{boxes_of, command_in}
 use Rattle.ftl_answer.specs.answers.Answers.{document_text, edited_answer, edited_by, edited_page, edited_tree_shown}
 use Rattle.ftl_answer.specs.answers.Answers.{edits_text, obeyed, rules_alone, solved_anew}
 use Rattle.ftl_answer.specs.answers.Answers.{shown_answer, shown_by, solved, solved_by_demand, summary_of, text_or_none}
@@ -41,7 +44,9 @@ use Rattle.ftl_answer.specs.answers.Stages.{Is, Outcome, Stage, Then, ends, hand
 use Rattle.ftl_answer.specs.answers.Texts.{edits, grammar, grown_tree, noncircular_grammar, page, schedule, tree}
 use Rattle.ftl_answer.proofs.answers.Circles.{noncircular_one}
 use Rattle.ftl_answer.proofs.answers.DocumentBytes.{AreUtf8, page_utf8}
-use Rattle.ftl_answer.proofs.answers.Ones.{HasOne, end_is_no_value, is_one, same_end, same_value, then_one}
+use Rattle.ftl_answer.proofs.answers.Explained.{page_explained}
+use Rattle.ftl_answer.proofs.answers.Ones.{HasOne, HasSome, end_is_no_value, is_one, same_end, same_value, then_one}
+use Rattle.ftl_answer.proofs.answers.Ones.{then_some}
 use Rattle.ftl_answer.proofs.answers.Rules.{IsHanded, grammar_handed, grammar_one, handed_law, schedule_one, schedule_ordered}
 use Rattle.ftl_answer.proofs.answers.Touched.{touched_count, touched_listed}
 use Rattle.ftl_answer.proofs.answers.TreesEdited.{edited_fits, edits_fit, edits_one}
@@ -201,6 +206,11 @@ anew_one bytes =
     then_one (edits c t (edits_text p)) (edited_by c t) (edits_one c t (edits_text p))
     (λ es changed. edited_one c t es (tables_of_edits c s p t es read law ordered spelled changed).1)))
 
+-- the command that the words are, from the stage that finds it
+pub command_from : (o : Option Command) (c : Command) → hands_on c ≡ command_in o → o ≡ Some c
+command_from None c is = absurd (end_is_no_value (refused 2 words_line) c (sym is))
+command_from (Some other) c is = ap (λ (x : Command). Some x) (sym (same_value c other is))
+
 module _ (circles : CirclesAreDecided) (one_list : OneListWhereNoncircular) where
   -- the grammar of a page for evaluation by demand, and the table of its document
   demanded_one : (c : CheckedGrammar) (p : Page) (text : CheckedGrammar → Forest → List Value → List ℕ) → IsRead p
@@ -230,27 +240,45 @@ module _ (circles : CirclesAreDecided) (one_list : OneListWhereNoncircular) wher
       (grammar_one p.width p.grammar)
       (λ c is. demanded_one c p text (page_read unscheduled_page bytes p read) (grammar_handed p.width p.grammar c is)))
 
-  obeyed_one : (c : Command) (bytes : List ℕ) → HasOne (obeyed c bytes)
-  obeyed_one (command.Run how) bytes = solved_one bytes boxes_of
-  obeyed_one command.Check bytes = rules_one rules_alone bytes _ (λ c s p read law ordered. is_one _)
-  obeyed_one command.Schedule bytes = rules_one rules_alone bytes _ (λ c s p read law ordered. is_one _)
-  obeyed_one command.Demand bytes = by_demand_one bytes boxes_of
-  obeyed_one (command.Edit how) bytes = anew_one bytes
-  obeyed_one (command.Sample pieces name how) bytes =
+  obeyed_one : (c : Command) (bytes : List ℕ) → c ≢ command.Explain → HasOne (obeyed c bytes)
+  obeyed_one (command.Run how) bytes other = solved_one bytes boxes_of
+  obeyed_one command.Check bytes other = rules_one rules_alone bytes _ (λ c s p read law ordered. is_one _)
+  obeyed_one command.Schedule bytes other = rules_one rules_alone bytes _ (λ c s p read law ordered. is_one _)
+  obeyed_one command.Explain bytes other = absurd (other refl)
+  obeyed_one command.Demand bytes other = by_demand_one bytes boxes_of
+  obeyed_one (command.Edit how) bytes other = anew_one bytes
+  obeyed_one (command.Sample pieces name how) bytes other =
       then_one (Is (result_outcome (λ fault. refused 2 words_line) (sample_page_of name pieces)))
       (λ text. solved text (summary_of name)) (is_one _) (λ text is. solved_one text (summary_of name))
 
-  answered_one : (words : List (List ℕ)) (bytes : List ℕ) → HasOne (answered words bytes)
-  answered_one words bytes =
-      then_one (Is (command_in (command_of words))) (λ c. obeyed c bytes) (is_one _) (λ c is. obeyed_one c bytes)
+  answered_one : (words : List (List ℕ)) (bytes : List ℕ) → AskForNoExplanation words → HasOne (answered words bytes)
+  answered_one words bytes other =
+      then_one (Is (command_in (command_of words))) (λ c. obeyed c bytes) (is_one _)
+      (λ c is.
+      obeyed_one c bytes (λ e. other (command_from (command_of words) c is ∙ ap (λ (x : Command). Some x) e)))
 
-  -- words and bytes have one answer
-  pub has_one_answer : (words : List (List ℕ)) (bytes : List ℕ) → HasOneAnswer words bytes
-  has_one_answer words bytes = record {
-    some = some (answered_one words bytes).some.0 (answered_one words bytes).some.1;
-    any_two = λ a b p q. same_end a b ((answered_one words bytes).any_two (ends a) (ends b) p q);
-  }
-    where
-      some : (o : Outcome ⊥) → answered words bytes o → (a : Answer) × answered words bytes (ends a)
-      some (ends a) p = (a, p)
-      some (hands_on x) p = absurd x
+  module _ (by_size : ExamplesBySize) (pairs : FaultsHavePairs) where
+    obeyed_some : (c : Command) (bytes : List ℕ) → HasSome (obeyed c bytes)
+    obeyed_some (command.Run how) bytes = (obeyed_one (command.Run how) bytes (λ e. absurd cc)).some
+    obeyed_some command.Check bytes = (obeyed_one command.Check bytes (λ e. absurd cc)).some
+    obeyed_some command.Schedule bytes = (obeyed_one command.Schedule bytes (λ e. absurd cc)).some
+    obeyed_some command.Explain bytes = page_explained by_size pairs bytes
+    obeyed_some command.Demand bytes = (obeyed_one command.Demand bytes (λ e. absurd cc)).some
+    obeyed_some (command.Edit how) bytes = (obeyed_one (command.Edit how) bytes (λ e. absurd cc)).some
+    obeyed_some (command.Sample pieces name how) bytes =
+        (obeyed_one (command.Sample pieces name how) bytes (λ e. absurd cc)).some
+
+    answered_some : (words : List (List ℕ)) (bytes : List ℕ) → HasSome (answered words bytes)
+    answered_some words bytes =
+        then_some (Is (command_in (command_of words))) (λ c. obeyed c bytes) (is_one _).some (λ c is. obeyed_some c bytes)
+
+    -- words and bytes have an answer, and but for explanations one alone
+    pub has_one_answer : (words : List (List ℕ)) (bytes : List ℕ) → HasOneAnswer words bytes
+    has_one_answer words bytes = record {
+      some = some (answered_some words bytes).0 (answered_some words bytes).1;
+      any_two = λ other a b p q. same_end a b ((answered_one words bytes other).any_two (ends a) (ends b) p q);
+    }
+      where
+        some : (o : Outcome ⊥) → answered words bytes o → (a : Answer) × answered words bytes (ends a)
+        some (ends a) p = (a, p)
+        some (hands_on x) p = absurd x

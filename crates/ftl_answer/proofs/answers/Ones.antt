@@ -8,6 +8,10 @@ pub record HasOne {X : Type 0} (stage : Stage X) : Type 0 where
   pub some : (outcome : Outcome X) × stage outcome
   pub any_two : (one other : Outcome X) → stage one → stage other → one ≡ other
 
+-- a stage has some outcome
+abbrev pub HasSome : {X : Type 0} → Stage X → Type 0
+HasSome stage = (outcome : _) × stage outcome
+
 -- the end, at an outcome of this type
 abbrev ended : (X : Type 0) → Answer → Outcome X
 ended X a = ends a
@@ -40,15 +44,20 @@ end_is_no_value a x e = cc
 pub is_one : {X : Type 0} (o : Outcome X) → HasOne (Is o)
 is_one o = record { some = (o, refl); any_two = λ a b p q. p ∙ sym q }
 
+-- two stages, one after the other, have some outcome that each have some
+pub then_some : {X Y : Type 0} (first : Stage X) (second : X → Stage Y) → HasSome first
+    → ((x : X) → first (hands_on x) → HasSome (second x)) → HasSome (Then first second)
+then_some first second (ends a, p) next = (ends a, inl (a, p, refl))
+then_some first second (hands_on x, p) next = let more = next x p in (more.0, inr (x, p, more.1))
+
 -- so have two stages, one after the other, that each have one
 pub then_one : {X Y : Type 0} (first : Stage X) (second : X → Stage Y) → HasOne first
     → ((x : X) → first (hands_on x) → HasOne (second x)) → HasOne (Then first second)
-then_one {X = X} {Y = Y} first second one next = record { some = some_of one.some.0 one.some.1; any_two = any }
+then_one {X = X} {Y = Y} first second one next = record {
+  some = then_some first second one.some (λ x p. (next x p).some);
+  any_two = any;
+}
   where
-    some_of : (o : Outcome X) → first o → (outcome : Outcome Y) × Then first second outcome
-    some_of (ends a) p = (ends a, inl (a, p, refl))
-    some_of (hands_on x) p = let more = (next x p).some in (more.0, inr (x, p, more.1))
-
     any : (o u : Outcome Y) → Then first second o → Then first second u → o ≡ u
     any o u (inl p) (inl q) =
         p.2 ∙ (ap ends (same_end p.0 q.0 (one.any_two (ends p.0) (ends q.0) p.1 q.1)) ∙ sym q.2)
@@ -93,6 +102,14 @@ pub then_handed : {X Y : Type 0} (first : Stage X) (second : X → Stage Y) (y :
     → (x : X) × first (hands_on x) × second x (hands_on y)
 then_handed first second y (inl p) = absurd (end_is_no_value p.0 y (sym p.2))
 then_handed first second y (inr p) = p
+
+-- where the first of two stages has one outcome, which is this value, the second goes on with it
+pub goes_on : {X Y : Type 0} (first : Stage X) (second : X → Stage Y) → HasOne first → (x : X) → first (hands_on x)
+    → (outcome : Outcome Y) → Then first second outcome → second x outcome
+goes_on first second one x is o (inl p) =
+    absurd (end_is_no_value p.0 x (one.any_two (ends p.0) (hands_on x) p.1 is))
+goes_on {X = X} first second one x is o (inr p) =
+    subst (λ (y : X). second y o) (same_value p.0 x (one.any_two (hands_on p.0) (hands_on x) p.1 is)) p.2
 
 -- what is handed on unless there is a fault
 pub handed : {X E : Type 0} (tell : E → Answer) (fault : Option E) (x y : X) → hands_on y ≡ unless tell fault x

@@ -77,6 +77,11 @@ handed_law width c is = faultless_lawful c.grammar c.width is.faultless
 
 -- ---- the schedule
 
+pub spelled_schedule_one : (c : CheckedGrammar) (scanned : Tokenized) → HasOne (spelled_schedule c scanned)
+spelled_schedule_one c scanned =
+    result_one schedules.OutOfMemory (λ fault. refused 6 (schedule_line fault)) (Answers c.grammar scanned)
+    (some_schedule c.grammar scanned) (one_schedule c.grammar scanned)
+
 module _ (c : CheckedGrammar) (law : IsLawful (meant c)) where
   -- the automatic one
   automatic_one : HasOne (automatic_schedule c)
@@ -105,10 +110,7 @@ module _ (c : CheckedGrammar) (law : IsLawful (meant c)) where
       then_one (tokens section.Schedule 2147483647 text)
       (λ scanned. Then (spelled_schedule c scanned) (ordered_schedule c)) (is_one _)
       (λ scanned is.
-      then_one (spelled_schedule c scanned) (ordered_schedule c)
-      (result_one schedules.OutOfMemory (λ fault. refused 6 (schedule_line fault)) (Answers c.grammar scanned)
-      (some_schedule c.grammar scanned) (one_schedule c.grammar scanned))
-      (λ s read. is_one _))
+      then_one (spelled_schedule c scanned) (ordered_schedule c) (spelled_schedule_one c scanned) (λ s read. is_one _))
 
   -- no fault, so it is ordered
   fine : (s : order.Schedule) → orders.first_fault (meant c) s ≡ None → IsOrdered (meant c) s

@@ -58,6 +58,7 @@ unmade : (words : List (List ℕ)) (c : Command) → command_of words ≡ Some c
 unmade words (command.Run how) is = tt
 unmade words command.Check is = tt
 unmade words command.Schedule is = tt
+unmade words command.Explain is = tt
 unmade words command.Demand is = tt
 unmade words (command.Edit how) is = tt
 unmade words (command.Sample pieces name how) is =

@@ -15,6 +15,7 @@ command_same : (bytes other : List ℕ) (a : Answer) (c : Command) → reads_pag
 command_same bytes other a (command.Run how) e p = absurd cc
 command_same bytes other a command.Check e p = absurd cc
 command_same bytes other a command.Schedule e p = absurd cc
+command_same bytes other a command.Explain e p = absurd cc
 command_same bytes other a command.Demand e p = absurd cc
 command_same bytes other a (command.Edit how) e p = absurd cc
 command_same bytes other a (command.Sample pieces name how) e p = p

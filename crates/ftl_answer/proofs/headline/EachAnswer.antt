@@ -13,6 +13,7 @@ use Rattle.ftl_relayout.specs.relaid.Relaid.{edited_tree}
 use Rattle.ftl_schedule.specs.printing.WrittenOf.{written_of}
 use Rattle.ftl_schedule.specs.text.ScheduleText.{schedule_text}
 use Rattle.ftl_answer.specs.answers.Answer.{Answer, answer, refused}
+use Rattle.ftl_answer.specs.answers.Answers.{accepted_answer}
 use Rattle.ftl_answer.specs.answers.Answers.{boxes_and_touched, boxes_of, document_text, edited_answer, edited_page, obeyed}
 use Rattle.ftl_answer.specs.answers.Answers.{rules_alone, shown_answer, shown_by, solved, solved_anew}
 use Rattle.ftl_answer.specs.answers.Answers.{solved_by_demand, summary_of, unscheduled_page, whole_page}
@@ -22,7 +23,8 @@ use Rattle.ftl_answer.specs.headline.Headline.{reads_page}
 use Rattle.ftl_answer.specs.headline.Promises.{IsSectionStatus}
 use Rattle.ftl_answer.specs.refusals.PageLines.{words_line}
 use Rattle.ftl_answer.proofs.answers.Ones.{end_is_no_value, same_end}
-use Rattle.ftl_answer.proofs.headline.Refusals.{ended, of_anew, of_demand, of_page, of_rules, of_tree, same, two}
+use Rattle.ftl_answer.proofs.headline.Refusals.{ended, of_anew, of_demand, of_explained, of_page, of_rules, of_tree}
+use Rattle.ftl_answer.proofs.headline.Refusals.{same, two}
 
 module _ (Fine : Answer → Type 0) (section_line : (s : ℕ) → IsSectionStatus s → (text : List ℕ) → Fine (refused s text))
     (accepted : (text : List ℕ) → Fine (answer 0 text)) (overflowed : (text : List ℕ) → Fine (answer 8 text)) where
@@ -66,13 +68,17 @@ module _ (Fine : Answer → Type 0) (section_line : (s : ℕ) → IsSectionStatu
       → ((need : Need) (a : Answer) → page need bytes (ends a) → Fine a) → (a : Answer) → obeyed c bytes (ends a) → Fine a
   of_reading (command.Run how) bytes reads paged = of_solved bytes boxes_of (paged whole_page)
   of_reading command.Check bytes reads paged =
-      of_rules Fine section_line rules_alone bytes (λ c s p. Is (ends (answer 0 (codes "accepted\n"))))
+      of_rules Fine section_line rules_alone bytes (λ c s p. Is (ends accepted_answer))
       (λ c s p read lawful ordered a is. said (codes "accepted\n") a is)
       (paged rules_alone)
   of_reading command.Schedule bytes reads paged =
       of_rules Fine section_line rules_alone bytes
       (λ c s p. Is (ends (answer 0 (schedule_text (written_of c.grammar s)))))
       (λ c s p read lawful ordered a is. said (schedule_text (written_of c.grammar s)) a is)
+      (paged rules_alone)
+  of_reading command.Explain bytes reads paged =
+      of_explained Fine section_line bytes (λ c s p read lawful ordered. accepted (codes "accepted\n"))
+      (λ c s p read lawful written scanned is tokens_are spelled reader writer fault told explains. accepted told)
       (paged rules_alone)
   of_reading command.Demand bytes reads paged = of_demanded bytes boxes_of (paged unscheduled_page)
   of_reading (command.Edit how) bytes reads paged = of_changed bytes (paged edited_page)
@@ -90,6 +96,7 @@ module _ (Fine : Answer → Type 0) (section_line : (s : ℕ) → IsSectionStatu
   Unmade (command.Run how) = Unit {0}
   Unmade command.Check = Unit {0}
   Unmade command.Schedule = Unit {0}
+  Unmade command.Explain = Unit {0}
   Unmade command.Demand = Unit {0}
   Unmade (command.Edit how) = Unit {0}
   Unmade (command.Sample pieces name how) =
@@ -103,6 +110,8 @@ module _ (Fine : Answer → Type 0) (section_line : (s : ℕ) → IsSectionStatu
       of_reading command.Check bytes refl (λ need. of_page Fine line need bytes)
   of_command line command.Schedule bytes unmade =
       of_reading command.Schedule bytes refl (λ need. of_page Fine line need bytes)
+  of_command line command.Explain bytes unmade =
+      of_reading command.Explain bytes refl (λ need. of_page Fine line need bytes)
   of_command line command.Demand bytes unmade =
       of_reading command.Demand bytes refl (λ need. of_page Fine line need bytes)
   of_command line (command.Edit how) bytes unmade =

@@ -1,5 +1,5 @@
 -- What a stage ends with is one line that refuses. Whatever holds of each such line holds of each end.
-use Rattle.std.proofs.Common.{◌≡◌, inl, inr, refl, sym, subst, ℕ, Bool, true, false, List, length, Option, Some, None, Result, Ok, Err}
+use Rattle.std.proofs.Common.{◌≡◌, inl, inr, refl, sym, ap, subst, ℕ, Bool, true, false, List, length, Option, Some, None, Result, Ok, Err}
 use Rattle.std.specs.Prelude.{nat_lt, if◌then◌else◌}
 use Rattle.ftl_base.specs.Widths.{greatest_of_width}
 use Rattle.ftl_base.specs.declared.width.Width.{Width}
@@ -45,11 +45,17 @@ use Rattle.ftl_tokens.specs.scanner.Tokenized.{Tokenized}
 use Rattle.ftl_tokens.specs.declared.scanner.fault.TokenFault.{TokenFault}
 use Rattle.ftl_tokens.specs.declared.scanner.kind.Token.{Token}
 use Rattle.ftl_tree.specs.trees.CheckedTree.{CheckedTree}
-use Rattle.ftl_answer.specs.answers.Answer.{Answer, refused}
+use Rattle.ftl_order.specs.declared.faults.fault.VerifyFault.{VerifyFault}
+use Rattle.ftl_order.specs.declared.faults.fault.VerifyFault.TheVariants as verify
+use Rattle.ftl_answer.specs.answers.Answer.{Answer, answer, refused}
+use Rattle.ftl_answer.specs.answers.Answers.{accepted_answer, explained, explained_by, explained_page, explained_schedule}
+use Rattle.ftl_answer.specs.answers.Answers.{fault_refused, rules_alone}
+use Rattle.ftl_answer.specs.answers.Explanations.{IsExplanation}
 use Rattle.ftl_answer.specs.answers.Answers.{command_in, document_text, edited_by, edited_page, edited_tree_shown}
 use Rattle.ftl_answer.specs.answers.Answers.{edits_text, shown_by, solved_anew, solved_by_demand, unscheduled_page}
 use Rattle.ftl_answer.specs.answers.Answers.{with_rules}
 use Rattle.ftl_answer.specs.answers.Stages.{Is, Outcome, Stage, Then, ResultStage, ends, hands_on, result_outcome, unless}
+use Rattle.ftl_answer.specs.answers.Texts.{automatic_schedule}
 use Rattle.ftl_answer.specs.answers.Texts.{checked_grammar, edits, grammar, grown_tree, lawful_grammar, noncircular_grammar}
 use Rattle.ftl_answer.specs.answers.Texts.{ordered_schedule}
 use Rattle.ftl_answer.specs.answers.Texts.{page, planned_tree, scanned_as, schedule, spelled_grammar, spelled_schedule}
@@ -222,6 +228,74 @@ module _ (Fine : Answer → Type 0) (line : (s : ℕ) → IsSectionStatus s → 
       (λ c lawful.
       two Fine (schedule c p.schedule) (λ s. next c s p) (of_schedule c p.schedule)
       (λ s ordered. each c s p read lawful ordered)))
+
+  -- a schedule that is accepted, or whose first fault is a pair that a text explains
+  module _ (c : CheckedGrammar) (text : List ℕ) (scanned : Tokenized)
+      (read : tokens section.Schedule 2147483647 text (hands_on scanned)) (s : Schedule)
+      (spelled : spelled_schedule c scanned (hands_on s))
+      (accept : schedule c (Some text) (hands_on s) → Fine accepted_answer)
+      (explain : (reader writer : ℕ) → orders.first_fault (meant c) (stages_of s) ≡ Some (verify.Unordered reader writer)
+      → (told : List ℕ) → IsExplanation c s told → Fine (answer 0 told)) where
+    refused_fault : (fault : VerifyFault) (a : Answer) → ended ⊥ a ≡ ends (fault_refused c fault) → Fine a
+    refused_fault fault a is =
+        same Fine a (fault_refused c fault) (same_end a (fault_refused c fault) is)
+        (line 6 of_schedule_status (verify_line c.grammar fault))
+
+    told_by : (o : Option VerifyFault) → orders.first_fault (meant c) (stages_of s) ≡ o → (a : Answer)
+        → explained_by c s o (ends a) → Fine a
+    told_by None e a is =
+        let ordered : ordered_schedule c s (hands_on s) =
+        ap (λ (o : Option VerifyFault). unless (λ fault. refused 6 (verify_line c.grammar fault)) o s) (sym e) in
+        same Fine a accepted_answer (same_end a accepted_answer is)
+        (accept (inr (scanned, read, inr (s, spelled, ordered))))
+    told_by (Some (verify.Unordered reader writer)) e a (told, explains, is) =
+        same Fine a (answer 0 told) (same_end a (answer 0 told) is) (explain reader writer e told explains)
+    told_by (Some (verify.Twice attribute)) e a is = refused_fault (verify.Twice attribute) a is
+    told_by (Some (verify.Missing attribute)) e a is = refused_fault (verify.Missing attribute) a is
+    told_by (Some verify.OutOfMemory) e a is = refused_fault verify.OutOfMemory a is
+
+  -- the text of a schedule that is accepted, or whose first fault is a pair that a text explains
+  of_explained_text : (c : CheckedGrammar) (text : Option (List ℕ))
+      → ((s : Schedule) → schedule c text (hands_on s) → Fine accepted_answer)
+      → ((written : List ℕ) (scanned : Tokenized) (s : Schedule) → text ≡ Some written
+      → tokens section.Schedule 2147483647 written (hands_on scanned) → spelled_schedule c scanned (hands_on s)
+      → (reader writer : ℕ) → orders.first_fault (meant c) (stages_of s) ≡ Some (verify.Unordered reader writer)
+      → (told : List ℕ) → IsExplanation c s told → Fine (answer 0 told))
+      → (a : Answer) → explained c text (ends a) → Fine a
+  of_explained_text c None accept explain =
+      two Fine (automatic_schedule c) (λ s. Is (ends accepted_answer)) (of_schedule c None)
+      (λ s ordered a is. same Fine a accepted_answer (same_end a accepted_answer is) (accept s ordered))
+  of_explained_text c (Some text) accept explain =
+      two Fine (tokens section.Schedule 2147483647 text)
+      (λ scanned. Then (spelled_schedule c scanned) (explained_schedule c))
+      (of_tokens section.Schedule of_schedule_status 2147483647 text)
+      (λ scanned read.
+      two Fine (spelled_schedule c scanned) (explained_schedule c)
+      (call_ends Fine schedules.OutOfMemory (λ fault. refused 6 (schedule_line fault)) (Answers c.grammar scanned)
+      (λ fault. line 6 of_schedule_status (schedule_line fault)))
+      (λ (s : Schedule) spelled.
+      told_by c text scanned read s spelled (accept s) (explain text scanned s refl read spelled)
+      (orders.first_fault (meant c) (stages_of s)) refl))
+
+  -- a grammar and its schedule, accepted or with a pair that a text explains
+  pub of_explained : (bytes : List ℕ)
+      → ((c : CheckedGrammar) (s : Schedule) (p : Page) → page rules_alone bytes (hands_on p)
+      → grammar p.width p.grammar (hands_on c) → schedule c p.schedule (hands_on s) → Fine accepted_answer)
+      → ((c : CheckedGrammar) (s : Schedule) (p : Page) → page rules_alone bytes (hands_on p)
+      → grammar p.width p.grammar (hands_on c) → (written : List ℕ) (scanned : Tokenized) → p.schedule ≡ Some written
+      → tokens section.Schedule 2147483647 written (hands_on scanned) → spelled_schedule c scanned (hands_on s)
+      → (reader writer : ℕ) → orders.first_fault (meant c) (stages_of s) ≡ Some (verify.Unordered reader writer)
+      → (told : List ℕ) → IsExplanation c s told → Fine (answer 0 told))
+      → ((a : Answer) → page rules_alone bytes (ends a) → Fine a)
+      → (a : Answer) → explained_page bytes (ends a) → Fine a
+  of_explained bytes accept explain paged =
+      two Fine (page rules_alone bytes) (λ p. Then (grammar p.width p.grammar) (λ c. explained c p.schedule)) paged
+      (λ p read.
+      two Fine (grammar p.width p.grammar) (λ c. explained c p.schedule) (of_grammar p.width p.grammar)
+      (λ c lawful.
+      of_explained_text c p.schedule (λ s ordered. accept c s p read lawful ordered)
+      (λ written scanned s is tokens_are spelled.
+      explain c s p read lawful written scanned is tokens_are spelled)))
 
   -- a noncircular grammar and a tree, and what goes on with them
   pub of_demand : (bytes : List ℕ) (text : CheckedGrammar → Forest → List Value → List ℕ)

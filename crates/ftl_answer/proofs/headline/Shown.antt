@@ -1,7 +1,8 @@
 -- What is accepted is shown, and every other answer is one line that refuses.
-use Rattle.std.proofs.Common.{◌≡◌, ◌⊎◌, inl, inr, refl, sym, ap, ℕ, ◌<◌, Bool, true, false, List, length, Option, Some, None, Result, Ok, Err}
+use Rattle.std.proofs.Common.{◌≡◌, ◌⊎◌, inl, inr, refl, sym, ap, subst, ◌∙◌, ℕ, ◌<◌, Bool, true, false, List, length, Option, Some, None, Result, Ok, Err}
 use Rattle.std.proofs.lemmas.Bool.{lt-ltb}
-use Rattle.std.specs.Prelude.{codes, if◌then◌else◌}
+use Rattle.std.specs.Prelude.{if◌then◌else◌}
+use Rattle.ftl_order.specs.faults.FirstFault.{first_fault}
 use Rattle.ftl_boxes.specs.SamplePage.{sample_page_of}
 use Rattle.ftl_boxes.specs.declared.fault.SampleFault.{SampleFault}
 use Rattle.ftl_page.specs.commands.Commands.{command_of}
@@ -21,19 +22,25 @@ use Rattle.ftl_model.specs.layout.Tree.{Forest}
 use Rattle.ftl_model.specs.layout.Values.{Value}
 use Rattle.ftl_schedule.specs.printing.WrittenOf.{written_of}
 use Rattle.ftl_schedule.specs.text.ScheduleText.{schedule_text}
+use Rattle.ftl_schedule.specs.stages.Stages.{stages_of}
 use Rattle.ftl_answer.specs.answers.Answer.{Answer, answer, refused}
-use Rattle.ftl_answer.specs.answers.Answers.{IsAnswer, boxes_of, command_in, document_text, edited_answer, edited_page}
+use Rattle.ftl_answer.specs.answers.Answers.{IsAnswer, accepted_answer, boxes_of, command_in, document_text, edited_answer}
+use Rattle.ftl_answer.specs.answers.Answers.{edited_page, explained, explained_by, explained_page}
 use Rattle.ftl_answer.specs.answers.Answers.{obeyed, rules_alone, shown_answer, shown_by, solved, solved_anew}
 use Rattle.ftl_answer.specs.answers.Answers.{solved_by_demand, summary_of}
 use Rattle.ftl_answer.specs.answers.Answers.{unscheduled_page, whole_page}
-use Rattle.ftl_answer.specs.answers.Stages.{Is, Outcome, Then, ends, hands_on, result_outcome}
+use Rattle.ftl_answer.specs.answers.Stages.{Is, Outcome, Stage, Then, ends, hands_on, result_outcome}
 use Rattle.ftl_answer.specs.answers.Texts.{page, tree}
-use Rattle.ftl_answer.specs.headline.Headline.{IsAcceptedForDemand, may_read, reads_page}
+use Rattle.ftl_answer.specs.headline.Headline.{IsAcceptedForDemand, may_read, reads_page, words_read}
+use Rattle.ftl_answer.specs.headline.Promises.{IsAcceptanceShown, IsExplanationShown}
 use Rattle.ftl_answer.specs.headline.Promises.{IsChangeShown, IsRefusal, IsRefusalStatus, IsShown, IsTableShown, IsTableShownWhere}
 use Rattle.ftl_answer.specs.headline.Promises.{LongPagesAreRefused, OverflowHasAStatus, WordsAreRefused}
 use Rattle.ftl_answer.specs.refusals.PageLines.{page_line, too_long_line, words_line}
-use Rattle.ftl_answer.proofs.answers.Ones.{end_is_no_value, same_end, same_value}
+use Rattle.ftl_answer.proofs.answers.Ones.{end_is_no_value, goes_on, is_one, same_end, same_value}
 use Rattle.ftl_model.specs.layout.Limits.{most_page_bytes}
+use Rattle.ftl_answer.proofs.answers.Commands.{command_from}
+use Rattle.ftl_answer.proofs.answers.Explained.{accepted_explained}
+use Rattle.ftl_answer.proofs.headline.Refusals.{of_explained}
 use Rattle.ftl_answer.proofs.headline.Refusals.{ended, of_anew, of_demand, of_page, of_page_status, of_rules, of_section, of_tree}
 use Rattle.ftl_answer.proofs.headline.Refusals.{of_words}
 use Rattle.ftl_answer.proofs.headline.Refusals.{of_words_status, result_ends, two}
@@ -79,6 +86,30 @@ change_is_shown bytes a (c, t, es, values, touched, x, anew, is) =
       ),
     )
 
+acceptance_is_shown : (bytes : List ℕ) (a : Answer) → IsAcceptanceShown bytes a → explained_page bytes (ends a)
+acceptance_is_shown bytes a (c, s, x, is) =
+    let p = x.sections in
+    inr (
+      p,
+      x.read,
+      inr (
+        c,
+        x.lawful,
+        subst (λ (b : Answer). explained c p.schedule (ends b)) (sym is) (accepted_explained c p.schedule s x.ordered),
+      ),
+    )
+
+explanation_is_shown : (bytes : List ℕ) (a : Answer) → IsExplanationShown bytes a → explained_page bytes (ends a)
+explanation_is_shown bytes a (c, s, text, x, explains, is) =
+    let told : explained_by c s (first_fault (meant c) (stages_of s)) (ends a) =
+    subst (λ f. explained_by c s f (ends a)) (sym x.fault) (text, explains, ap (ended ⊥) is) in
+    let by_text : explained c (Some x.text) (ends a) = inr (x.scanned, x.tokens_are, inr (s, x.spelled, told)) in
+    inr (
+      x.sections,
+      x.read,
+      inr (c, x.lawful, subst (λ text. explained c text (ends a)) (sym x.written) by_text),
+    )
+
 abbrev sample_outcome : Result (List ℕ) SampleFault → Outcome (List ℕ)
 sample_outcome r = result_outcome (λ fault. refused 2 words_line) r
 
@@ -88,6 +119,8 @@ is_obeyed command.Check bytes a (c, s, x, is) =
     inr (x.sections, x.read, inr (c, x.lawful, inr (s, x.ordered, ap (ended ⊥) is)))
 is_obeyed command.Schedule bytes a (c, s, x, is) =
     inr (x.sections, x.read, inr (c, x.lawful, inr (s, x.ordered, ap (ended ⊥) is)))
+is_obeyed command.Explain bytes a (inl x) = acceptance_is_shown bytes a x
+is_obeyed command.Explain bytes a (inr x) = explanation_is_shown bytes a x
 is_obeyed command.Demand bytes a x = demanded_is_shown boxes_of bytes a x
 is_obeyed (command.Edit how) bytes a x = change_is_shown bytes a x
 is_obeyed (command.Sample pieces name how) bytes a (text, is, x) =
@@ -103,12 +136,6 @@ accepted_is_shown words bytes c a is x = inr (c, sym (ap command_in is), is_obey
 text_of_sample : (r : Result (List ℕ) SampleFault) (text : List ℕ) → hands_on text ≡ sample_outcome r → r ≡ Ok text
 text_of_sample (Ok other) text is = ap (λ (t : List ℕ). Ok t) (sym (same_value text other is))
 text_of_sample (Err fault) text is = absurd (end_is_no_value (refused 2 words_line) text (sym is))
-
--- the command that the words are, from the stage that finds it
-
-pub command_from : (o : Option Command) (c : Command) → hands_on c ≡ command_in o → o ≡ Some c
-command_from None c is = absurd (end_is_no_value (refused 2 words_line) c (sym is))
-command_from (Some other) c is = ap (λ (x : Command). Some x) (sym (same_value c other is))
 
 refusal : (s : ℕ) → IsRefusalStatus s → (text : List ℕ) → IsRefusal (refused s text)
 refusal s is text = (s, is, text, refl)
@@ -202,13 +229,13 @@ shown_or_refused : (c : Command) (bytes : List ℕ) (a : Answer) → obeyed c by
 shown_or_refused (command.Run how) bytes = table_or_refused boxes_of bytes
 shown_or_refused command.Check bytes =
     of_rules (Shown bytes command.Check) (λ s is. shown_line bytes command.Check s (of_section s is)) rules_alone bytes
-    (λ c s p. Is (ends (answer 0 (codes "accepted\n"))))
+    (λ c s p. Is (ends accepted_answer))
     (λ c s p read lawful ordered a is.
     inl (
       c,
       s,
       record { sections = p; read = read; lawful = lawful; ordered = ordered },
-      same_end a (answer 0 (codes "accepted\n")) is,
+      same_end a accepted_answer is,
     ))
     (of_page (Shown bytes command.Check) (shown_line bytes command.Check 4 of_page_status) rules_alone bytes)
 shown_or_refused command.Schedule bytes =
@@ -222,6 +249,32 @@ shown_or_refused command.Schedule bytes =
       same_end a (answer 0 (schedule_text (written_of c.grammar s))) is,
     ))
     (of_page (Shown bytes command.Schedule) (shown_line bytes command.Schedule 4 of_page_status) rules_alone bytes)
+shown_or_refused command.Explain bytes =
+    of_explained (Shown bytes command.Explain) (λ s is. shown_line bytes command.Explain s (of_section s is)) bytes
+    (λ c s p read lawful ordered.
+    inl (inl (c, s, record { sections = p; read = read; lawful = lawful; ordered = ordered }, refl)))
+    (λ c s p read lawful text scanned is tokens_are spelled reader writer fault told explains.
+    inl (inr (
+      c,
+      s,
+      told,
+      record {
+        sections = p;
+        read = read;
+        lawful = lawful;
+        text = text;
+        written = is;
+        scanned = scanned;
+        tokens_are = tokens_are;
+        spelled = spelled;
+        reader = reader;
+        writer = writer;
+        fault = fault;
+      },
+      explains,
+      refl,
+    )))
+    (of_page (Shown bytes command.Explain) (shown_line bytes command.Explain 4 of_page_status) rules_alone bytes)
 shown_or_refused command.Demand bytes = demanded_or_refused boxes_of bytes
 shown_or_refused (command.Edit how) bytes = change_or_refused bytes
 shown_or_refused (command.Sample pieces name how) bytes =
@@ -268,9 +321,40 @@ long_command : (c : Command) (bytes : List ℕ) → reads_page c ≡ true → mo
 long_command (command.Run how) bytes reads long = inl (refused 4 too_long_line, long_page whole_page bytes long, refl)
 long_command command.Check bytes reads long = inl (refused 4 too_long_line, long_page rules_alone bytes long, refl)
 long_command command.Schedule bytes reads long = inl (refused 4 too_long_line, long_page rules_alone bytes long, refl)
+long_command command.Explain bytes reads long = inl (refused 4 too_long_line, long_page rules_alone bytes long, refl)
 long_command command.Demand bytes reads long = inl (refused 4 too_long_line, long_page unscheduled_page bytes long, refl)
 long_command (command.Edit how) bytes reads long = inl (refused 4 too_long_line, long_page edited_page bytes long, refl)
 long_command (command.Sample pieces name how) bytes reads long = absurd cc
+
+-- a page that is too long has no other end
+page_long : (need : Need) (bytes : List ℕ) → most_page_bytes < length bytes → (next : Page → Stage ⊥) (o : Outcome ⊥)
+    → Then (page need bytes) next o → o ≡ ends (refused 4 too_long_line)
+page_long need bytes long next o (inl p) =
+    p.2 ∙ ap (ended ⊥) (same_end p.0 (refused 4 too_long_line) (p.1 ∙ sym (long_page need bytes long)))
+page_long need bytes long next o (inr p) =
+    absurd (end_is_no_value (refused 4 too_long_line) p.0 (long_page need bytes long ∙ sym p.1))
+
+long_alone : (c : Command) (bytes : List ℕ) → reads_page c ≡ true → most_page_bytes < length bytes → (o : Outcome ⊥)
+    → obeyed c bytes o → o ≡ ends (refused 4 too_long_line)
+long_alone (command.Run how) bytes reads long = page_long whole_page bytes long _
+long_alone command.Check bytes reads long = page_long rules_alone bytes long _
+long_alone command.Schedule bytes reads long = page_long rules_alone bytes long _
+long_alone command.Explain bytes reads long = page_long rules_alone bytes long _
+long_alone command.Demand bytes reads long = page_long unscheduled_page bytes long _
+long_alone (command.Edit how) bytes reads long = page_long edited_page bytes long _
+long_alone (command.Sample pieces name how) bytes reads long = absurd cc
+
+long_alone_by : (o : Option Command) (bytes : List ℕ) → may_read o ≡ true → most_page_bytes < length bytes → (a : Answer)
+    → Then (Is (command_in o)) (λ c. obeyed c bytes) (ends a) → a ≡ refused 4 too_long_line
+long_alone_by None bytes reads long a x = absurd cc
+long_alone_by (Some c) bytes reads long a x =
+    same_end a (refused 4 too_long_line)
+    (long_alone c bytes reads long (ends a)
+    (goes_on (Is (command_in (Some c))) (λ c. obeyed c bytes) (is_one _) c refl (ends a) x))
+
+pub long_answers_alone : (words : List (List ℕ)) (bytes : List ℕ) → words_read words ≡ true
+    → most_page_bytes < length bytes → (a : Answer) → IsAnswer words bytes a → a ≡ refused 4 too_long_line
+long_answers_alone words bytes reads long a x = long_alone_by (command_of words) bytes reads long a x
 
 long_by : (o : Option Command) (bytes : List ℕ) → may_read o ≡ true → most_page_bytes < length bytes
     → Then (Is (command_in o)) (λ c. obeyed c bytes) (ends (refused 4 too_long_line))

@@ -70,6 +70,7 @@ unmade : (c : Command) → Unmade Fine section_line shown overflowed c
 unmade (command.Run how) = tt
 unmade command.Check = tt
 unmade command.Schedule = tt
+unmade command.Explain = tt
 unmade command.Demand = tt
 unmade (command.Edit how) = tt
 unmade (command.Sample pieces name how) = λ fault is. line 2 of_words_status words_line

@@ -67,6 +67,7 @@ one_table_of one_list None told = tt
 one_table_of one_list (Some (command.Run how)) told = λ bytes are. accepted_one bytes
 one_table_of one_list (Some command.Check) told = λ bytes are. accepted_one bytes
 one_table_of one_list (Some command.Schedule) told = λ bytes are. accepted_one bytes
+one_table_of one_list (Some command.Explain) told = λ bytes are. accepted_one bytes
 one_table_of one_list (Some command.Demand) told = λ bytes are. demanded_one one_list bytes
 one_table_of one_list (Some (command.Edit how)) told = λ bytes are. edited_one bytes
 one_table_of one_list (Some (command.Sample pieces name how)) told = λ text is. accepted_one text

@@ -1,5 +1,5 @@
 -- The answer to words and bytes: the first refusal that applies, or what the command asks for.
-use Rattle.std.specs.Prelude.{◌≡◌, ℕ, true, false, if◌then◌else◌, List, [], ◌++◌, length, Option, Some, None, codes}
+use Rattle.std.specs.Prelude.{◌≡◌, ◌≢◌, ℕ, true, false, if◌then◌else◌, List, [], ◌++◌, length, Option, Some, None, codes}
 use Rattle.std.specs.Fmt.{decimal}
 use Rattle.ftl_model.specs.layout.Boxes.{boxes, shows_overflow}
 use Rattle.ftl_model.specs.layout.Table.{SolvesList, value_in}
@@ -16,14 +16,22 @@ use Rattle.ftl_meaning.specs.faults.Checked.{CheckedGrammar}
 use Rattle.ftl_deps.specs.reads.Meant.{meant}
 use Rattle.ftl_edits.specs.declared.meaning.types.Edit.{Edit}
 use Rattle.ftl_relayout.specs.relaid.Relaid.{IsRelaid, edited_tree}
+use Rattle.ftl_order.specs.declared.faults.fault.VerifyFault.{VerifyFault}
+use Rattle.ftl_order.specs.declared.faults.fault.VerifyFault.TheVariants as verify
+use Rattle.ftl_order.specs.faults.FirstFault.{first_fault}
+use Rattle.ftl_page.specs.declared.sections.fault.Section.TheVariants as section
 use Rattle.ftl_schedule.specs.declared.stages.types.Schedule.{Schedule}
+use Rattle.ftl_schedule.specs.stages.Stages.{stages_of}
 use Rattle.ftl_schedule.specs.printing.WrittenOf.{written_of}
 use Rattle.ftl_schedule.specs.text.ScheduleText.{schedule_text}
 use Rattle.ftl_answer.specs.refusals.PageLines.{words_line}
+use Rattle.ftl_answer.specs.refusals.ScheduleLines.{verify_line}
 use Rattle.ftl_answer.specs.answers.Answer.{Answer, answer, refused}
 use Rattle.ftl_answer.specs.answers.Stages.{Is, Outcome, Stage, Then, ends, hands_on, result_outcome}
 use Rattle.ftl_answer.specs.answers.Summary.{summary}
-use Rattle.ftl_answer.specs.answers.Texts.{edits, grown_tree, grammar, noncircular_grammar, page, schedule, tree}
+use Rattle.ftl_answer.specs.answers.Explanations.{IsExplanation}
+use Rattle.ftl_answer.specs.answers.Texts.{automatic_schedule, edits, grown_tree, grammar, noncircular_grammar, page}
+use Rattle.ftl_answer.specs.answers.Texts.{schedule, spelled_schedule, tokens, tree}
 
 -- ---- what commands need
 
@@ -131,12 +139,46 @@ abbrev pub solved_anew : (bytes : List ℕ) → Stage ⊥
 solved_anew bytes =
     with_rules edited_page bytes (λ c s p. Then (tree c s (document_text p)) (edited_tree_shown p c))
 
+-- the answer where grammar and schedule are accepted
+abbrev pub accepted_answer : Answer
+accepted_answer = answer 0 (codes "accepted\n")
+
+-- a fault of the schedule is refused
+abbrev pub fault_refused : CheckedGrammar → VerifyFault → Answer
+fault_refused c fault = refused 6 (verify_line c.grammar fault)
+
+-- The schedule by its first fault: with none it is accepted; a pair is explained, by any text that does so; other faults
+-- are refused.
+abbrev pub explained_by : CheckedGrammar → Schedule → Option VerifyFault → Stage ⊥
+explained_by c s None outcome = outcome ≡ ends accepted_answer
+explained_by c s (Some (verify.Unordered reader writer)) outcome =
+    (text : List ℕ) × IsExplanation c s text × (outcome ≡ ends (answer 0 text))
+explained_by c s (Some (verify.Twice a)) outcome = outcome ≡ ends (fault_refused c (verify.Twice a))
+explained_by c s (Some (verify.Missing a)) outcome = outcome ≡ ends (fault_refused c (verify.Missing a))
+explained_by c s (Some verify.OutOfMemory) outcome = outcome ≡ ends (fault_refused c verify.OutOfMemory)
+
+-- the schedule is explained
+abbrev pub explained_schedule : CheckedGrammar → Schedule → Stage ⊥
+explained_schedule c s = explained_by c s (first_fault (meant c) (stages_of s))
+
+-- the schedule of a text is explained; an automatic one is accepted
+abbrev pub explained : CheckedGrammar → (text : Option (List ℕ)) → Stage ⊥
+explained c None = Then (automatic_schedule c) (λ s. Is (ends accepted_answer))
+explained c (Some text) =
+    Then (tokens section.Schedule 2147483647 text) (λ scanned. Then (spelled_schedule c scanned) (explained_schedule c))
+
+-- the schedule of a page is explained
+abbrev pub explained_page : (bytes : List ℕ) → Stage ⊥
+explained_page bytes =
+    Then (page rules_alone bytes) (λ p. Then (grammar p.width p.grammar) (λ c. explained c p.schedule))
+
 -- what a command comes to
 abbrev pub obeyed : Command → (bytes : List ℕ) → Stage ⊥
 obeyed (command.Run how) bytes = solved bytes boxes_of
-obeyed command.Check bytes = with_rules rules_alone bytes (λ c s p. Is (ends (answer 0 (codes "accepted\n"))))
+obeyed command.Check bytes = with_rules rules_alone bytes (λ c s p. Is (ends accepted_answer))
 obeyed command.Schedule bytes =
     with_rules rules_alone bytes (λ c s p. Is (ends (answer 0 (schedule_text (written_of c.grammar s)))))
+obeyed command.Explain bytes = explained_page bytes
 obeyed command.Demand bytes = solved_by_demand bytes boxes_of
 obeyed (command.Edit how) bytes = solved_anew bytes
 obeyed (command.Sample pieces name how) bytes =
@@ -156,7 +198,13 @@ answered words bytes = Then (Is (command_in (command_of words))) (λ c. obeyed c
 abbrev pub IsAnswer : (words : List (List ℕ)) → (bytes : List ℕ) → Answer → Type 0
 IsAnswer words bytes a = answered words bytes (ends a)
 
--- words and bytes have one answer
+-- the words don't ask for an explanation, of which several may be right
+abbrev pub AskForNoExplanation : (words : List (List ℕ)) → Type 0
+AskForNoExplanation words = command_of words ≢ Some command.Explain
+
+-- words and bytes have an answer, and but for explanations they have one alone
 pub record HasOneAnswer (words : List (List ℕ)) (bytes : List ℕ) : Type 0 where
   pub some : (a : Answer) × IsAnswer words bytes a
-  pub any_two : (one other : Answer) → IsAnswer words bytes one → IsAnswer words bytes other → one ≡ other
+  pub any_two :
+      AskForNoExplanation words → (one other : Answer) → IsAnswer words bytes one → IsAnswer words bytes other
+      → one ≡ other

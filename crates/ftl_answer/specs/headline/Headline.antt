@@ -37,6 +37,7 @@ abbrev pub reads_page : Command → Bool
 reads_page (command.Run how) = true
 reads_page command.Check = true
 reads_page command.Schedule = true
+reads_page command.Explain = true
 reads_page command.Demand = true
 reads_page (command.Edit how) = true
 reads_page (command.Sample pieces name how) = false
@@ -170,6 +171,7 @@ abbrev pub OneTableOf : Option Command → (told : Option (List ℕ)) → Type 0
 OneTableOf (Some (command.Run how)) told = (bytes : List ℕ) → AreTold told bytes → HasOneTable bytes
 OneTableOf (Some command.Check) told = (bytes : List ℕ) → AreTold told bytes → HasOneTable bytes
 OneTableOf (Some command.Schedule) told = (bytes : List ℕ) → AreTold told bytes → HasOneTable bytes
+OneTableOf (Some command.Explain) told = (bytes : List ℕ) → AreTold told bytes → HasOneTable bytes
 OneTableOf (Some command.Demand) told =
     (bytes : List ℕ) → AreTold told bytes → HasOneTableWhere IsAcceptedForDemand bytes
 OneTableOf (Some (command.Edit how)) told =

@@ -1,6 +1,6 @@
 -- What follows from the four promises of a call: what it writes and how far it reads, by its words and its status.
 use Rattle.std.specs.Prelude.{◌≡◌, ◌≢◌, ◌⊎◌, ℕ, ◌+◌, ◌<◌, ◌≤◌, true, false, List, [], length, ◌++◌, Some, None, Ok}
-use Rattle.std.specs.Prelude.{codes, nat_lt}
+use Rattle.std.specs.Prelude.{nat_lt}
 use Rattle.std.specs.Io.KnownBytes.{Appends}
 use Rattle.ftl_model.specs.layout.Limits.{most_page_bytes}
 use Rattle.ftl_boxes.specs.SamplePage.{sample_page_of}
@@ -16,9 +16,12 @@ use Rattle.ftl_model.specs.layout.Table.{SolvesList, value_in}
 use Rattle.ftl_model.specs.layout.Tree.{Forest}
 use Rattle.ftl_model.specs.layout.Values.{Value}
 use Rattle.ftl_order.specs.orders.OneTable.{ExactlyOneList}
+use Rattle.ftl_order.specs.declared.faults.fault.VerifyFault.TheVariants.{Unordered}
+use Rattle.ftl_order.specs.faults.FirstFault.{first_fault}
 use Rattle.ftl_page.specs.commands.Commands.{command_of}
 use Rattle.ftl_page.specs.declared.commands.command.Command.{Command}
 use Rattle.ftl_page.specs.declared.commands.command.Command.TheVariants as command
+use Rattle.ftl_page.specs.declared.sections.fault.Section.TheVariants as section
 use Rattle.ftl_page.specs.declared.sections.page.Page.{Page}
 use Rattle.ftl_page.specs.declared.workers.solving.Solving.{Solving}
 use Rattle.ftl_edits.specs.declared.meaning.types.Edit.{Edit}
@@ -26,13 +29,16 @@ use Rattle.ftl_relayout.specs.relaid.Relaid.{edited_tree}
 use Rattle.ftl_schedule.specs.declared.stages.types.Schedule.{Schedule}
 use Rattle.ftl_schedule.specs.printing.WrittenOf.{written_of}
 use Rattle.ftl_schedule.specs.text.ScheduleText.{schedule_text}
+use Rattle.ftl_schedule.specs.stages.Stages.{stages_of}
+use Rattle.ftl_tokens.specs.scanner.Tokenized.{Tokenized}
 use Rattle.ftl_answer.specs.answers.Answer.{Answer, answer, refused}
 use Rattle.ftl_answer.specs.answers.Answers.{IsAnswer, IsLaidOutAnew, boxes_and_touched, boxes_of, edited_answer}
-use Rattle.ftl_answer.specs.answers.Answers.{rules_alone}
+use Rattle.ftl_answer.specs.answers.Answers.{AskForNoExplanation, accepted_answer, rules_alone}
 use Rattle.ftl_answer.specs.answers.Answers.{shown_answer, summary_of}
+use Rattle.ftl_answer.specs.answers.Explanations.{IsExplanation}
 use Rattle.ftl_answer.specs.answers.Stages.{hands_on}
 use Rattle.ftl_answer.specs.answers.Summary.{overflow_count, shown_values}
-use Rattle.ftl_answer.specs.answers.Texts.{grammar, page, schedule}
+use Rattle.ftl_answer.specs.answers.Texts.{grammar, page, schedule, spelled_schedule, tokens}
 use Rattle.ftl_answer.specs.headline.Headline.{Acceptance, AreTold, Call, GivesTheAnswer, HasCauses, HasTheTable}
 use Rattle.ftl_answer.specs.headline.Headline.{IsAccepted}
 use Rattle.ftl_answer.specs.headline.Headline.{AreEditsAccepted, HasOneChangedTable, HasOneTableWhere}
@@ -49,6 +55,20 @@ pub record AreRulesAccepted (bytes : List ℕ) (c : CheckedGrammar) (s : Schedul
   pub read : page rules_alone bytes (hands_on sections)
   pub lawful : grammar sections.width sections.grammar (hands_on c)
   pub ordered : schedule c sections.schedule (hands_on s)
+
+-- the grammar of the page is accepted, and the first fault of its schedule, which is this one, is a pair
+pub record IsPairRefused (bytes : List ℕ) (c : CheckedGrammar) (s : Schedule) : Type 0 where
+  pub sections : Page
+  pub read : page rules_alone bytes (hands_on sections)
+  pub lawful : grammar sections.width sections.grammar (hands_on c)
+  pub text : List ℕ
+  pub written : sections.schedule ≡ Some text
+  pub scanned : Tokenized
+  pub tokens_are : tokens section.Schedule 2147483647 text (hands_on scanned)
+  pub spelled : spelled_schedule c scanned (hands_on s)
+  pub reader : ℕ
+  pub writer : ℕ
+  pub fault : first_fault (meant c) (stages_of s) ≡ Some (Unordered reader writer)
 
 -- the page is accepted so, and the answer shows, by this text, a list that solves its tree
 abbrev pub IsTableShownWhere : Acceptance → (CheckedGrammar → Forest → List Value → List ℕ) → (bytes : List ℕ) → Answer
@@ -67,14 +87,26 @@ IsChangeShown bytes a =
     (c : CheckedGrammar) × (t : Forest) × (es : List Edit) × (values : List Value) × (touched : List ℕ)
     × AreEditsAccepted bytes c t es × IsLaidOutAnew c t es values touched × (a ≡ edited_answer c t es values touched)
 
--- what the command needs of the page is accepted, and this is what it shows of it
+-- the grammar and the schedule of the page are accepted, and the answer says so
+abbrev pub IsAcceptanceShown : (bytes : List ℕ) → Answer → Type 0
+IsAcceptanceShown bytes a =
+    (c : CheckedGrammar) × (s : Schedule) × AreRulesAccepted bytes c s × (a ≡ accepted_answer)
+
+-- the schedule of the page is refused for a pair, and the answer explains it
+abbrev pub IsExplanationShown : (bytes : List ℕ) → Answer → Type 0
+IsExplanationShown bytes a =
+    (c : CheckedGrammar) × (s : Schedule) × (text : List ℕ) × IsPairRefused bytes c s × IsExplanation c s text
+    × (a ≡ answer 0 text)
+
+-- What the command needs of the page is accepted, and this is what it shows of it. To explain a schedule that is refused
+-- for a pair no more is needed.
 abbrev pub IsShown : Command → (bytes : List ℕ) → Answer → Type 0
 IsShown (command.Run how) bytes a = IsTableShown boxes_of bytes a
-IsShown command.Check bytes a =
-    (c : CheckedGrammar) × (s : Schedule) × AreRulesAccepted bytes c s × (a ≡ answer 0 (codes "accepted\n"))
+IsShown command.Check bytes a = IsAcceptanceShown bytes a
 IsShown command.Schedule bytes a =
     (c : CheckedGrammar) × (s : Schedule) × AreRulesAccepted bytes c s
     × (a ≡ answer 0 (schedule_text (written_of c.grammar s)))
+IsShown command.Explain bytes a = IsAcceptanceShown bytes a ⊎ IsExplanationShown bytes a
 IsShown command.Demand bytes a = IsTableShownWhere IsAcceptedForDemand boxes_of bytes a
 IsShown (command.Edit how) bytes a = IsChangeShown bytes a
 IsShown (command.Sample pieces name how) bytes a =
@@ -169,17 +201,23 @@ AreBytesOf k bytes = (k.left_before ≡ Some bytes) ⊎ (words_read k.words ≡ 
 abbrev pub Writes : Call → Answer → Type 0
 Writes k a = (k.status ≡ a.status) × Appends k.written_before k.written_after a.text
 
+-- this holds of an answer to the words and to the bytes, and but for explanations of each
+pub record OfAnAnswer (words : List (List ℕ)) (bytes : List ℕ) (P : Answer → Type 0) : Type 0 where
+  pub some : (a : Answer) × IsAnswer words bytes a × P a
+  pub each : AskForNoExplanation words → (a : Answer) → IsAnswer words bytes a → P a
+
 -- without a fault and want of memory the answer to the words and to the bytes of the source is written
 abbrev pub WritesTheAnswer : Type 0
 WritesTheAnswer =
-    (k : Call) (bytes : List ℕ) (a : Answer) → KeepsPromises k → HasNoFaultOrWant k → AreBytesOf k bytes
-    → IsAnswer k.words bytes a → Writes k a
+    (k : Call) (bytes : List ℕ) → KeepsPromises k → HasNoFaultOrWant k → AreBytesOf k bytes
+    → OfAnAnswer k.words bytes (Writes k)
 
 -- so a command is completed whose sections are accepted: what it shows is written
 abbrev pub CompletesCommands : Type 0
 CompletesCommands =
     (k : Call) (bytes : List ℕ) (c : Command) (a : Answer) → KeepsPromises k → HasNoFaultOrWant k → AreBytesOf k bytes
-    → command_of k.words ≡ Some c → IsShown c bytes a → Writes k a
+    → command_of k.words ≡ Some c → IsShown c bytes a
+    → ((b : Answer) × IsShown c bytes b × Writes k b) × (AskForNoExplanation k.words → Writes k a)
 
 -- of a source that doesn't tell its bytes there are some of which the same holds, as many as were taken
 abbrev pub WritesSomeAnswer : Type 0
@@ -228,23 +266,33 @@ WritesTheChange =
     (k : Call) (bytes : List ℕ) (how : Solving) → KeepsPromises k → HasNoFaultOrWant k → k.left_before ≡ Some bytes
     → command_of k.words ≡ Some (command.Edit how) → WritesTheChangeOf k bytes
 
--- with the status of the answer its whole text was appended, whatever failed
-abbrev pub StatusMeansTheWholeText : Type 0
-StatusMeansTheWholeText =
-    (k : Call) (bytes : List ℕ) (a : Answer) → KeepsPromises k → AreBytesOf k bytes → IsAnswer k.words bytes a
-    → k.status ≡ a.status → Appends k.written_before k.written_after a.text
+-- Of a call of `explain`: where the page's grammar and schedule are accepted, that is written; where the grammar is, and
+-- the first fault of the schedule is a pair, a text that explains the pair. Otherwise one line that refuses.
+abbrev pub WritesTheExplanationOf : Call → (bytes : List ℕ) → Type 0
+WritesTheExplanationOf k bytes =
+    ((c : CheckedGrammar) (s : Schedule) → AreRulesAccepted bytes c s → Writes k accepted_answer)
+    × ((c : CheckedGrammar) (s : Schedule) → IsPairRefused bytes c s
+    → (text : List ℕ) × IsExplanation c s text × Writes k (answer 0 text))
+    × (((c : CheckedGrammar) (s : Schedule) → AreRulesAccepted bytes c s → ⊥)
+    → ((c : CheckedGrammar) (s : Schedule) → IsPairRefused bytes c s → ⊥)
+    → (a : Answer) × IsRefusal a × IsAnswer k.words bytes a × Writes k a)
 
--- the status is the answer's, or that of a write fault, a read fault or want of memory
+abbrev pub WritesTheExplanation : Type 0
+WritesTheExplanation =
+    (k : Call) (bytes : List ℕ) → KeepsPromises k → HasNoFaultOrWant k → k.left_before ≡ Some bytes
+    → command_of k.words ≡ Some command.Explain → WritesTheExplanationOf k bytes
+
+-- The call ends as this answer, whatever failed: its status is the answer's, or that of a write fault, a read fault or
+-- want of memory; with the status of the answer its whole text was appended, and with a write fault a front of it.
+pub record EndsAs (k : Call) (a : Answer) : Type 0 where
+  pub status : (k.status ≡ a.status) ⊎ ((k.status ≡ 1) ⊎ ((k.status ≡ 3) ⊎ (k.status ≡ 9)))
+  pub text : k.status ≡ a.status → Appends k.written_before k.written_after a.text
+  pub front : k.status ≡ 1 → AppendsFront k.written_before k.written_after a.text
+
+-- a call ends as the answer to its words and to the bytes of its source
 abbrev pub EndsAsAnswered : Type 0
 EndsAsAnswered =
-    (k : Call) (bytes : List ℕ) (a : Answer) → KeepsPromises k → AreBytesOf k bytes → IsAnswer k.words bytes a
-    → (k.status ≡ a.status) ⊎ ((k.status ≡ 1) ⊎ ((k.status ≡ 3) ⊎ (k.status ≡ 9)))
-
--- with a write fault a front of the answer's text was appended
-abbrev pub WritesAFront : Type 0
-WritesAFront =
-    (k : Call) (bytes : List ℕ) (a : Answer) → KeepsPromises k → AreBytesOf k bytes → IsAnswer k.words bytes a
-    → k.status ≡ 1 → AppendsFront k.written_before k.written_after a.text
+    (k : Call) (bytes : List ℕ) → KeepsPromises k → AreBytesOf k bytes → OfAnAnswer k.words bytes (EndsAs k)
 
 -- a write fault comes of a sink that failed
 abbrev pub WriteFaultsHaveCauses : Type 0
@@ -267,6 +315,7 @@ abbrev pub ReadsAPage : Command → Type 0
 ReadsAPage (command.Run how) = Unit {0}
 ReadsAPage command.Check = Unit {0}
 ReadsAPage command.Schedule = Unit {0}
+ReadsAPage command.Explain = Unit {0}
 ReadsAPage command.Demand = Unit {0}
 ReadsAPage (command.Edit how) = Unit {0}
 ReadsAPage (command.Sample pieces name how) = ⊥

@@ -6,11 +6,11 @@ ghost use Rattle.ftl_answer.specs.headline.Promises.{LongPagesAreRefused, OneTab
 ghost use Rattle.ftl_answer.specs.headline.Promises.{NoneButLongPagesAreRefused};
 ghost use Rattle.ftl_answer.specs.headline.Promises.{NoneButWordsAreRefused};
 ghost use Rattle.ftl_answer.specs.headline.Promises.{OrRefused, OverflowHasAStatus, ReadsThePage};
-ghost use Rattle.ftl_answer.specs.headline.Promises.{ReadsWithinLimits, StatusMeansTheWholeText};
+ghost use Rattle.ftl_answer.specs.headline.Promises.{ReadsWithinLimits};
 ghost use Rattle.ftl_answer.specs.headline.Promises.{SummariesCountOverflow};
 ghost use Rattle.ftl_answer.specs.headline.Promises.{StopsAtAReadFault, StopsWithoutMemory};
 ghost use Rattle.ftl_answer.specs.headline.Promises.{WordsAreRefused, WriteFaultsHaveCauses};
-ghost use Rattle.ftl_answer.specs.headline.Promises.{WritesAFront, WritesSomeAnswer};
+ghost use Rattle.ftl_answer.specs.headline.Promises.{WritesSomeAnswer, WritesTheExplanation};
 ghost use Rattle.ftl_answer.specs.headline.Promises.{WritesTheAnswer, WritesTheBoxes};
 ghost use Rattle.ftl_answer.specs.headline.Promises.{OneTableOfEachPageByDemand};
 ghost use Rattle.ftl_answer.specs.headline.Promises.{WritesTheBoxesByDemand};
@@ -38,7 +38,8 @@ pub fn accepted_or_refused()
 /// A law, the headline: a call of `run` without a fault and want of memory writes the boxes of the
 /// one table that solves an accepted page, and one line that refuses of any other. So does a call
 /// of `demand`, of pages that are accepted for evaluation by demand. A call of `edit` writes the
-/// boxes of the one table that solves the changed tree, and how many instances were touched.
+/// boxes of the one table that solves the changed tree, and how many instances were touched. A call
+/// of `explain` writes that a schedule is accepted, or explains the pair that it is refused for.
 pub fn the_headline()
     ensures boxes { WritesTheBoxes }
     ensures memory { WritesTheBoxesInMemory }
@@ -50,6 +51,7 @@ pub fn the_headline()
     ensures edit_memory { WritesTheChangeInMemory }
     ensures edit_tables { OneTableOfEachEditedPage }
     ensures edit_count { EditsTouchSoMany }
+    ensures explanation { WritesTheExplanation }
 {
     one_answer();
     one_table();
@@ -60,9 +62,7 @@ pub fn what_is_written()
     ensures answer { WritesTheAnswer }
     ensures completed { CompletesCommands }
     ensures some { WritesSomeAnswer }
-    ensures status { EndsAsAnswered }
-    ensures text { StatusMeansTheWholeText }
-    ensures front { WritesAFront }
+    ensures ended { EndsAsAnswered }
     ensures write_fault { WriteFaultsHaveCauses }
     ensures read_fault { StopsAtAReadFault }
     ensures want { StopsWithoutMemory }
@@ -75,6 +75,4 @@ pub fn what_is_read()
     ensures page { ReadsThePage }
     ensures alone { LeavesTheSource }
     ensures limits { ReadsWithinLimits }
-{
-    one_answer();
-}
+{}

@@ -9,7 +9,7 @@ mod edits;
 mod grammar;
 mod names;
 mod page;
-mod pieces;
+pub(crate) mod pieces;
 mod plan;
 mod schedule;
 mod text;

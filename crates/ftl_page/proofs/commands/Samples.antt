@@ -31,6 +31,7 @@ Fine None = Unit {0}
 Fine (Some (command.Run how)) = Unit {0}
 Fine (Some command.Check) = Unit {0}
 Fine (Some command.Schedule) = Unit {0}
+Fine (Some command.Explain) = Unit {0}
 Fine (Some command.Demand) = Unit {0}
 Fine (Some (command.Edit how)) = Unit {0}
 Fine (Some (command.Sample pieces name how)) = CanBeMade name pieces
@@ -109,12 +110,14 @@ fine (name ∷ rest) =
     (mapped (λ rows. command.Check) (taken (plain_app (codes "check")) (name ∷ rest)) (λ rows. tt))
     (either (bytes_eq name (codes "schedule")) _ _
     (mapped (λ rows. command.Schedule) (taken (plain_app (codes "schedule")) (name ∷ rest)) (λ rows. tt))
+    (either (bytes_eq name (codes "explain")) _ _
+    (mapped (λ rows. command.Explain) (taken (plain_app (codes "explain")) (name ∷ rest)) (λ rows. tt))
     (either (bytes_eq name (codes "demand")) _ _
     (mapped (λ rows. command.Demand) (taken (plain_app (codes "demand")) (name ∷ rest)) (λ rows. tt))
     (either (bytes_eq name (codes "edit")) _ _
     (then_fine edit_by (taken (solving_app (codes "edit")) (name ∷ rest))
     (λ rows is. mapped command.Edit (solving_of rows) (λ how. tt)))
-    (either (bytes_eq name (codes "sample")) _ _ (sample_of_fine rest) tt)))))
+    (either (bytes_eq name (codes "sample")) _ _ (sample_of_fine rest) tt))))))
 
 -- a sample that words ask for can be made
 pub sample_is_made : (words : List Text) (pieces : ℕ) (name : List ℕ) (how : Solving)

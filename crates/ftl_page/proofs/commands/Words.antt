@@ -37,12 +37,13 @@ not_taken t x y e = ap (λ b. if b then x else y) e
 
 -- another name is no command
 pub no_command : (name : Text) (rest : List Text) → (name ≡ codes "run" → ⊥) → (name ≡ codes "check" → ⊥)
-    → (name ≡ codes "schedule" → ⊥) → (name ≡ codes "demand" → ⊥) → (name ≡ codes "edit" → ⊥)
-    → (name ≡ codes "sample" → ⊥) → command_named name rest ≡ None
-no_command name rest run check schedule demand edit sample =
+    → (name ≡ codes "schedule" → ⊥) → (name ≡ codes "explain" → ⊥) → (name ≡ codes "demand" → ⊥)
+    → (name ≡ codes "edit" → ⊥) → (name ≡ codes "sample" → ⊥) → command_named name rest ≡ None
+no_command name rest run check schedule explain demand edit sample =
     not_taken (bytes_eq name (codes "run")) _ _ (differs name (codes "run") run)
     ∙ not_taken (bytes_eq name (codes "check")) _ _ (differs name (codes "check") check)
     ∙ not_taken (bytes_eq name (codes "schedule")) _ _ (differs name (codes "schedule") schedule)
+    ∙ not_taken (bytes_eq name (codes "explain")) _ _ (differs name (codes "explain") explain)
     ∙ not_taken (bytes_eq name (codes "demand")) _ _ (differs name (codes "demand") demand)
     ∙ not_taken (bytes_eq name (codes "edit")) _ _ (differs name (codes "edit") edit)
     ∙ not_taken (bytes_eq name (codes "sample")) _ _ (differs name (codes "sample") sample)

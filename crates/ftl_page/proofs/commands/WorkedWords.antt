@@ -37,6 +37,10 @@ pub is_schedule : command_of (codes "schedule" ∷ []) ≡ Some (command.Schedul
 unfolding clap_on_literals
 is_schedule = refl
 
+pub is_explain : command_of (codes "explain" ∷ []) ≡ Some (command.Explain)
+unfolding clap_on_literals
+is_explain = refl
+
 pub is_demand : command_of (codes "demand" ∷ []) ≡ Some (command.Demand)
 unfolding clap_on_literals
 is_demand = refl
@@ -133,6 +137,14 @@ not_options_of_check = refl
 pub not_options_of_schedule : command_of (codes "schedule" ∷ codes "--grain" ∷ codes "1" ∷ []) ≡ None
 unfolding clap_on_literals
 not_options_of_schedule = refl
+
+pub not_options_of_explain : command_of (codes "explain" ∷ codes "--workers" ∷ codes "1" ∷ []) ≡ None
+unfolding clap_on_literals
+not_options_of_explain = refl
+
+pub not_words_of_explain : command_of (codes "explain" ∷ codes "x" ∷ []) ≡ None
+unfolding clap_on_literals
+not_words_of_explain = refl
 
 pub not_options_of_demand : command_of (codes "demand" ∷ codes "--workers" ∷ codes "2" ∷ []) ≡ None
 unfolding clap_on_literals

@@ -60,6 +60,8 @@ command_named name rest =
     then option_map (λ rows. command.Check) (taken (plain_app (codes "check")) (name ∷ rest))
     else if bytes_eq name (codes "schedule")
     then option_map (λ rows. command.Schedule) (taken (plain_app (codes "schedule")) (name ∷ rest))
+    else if bytes_eq name (codes "explain")
+    then option_map (λ rows. command.Explain) (taken (plain_app (codes "explain")) (name ∷ rest))
     else if bytes_eq name (codes "demand")
     then option_map (λ rows. command.Demand) (taken (plain_app (codes "demand")) (name ∷ rest))
     else if bytes_eq name (codes "edit")

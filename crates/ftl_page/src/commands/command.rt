@@ -16,6 +16,9 @@ pub enum Command {
     Check,
     /// Print the schedule of a page.
     Schedule,
+    /// Show by an example why the schedule of a page is refused, where it has a reader no later
+    /// than its writer.
+    Explain,
     /// Print the boxes of a page whose schedule plays no part: each value is computed when another
     /// one needs it.
     Demand,

@@ -37,6 +37,10 @@ pub fn read_command(alloc: Global, words: &[String]) -> Result<Command, CommandF
             no_options(alloc, "schedule", words)?;
             Ok(Command::Schedule)
         }
+        "explain" => {
+            no_options(alloc, "explain", words)?;
+            Ok(Command::Explain)
+        }
         "demand" => {
             no_options(alloc, "demand", words)?;
             Ok(Command::Demand)

@@ -23,6 +23,8 @@ pub fn words_that_are_commands()
         ≡ Some (command.Check) }
     ensures schedule { command_of (codes "schedule" ∷ [])
         ≡ Some (command.Schedule) }
+    ensures explain { command_of (codes "explain" ∷ [])
+        ≡ Some (command.Explain) }
     ensures demand { command_of (codes "demand" ∷ [])
         ≡ Some (command.Demand) }
     ensures dashes_of_demand { command_of (codes "demand" ∷ codes "--" ∷ [])
@@ -62,6 +64,9 @@ pub fn words_that_are_none()
         ≡ None }
     ensures options_of_schedule { command_of (codes "schedule" ∷ codes "--grain" ∷ codes "1" ∷ [])
         ≡ None }
+    ensures options_of_explain { command_of (codes "explain" ∷ codes "--workers" ∷ codes "1" ∷ [])
+        ≡ None }
+    ensures words_of_explain { command_of (codes "explain" ∷ codes "x" ∷ []) ≡ None }
     ensures options_of_demand { command_of (codes "demand" ∷ codes "--workers" ∷ codes "2" ∷ [])
         ≡ None }
     ensures words_of_demand { command_of (codes "demand" ∷ codes "x" ∷ []) ≡ None }

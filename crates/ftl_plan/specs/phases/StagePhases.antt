@@ -54,10 +54,18 @@ abbrev pub phases_to : AttributeGrammar → (cuts : ℕ → PassCut) → Forest 
 phases_to g cuts t size n =
     flat_map (λ m. phases_of_pass g (cuts m).is_whole t size (cuts m).kind) (range_with_len 0 n)
 
--- each stage of a plan that has these items can take these phases
-abbrev pub CanBeTaken : StageItems → Phases → Type 0
-CanBeTaken items phases =
-    (s : order.Schedule) (stage max_stack : ℕ) → CanBePlanned (grammar_in items.rows.now) s (tree_in items.rows.now)
-    → passes_of s stage ≡ passes_in items
-    → CanTake
-    (stage_meaning (grammar_in items.rows.now) s (tree_in items.rows.now) items.rows.now.grain stage max_stack) phases
+-- the kinds of passes
+abbrev pub kinds_in : List order.Pass → List PassKind
+kinds_in passes = map (λ (p : order.Pass). p.kind) passes
+
+-- each stage of a plan of this tree whose passes are of these kinds can take these phases
+abbrev pub CanBeTaken : AttributeGrammar → Forest → (grain : ℕ) → List PassKind → Phases → Type 0
+CanBeTaken g t grain kinds phases =
+    (s : order.Schedule) (stage max_stack : ℕ) → CanBePlanned g s t → kinds_in (passes_of s stage) ≡ kinds
+    → CanTake (stage_meaning g s t grain stage max_stack) phases
+
+-- so can each stage that has such passes as these items
+abbrev pub FitItems : StageItems → Phases → Type 0
+FitItems items phases =
+    CanBeTaken (grammar_in items.rows.now) (tree_in items.rows.now) items.rows.now.grain (kinds_in (passes_in items))
+    phases

@@ -3,7 +3,7 @@ ghost use Rattle.std.specs.Prelude.{◌≡◌, ◌<◌, ◌≤◌, ◌++◌, len
 ghost use Rattle.ftl_cursors.specs.items.RowsCut.{is_whole_in};
 ghost use Rattle.ftl_cursors.specs.items.StageItems.{cuts_in, passes_in, tree_in};
 ghost use Rattle.ftl_schedule.specs.stages.Stages.{kind_of};
-ghost use Rattle.ftl_plan.specs.phases.StagePhases.{CanBeTaken, grammar_in};
+ghost use Rattle.ftl_plan.specs.phases.StagePhases.{FitItems, grammar_in};
 ghost use Rattle.ftl_plan.specs.phases.StagePhases.{phases_of_pass, phases_to};
 ghost use Rattle.ftl_cells.specs.declared.work_phases.phase.Phases.{Phases};
 
@@ -24,7 +24,7 @@ pub fn stage_phases(
     ranges: u32,
 ) -> Result<Option<Phases>, AllocError>
     requires some { 0 < ranges }
-    ensures phases { IfOk result (λ r. (t : Phases) → r ≡ Some t → CanBeTaken items.entry t) }
+    ensures phases { IfOk result (λ r. (t : Phases) → r ≡ Some t → FitItems items.entry t) }
 {
     let cells = items.rows.tree.instance_count();
     if cells < FEWEST_CELLS {

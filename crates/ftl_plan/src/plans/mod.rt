@@ -24,6 +24,7 @@ mod work;
 pub use alone::solve_alone;
 pub use ftl_limits::PlanFault;
 pub use parts::StageParts;
+pub use phases::KindPhases;
 pub use plan::Plan;
 pub use words::first_words;
 pub use work::StageWork;

@@ -3,6 +3,8 @@ ghost use Rattle.std.specs.Prelude.{◌≡◌, ◌<◌, length, IfOk};
 ghost use Rattle.ftl_deps.specs.reads.Meant.{meant};
 ghost use Rattle.ftl_items.specs.stage_items.WordLaws.{first_words};
 ghost use Rattle.ftl_model.specs.layout.Outcome.{Gives};
+ghost use Rattle.ftl_model.specs.layout.Table.{instance_count};
+ghost use Rattle.ftl_model.specs.layout.Tree.{size};
 ghost use Rattle.ftl_plan.specs.laws.StageMeanings.{CanBePlanned};
 ghost use Rattle.ftl_schedule.specs.stages.Stages.{stages_of};
 ghost use Rattle.ftl_plan.specs.plans.Planned.{MayBePlanned, planned};
@@ -123,6 +125,20 @@ impl<'a> Plan<'a> {
         let _nodes = self.tree.node_count();
         let _cells = self.tree.instance_count();
         self.accepted.schedule().stages.len() as u32
+    }
+
+    /// How many nodes the tree has.
+    pub fn node_count(&self) -> u32
+        ensures nodes { result ≡ size self.now.tree }
+    {
+        self.tree.node_count()
+    }
+
+    /// How many cells the tree has: one for each instance.
+    pub fn cell_count(&self) -> u32
+        ensures cells { result ≡ instance_count (meant self.now.checked) self.now.tree }
+    {
+        self.tree.instance_count()
     }
 
     /// The work of a stage. It borrows the plan, and takes no memory.

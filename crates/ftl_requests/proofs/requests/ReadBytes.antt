@@ -55,6 +55,7 @@ too_long_answer : (c : Command) (bytes : List ℕ) → reads_page c ≡ true →
 too_long_answer (command.Run how) bytes reads long = inl (_, too_long_page _ bytes long, refl)
 too_long_answer command.Check bytes reads long = inl (_, too_long_page _ bytes long, refl)
 too_long_answer command.Schedule bytes reads long = inl (_, too_long_page _ bytes long, refl)
+too_long_answer command.Explain bytes reads long = inl (_, too_long_page _ bytes long, refl)
 too_long_answer command.Demand bytes reads long = inl (_, too_long_page _ bytes long, refl)
 too_long_answer (command.Edit how) bytes reads long = inl (_, too_long_page _ bytes long, refl)
 too_long_answer (command.Sample pieces name how) bytes reads long = absurd cc

@@ -5,6 +5,8 @@
 //! `specs/requests/Requests.antt` says what is asked for, what answers it, and what is written.
 
 mod ending;
+mod explained;
+mod explanation;
 mod request;
 mod rules;
 mod shown;

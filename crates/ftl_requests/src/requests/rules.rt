@@ -28,7 +28,7 @@ pub(crate) enum RulesOutput {
 }
 
 /// The sections that are needed.
-const RULES_ALONE: Need = Need {
+pub(crate) const RULES_ALONE: Need = Need {
     schedule: true,
     document: false,
     edits: false,

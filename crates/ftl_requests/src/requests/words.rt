@@ -11,6 +11,7 @@ ghost use Rattle.ftl_answer.specs.headline.Headline.{words_read};
 ghost use Rattle.ftl_requests.specs.requests.Requests.{MayEndAs, IsAsked, IsTooLong};
 ghost use Rattle.ftl_requests.specs.sections.Outcomes.{answer_of};
 
+use crate::requests::explained::page_explained;
 use crate::requests::request::{EditedPage, Evaluation, Problem, Request, Undone};
 use crate::requests::rules::{RulesOutput, rules_answered};
 use crate::requests::shown::Shown;
@@ -81,8 +82,12 @@ fn reads_page(command: &Command) -> bool
     ensures reads { result ≡ reads_page command.now }
 {
     match command {
-        Command::Run(_) | Command::Check | Command::Schedule | Command::Demand | Command::Edit(_) =>
-            true,
+        Command::Run(_)
+        | Command::Check
+        | Command::Schedule
+        | Command::Explain
+        | Command::Demand
+        | Command::Edit(_) => true,
         Command::Sample { .. } => false,
     }
 }
@@ -124,6 +129,7 @@ fn obeyed(alloc: Global, command: Command, bytes: Vec<u8>) -> Result<Request, Al
         })),
         Command::Check => verdict(alloc, bytes.as_slice()),
         Command::Schedule => schedule(alloc, bytes.as_slice()),
+        Command::Explain => explanation(alloc, bytes.as_slice()),
         Command::Demand => Ok(Request::Solve(Problem {
             shown: Shown::Boxes,
             evaluation: Evaluation::ByDemand,
@@ -150,6 +156,13 @@ fn schedule(alloc: Global, bytes: &[u8]) -> Result<Request, AllocError>
     ensures comes { IfOk result (MayEndAs (obeyed command.Schedule bytes.now)) }
 {
     Ok(Request::Answered(rules_answered(alloc, RulesOutput::Text, bytes)?))
+}
+
+/// What explains the schedule of a page.
+fn explanation(alloc: Global, bytes: &[u8]) -> Result<Request, AllocError>
+    ensures comes { IfOk result (MayEndAs (obeyed command.Explain bytes.now)) }
+{
+    Ok(Request::Answered(page_explained(alloc, bytes)?))
 }
 
 /// The page of so many pieces in the shipped grammar of this name, whose summary is to be shown.

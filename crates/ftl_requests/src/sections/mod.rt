@@ -17,12 +17,14 @@ mod scheduling;
 mod status;
 mod written;
 
+pub(crate) use automatic::automatic_schedule;
 pub use checking::grammar_of;
 pub use circularity::noncircular_of;
 pub use decision::{Decided, Undecided};
 pub use editing::edits_of;
 pub use growing::{grown_tree_of, tree_of};
 pub(crate) use read::MOST_BYTES;
-pub use read::read_page;
+pub use read::{read_page, section_tokens};
 pub use scheduling::schedule_of;
 pub use status::Status;
+pub(crate) use written::{schedule_refused, verify_refused};

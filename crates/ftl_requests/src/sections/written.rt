@@ -82,7 +82,8 @@ fn verified<'a>(
     }
 }
 
-fn schedule_refused(alloc: Global, fault: &ScheduleFault) -> Undecided
+/// The end with the line of a schedule that was not read.
+pub(crate) fn schedule_refused(alloc: Global, fault: &ScheduleFault) -> Undecided
     ensures ends { IsRefusalOf faults.OutOfMemory (λ f. answer.refused 6 (schedule_line f))
         fault.now result }
 {
@@ -96,7 +97,8 @@ fn schedule_refused(alloc: Global, fault: &ScheduleFault) -> Undecided
     }
 }
 
-fn verify_refused(alloc: Global, checked: &Checked, fault: VerifyFault) -> Undecided
+/// The end with the line of a schedule that is not accepted.
+pub(crate) fn verify_refused(alloc: Global, checked: &Checked, fault: VerifyFault) -> Undecided
     ensures ends { Ends (answer.refused 6 (verify_line checked.now.grammar fault)) result }
 {
     let mut line = Vec::new(alloc);

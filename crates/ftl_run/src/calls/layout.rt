@@ -25,8 +25,9 @@ use std::thread::Threads;
 /// `run`, of a source and a sink that don't fail, of enough memory, and of a call that returns; the
 /// same holds of `demand` and pages whose grammar is accepted and noncircular and whose document is
 /// accepted. Of `edit` the bytes are the boxes of the one table of the tree that the edits make of
-/// the document's, and the number of instances that they touched. `the_headline` of `ftl_answer`
-/// proves it from the four clauses.
+/// the document's, and the number of instances that they touched. Of `explain` they say that
+/// grammar and schedule are accepted, or explain the pair that is the schedule's first fault.
+/// `the_headline` of `ftl_answer` proves it from the four clauses.
 pub fn layout_top<R: Threads + Wait + Sync, S: Source, K: Sink, G: Gate>(
     rt: &R,
     alloc: Global,

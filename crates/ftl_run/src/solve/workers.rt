@@ -35,12 +35,13 @@ pub fn solve<R: Threads + Wait + Sync, G: Gate>(
         return solve_alone(alloc, plan);
     }
     plan.words_fit();
+    let lots = lot_count(plan.node_count(), plan.cell_count(), workers);
     let mut words = CellWords::in_a_row(plan.first_words(alloc)?, Vec::new(alloc));
+    let mut kept = Vec::new(alloc);
     for stage in 0..plan.stage_count() {
         let work = plan.stage(stage);
-        let lots = lot_count(work.cells(), workers);
-        let phases = work.phases(alloc, lots)?;
-        words = words_after(rt, alloc, work, phases, words, workers, gate)?;
+        let place = work.phases(alloc, lots, &mut kept)?;
+        words = words_after(rt, alloc, work, &kept[place].phases, words, workers, gate)?;
     }
     let (row, _parts) = words.into_row(rt);
     Ok(row)
@@ -52,13 +53,17 @@ const LOTS_EACH: u32 = 8;
 // A lot of fewer cells costs more to take than it helps.
 const FEWEST_CELLS: u32 = 4096;
 
-/// Into how many lots so many cells are cut: one for each worker at least.
-fn lot_count(cells: u32, workers: u32) -> u32
-    requires some { 0 < workers }
+// A pass visits each node once, and to start a thread takes as long as some hundred visits. No
+// more workers run than there are lots.
+const FEWEST_NODES: u32 = 1024;
+
+/// Into how many lots the cells are cut where there are so many nodes and cells: two at least.
+fn lot_count(nodes: u32, cells: u32, workers: u32) -> u32
     requires few { workers ≤ 64 }
     ensures some { 0 < result }
 {
-    (LOTS_EACH * workers).min(cells / FEWEST_CELLS).max(workers)
+    let most = (nodes / FEWEST_NODES).min(cells / FEWEST_CELLS);
+    (LOTS_EACH * workers).min(most).max(2)
 }
 
 /// The words after a work, from those that fit it. An item by itself is computed by the calling
@@ -68,13 +73,13 @@ fn words_after<R: Threads + Wait + Sync, W: Work + Drop, G: Gate>(
     rt: &R,
     alloc: Global,
     work: W,
-    phases: Option<Phases>,
+    phases: &Option<Phases>,
     words: CellWords,
     workers: u32,
     gate: &G,
 ) -> Result<CellWords, AllocError>
     requires first { AreFirst (W.meaning work) words }
-    requires phases { (t : Phases) → phases ≡ Some t → CanTake (W.meaning work) t }
+    requires phases { (t : Phases) → phases.now ≡ Some t → CanTake (W.meaning work) t }
     requires some { 0 < workers }
     requires few { workers ≤ 64 }
     ensures last { IfOk result (AreLast (W.meaning work)) }
@@ -85,7 +90,7 @@ fn words_after<R: Threads + Wait + Sync, W: Work + Drop, G: Gate>(
         return Ok(CellWords::in_a_row(row, parts));
     }
     if let Some(phases) = phases {
-        return run_lots(rt, alloc, &work, &phases, words, workers, gate);
+        return run_lots(rt, alloc, &work, phases, words, workers, gate);
     }
     let (row, parts) = words.into_row(rt);
     let (cells, hand) = Cells::open(alloc, work, row)?;

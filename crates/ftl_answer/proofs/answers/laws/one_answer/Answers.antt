@@ -3,5 +3,7 @@ use Rattle.ftl_answer.proofs.answers.laws.one_answer.Goals as goal
 
 pub returns : goal.returns
 returns c = record {
-  one = has_one_answer c.circles_are_decided.ensures.decided c.one_list_where_noncircular.ensures.one_list;
+  one =
+      has_one_answer c.circles_are_decided.ensures.decided c.one_list_where_noncircular.ensures.one_list
+      c.examples.ensures.by_size c.first_pairs.ensures.pairs;
 }

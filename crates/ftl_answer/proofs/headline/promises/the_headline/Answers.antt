@@ -2,7 +2,7 @@ use Rattle.std.proofs.Common.{Some, None}
 use Rattle.ftl_page.specs.declared.commands.command.Command.TheVariants as command
 use Rattle.ftl_answer.proofs.headline.Tables.{accepted_one, changed_one, edited_one}
 use Rattle.ftl_answer.proofs.headline.Written.{writes_the_change, writes_the_change_in_memory}
-use Rattle.ftl_answer.proofs.headline.Written.{writes_the_boxes, writes_the_boxes_by_demand}
+use Rattle.ftl_answer.proofs.headline.Written.{writes_the_boxes, writes_the_boxes_by_demand, writes_the_explanation}
 use Rattle.ftl_answer.proofs.headline.Written.{writes_the_boxes_by_demand_in_memory, writes_the_boxes_in_memory}
 use Rattle.ftl_answer.proofs.headline.promises.the_headline.Goals as goal
 
@@ -20,4 +20,5 @@ returns c =
       edit_memory = writes_the_change_in_memory ones;
       edit_tables = edited_one;
       edit_count = λ bytes c t es x. let one = (changed_one bytes c t es x).1 in (one.some, one.any_two);
+      explanation = writes_the_explanation ones;
     }

@@ -17,6 +17,7 @@ returns-in_default-as_str c =
     (λ e. c.in_default-as_str.not-run (same ∙ e))
     (λ e. c.in_default-as_str.not-check (same ∙ e))
     (λ e. c.in_default-as_str.not-schedule (same ∙ e))
+    (λ e. c.in_default-as_str.not-explain (same ∙ e))
     (λ e. c.in_default-as_str.not-demand (same ∙ e))
     (λ e. c.in_default-as_str.not-edit (same ∙ e))
     (λ e. c.in_default-as_str.not-sample (same ∙ e)) in

@@ -11,6 +11,7 @@ returns c = record {
   dashes = worked.is_dashes;
   check = worked.is_check;
   schedule = worked.is_schedule;
+  explain = worked.is_explain;
   demand = worked.is_demand;
   dashes_of_demand = worked.is_dashes_of_demand;
   edit = worked.is_edit;

@@ -1,41 +1,65 @@
 use denote.Param.Send.{sendable}
-use Rattle.std.proofs.Common.{sym, subst, ◌∙◌, arith}
+use Rattle.std.proofs.Common.{◌≡◌, refl, sym, subst, ◌∙◌, arith, Some}
+use Rattle.std.specs.List.{All}
+use Rattle.std.proofs.lemmas.List.Elements.{All-nil}
+use Rattle.std.proofs.lemmas.Option.{slice_get_read}
 use Rattle.ftl_cells.specs.shared.State.{AreFirst, AreLast}
+use Rattle.ftl_cells.specs.work_phases.Phases.{CanTake}
+use Rattle.ftl_cells.specs.declared.work_phases.phase.Phases.{Phases}
 use Rattle.ftl_deps.specs.reads.Meant.{meant}
 use Rattle.ftl_items.specs.solution.Solution.{solution}
 use Rattle.ftl_items.specs.stage_items.WordLaws.{HoldTheSolution}
+use Rattle.ftl_plan.specs.plans.KindPhases.{FitKinds}
 use Rattle.ftl_plan.specs.plans.StageParts.{StageView, meaning_at}
+use Rattle.ftl_plan.specs.plans.StageTables.{stage_in}
 use Rattle.ftl_plan.specs.plans.StageWords.{FitStage}
 use Rattle.ftl_plan.proofs.plans.Shared.{stage_work_sync}
 use Rattle.ftl_run.proofs.solve.workers.solve.Goals as goal
 
 pub loop-stage-init : goal.loop-stage-init
-loop-stage-init g c =
-    subst (FitStage c.args.plan.now 0) (sym (c.in_a_row-words.ensures.words ∙ c.in_ok-first_words.ensures.words))
-    c.words_fit.ensures.first
+loop-stage-init g c = (
+  subst (FitStage c.args.plan.now 0) (sym (c.in_a_row-words.ensures.words ∙ c.in_ok-first_words.ensures.words))
+      c.words_fit.ensures.first,
+  subst (All (FitKinds (stage_in c.args.plan.now 0))) (sym c.new-kept.ensures.items)
+      (All-nil (FitKinds (stage_in c.args.plan.now 0))),
+)
+
+pub phases-requires-clause-kept : goal.phases-requires-clause-kept
+phases-requires-clause-kept g c =
+    subst (λ (v : StageView). All (FitKinds v) c.loop-stage.kept.items) (sym c.stage-work.ensures.stage)
+    c.loop-stage.invariant.1
 
 -- the work may be shared, and means what the words fit
 pub words_after-requires : goal.words_after-requires
 words_after-requires g c κs =
     let first =
     subst (λ (v : StageView). AreFirst (meaning_at v) c.loop-stage.words) (sym c.stage-work.ensures.stage)
-    c.loop-stage.invariant.first in (
+    c.loop-stage.invariant.0.first in
+    let kept = c.phases.new.kept.items in
+    let entry = c.index.result.now in
+    let takes : (t : Phases) → entry.phases ≡ Some t → CanTake (meaning_at c.stage-work.result) t =
+    λ t is.
+    c.in_ok-place.ensures.phases entry t
+    (slice_get_read kept _ c.in_ok-place.place entry refl c.in_ok-place.ensures.place c.index.ensures) is in (
       search sendable depth 30,
-      (search (stage_work_sync, sendable) depth 30, (search sendable depth 30, (first, (c.in_ok-phases.ensures.phases, (c.requires.some, c.requires.few))))),
+      (search (stage_work_sync, sendable) depth 30, (search sendable depth 30, (first, (takes, (c.requires.some, c.requires.few))))),
     )
 
 pub loop-stage-preserved : goal.loop-stage-preserved
 loop-stage-preserved g c =
     let words = c.in_ok-words.words in
-    c.words_fit.ensures.next c.loop-stage.stage words
-    (subst (λ (v : StageView). AreLast (meaning_at v) words) c.stage-work.ensures.stage c.in_ok-words.ensures.last)
+    let kept = c.phases.new.kept.items in (
+      c.words_fit.ensures.next c.loop-stage.stage words
+          (subst (λ (v : StageView). AreLast (meaning_at v) words) c.stage-work.ensures.stage c.in_ok-words.ensures.last),
+      subst (λ (v : StageView). All (FitKinds v) kept) c.stage-work.ensures.stage c.in_ok-place.ensures.kept,
+    )
 
 pub returns : goal.returns
 returns g c =
     let count = c.stage_count-stage-end.ensures.count in
     let past = c.loop-stage-test.false in
     let most = c.loop-stage.auto.stage-end in
-    let done = c.loop-stage.invariant.done (omega (arith, count, past, most)) in record {
+    let done = c.loop-stage.invariant.0.done (omega (arith, count, past, most)) in record {
       solution = subst (HoldTheSolution (solution (meant c.args.plan.now.checked) c.args.plan.now.tree))
           (sym c.into_row-row.ensures.words) done;
     }

@@ -1,21 +1,55 @@
-use Rattle.std.proofs.Common.{◌≡◌, subst}
-use Rattle.std.specs.Prelude.{Option, Some}
-use Rattle.std.proofs.lemmas.Result.{IfOk-weaker}
-use Rattle.ftl_plan.specs.plans.StageParts.{StageView, meaning_at, schedule_of}
-use Rattle.ftl_plan.specs.phases.StagePhases.{CanBeTaken}
-use Rattle.ftl_cells.specs.work_phases.Phases.{CanTake}
-use Rattle.ftl_cells.specs.declared.work_phases.phase.Phases.{Phases}
+use Rattle.std.proofs.Common.{◌≡◌, ℕ, ap, sym, subst, ◌∙◌, arith, List, ◌++◌, ◌∷◌, ◌-◌, [], length}
+use Rattle.std.specs.List.{All}
+use Rattle.std.proofs.lemmas.List.{length-append}
+use Rattle.ftl_deps.specs.reads.Meant.{meant}
+use Rattle.ftl_order.specs.orders.Schedule as order
+use Rattle.ftl_plan.specs.declared.plans.phases.KindPhases.{KindPhases}
+use Rattle.ftl_plan.specs.laws.StageMeanings.{CanBePlanned}
+use Rattle.ftl_plan.specs.phases.StagePhases.{kinds_in}
+use Rattle.ftl_plan.specs.plans.KindPhases.{AreOfKinds, FitKinds, kinds_at}
+use Rattle.ftl_plan.specs.plans.StageParts.{StageView}
+use Rattle.ftl_schedule.specs.stages.Stages.{stages_of}
+use Rattle.ftl_plan.proofs.plans.KeptKinds.{can_take_at, one_more, stands_last}
 use Rattle.ftl_plan.proofs.plans.work.StageWork.phases.Goals as goal
 
-pub returns : goal.returns
-returns c =
-    let w = c.self.inside.parts in
-    let fit = c.self.invariant in
-    record {
-      phases = IfOk-weaker c.stage_phases.result
-          (λ (r : Option Phases). (t : Phases) → r ≡ Some t → CanBeTaken w.item_tables.items t)
-          (λ (r : Option Phases). (t : Phases) → r ≡ Some t → CanTake (meaning_at c.args.self.now) t)
-          (λ r can t is. subst (λ (v : StageView). CanTake (meaning_at v) t) c.self.view_is
-          (can t is (schedule_of w) w.stage w.programs.now.max_stack fit.can fit.passes))
-          c.stage_phases.ensures.phases;
-    }
+-- the stage has a plan
+abbrev HasPlan : StageView → Type 0
+HasPlan v = CanBePlanned (meant v.checked) (stages_of v.schedule) v.tree
+
+pub returns-in-Some-clause-phases : goal.returns-in-Some-clause-phases
+returns-in-Some-clause-phases c =
+    let v = c.args.self.now in
+    let kept = c.args.kept.now.items in
+    let place = c.in-Some.place in
+    let kinds = ap kinds_in (sym c.self.invariant.passes) ∙ ap kinds_at c.self.view_is in
+    can_take_at v kept place (subst HasPlan c.self.view_is c.self.invariant.can) c.requires.kept
+    (subst (λ (xs : List KindPhases). AreOfKinds xs (kinds_at v) place) c.as_slice.ensures.value
+    (subst (λ (ks : List order.PassKind). AreOfKinds c.as_slice.result.now ks place) kinds c.in-Some.ensures.place))
+
+pub returns-clause-kept : goal.returns-clause-kept
+returns-clause-kept c =
+    let v = c.args.self.now in
+    let made = c.in_ok-made.made in
+    subst (All (FitKinds v))
+    (sym (c.in_ok-push.ensures.items ∙ ap (λ (xs : List KindPhases). xs ++ made ∷ []) c.truncate.ensures.items))
+    (one_more v 3 c.args.kept.now.items made c.requires.kept c.in_ok-made.ensures.fit)
+
+pub returns-clause-phases : goal.returns-clause-phases
+returns-clause-phases c =
+    let v = c.args.self.now in
+    let made = c.in_ok-made.made in
+    let all = c.push.new.self.items in
+    let before = c.truncate.new.self.items in
+    let joined = c.in_ok-push.ensures.items in
+    let fits =
+    subst (All (FitKinds v))
+    (sym (joined ∙ ap (λ (xs : List KindPhases). xs ++ made ∷ []) c.truncate.ensures.items))
+    (one_more v 3 c.args.kept.now.items made c.requires.kept c.in_ok-made.ensures.fit) in
+    let long = ap length joined ∙ length-append before (made ∷ []) in
+    let counted = c.len.ensures in
+    let whole = c.push.new.self.ok.0 in
+    let last : length before ≡ c.len.result - 1 = omega (arith, long, counted, whole) in
+    let there = stands_last before made (kinds_at v) c.in_ok-made.ensures.kinds in
+    can_take_at v all (c.len.result - 1) (subst HasPlan c.self.view_is c.self.invariant.can) fits
+    (subst (λ (n : ℕ). AreOfKinds all (kinds_at v) n) last
+    (subst (λ (xs : List KindPhases). AreOfKinds xs (kinds_at v) (length before)) (sym joined) there))

@@ -1,0 +1,2 @@
+pub mod InstanceRows
+pub mod Numbers

@@ -1,0 +1,5 @@
+pub mod FirstEntries
+pub mod Turns
+pub mod NodeLemmas
+pub mod HostTargets
+pub mod ItemTargets

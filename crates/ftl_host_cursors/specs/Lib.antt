@@ -1,0 +1,4 @@
+pub mod HostSteps
+pub mod HostPlaces
+pub mod HostLaws
+pub mod WorkedPasses

@@ -1,0 +1,19 @@
+//! The steps of the visits of nodes in a pass that nests a schedule in each node of a class, one
+//! after another. Goes in: a tree, a topdown or bottomup pass with the visits of its own list, the
+//! host class, the inner passes with the visits of each, and a range of nodes. Comes out:
+//! `HostCursor`, which contracts see as the list of steps that are left;
+//! `specs/HostSteps.antt` has that list, and `specs/HostLaws.antt` says that it is what the visits
+//! and the items of passes with nests have.
+#![tactic(auto)]
+
+mod cursor;
+mod laws;
+mod nodes;
+mod place;
+mod tables;
+mod worked_steps;
+
+pub use cursor::HostCursor;
+pub use laws::host_visits;
+pub use tables::HostTables;
+pub use worked_steps::steps_of_two_rows;

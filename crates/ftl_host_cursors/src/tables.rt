@@ -1,0 +1,18 @@
+//! What cursors go by.
+
+use ftl_schedule::Pass;
+use ftl_tree::Tree;
+use ftl_visit::{PassVisits, RuleTarget};
+
+/// What a cursor goes by: for whom each rule is, a pass with the visits of its own list, the host
+/// class, and the inner passes, stage by stage, with the visits of each.
+#[derive(Clone, Copy)]
+pub struct HostTables<'a> {
+    pub tree: &'a Tree<'a>,
+    pub targets: &'a [RuleTarget],
+    pub pass: &'a Pass,
+    pub visits: &'a PassVisits,
+    pub host: Option<u32>,
+    pub inner: &'a [Pass],
+    pub inner_visits: &'a [PassVisits],
+}

@@ -1,0 +1,2 @@
+pub mod AllPairs
+pub mod NestTests

@@ -1,0 +1,4 @@
+pub mod Parents
+pub mod Sides
+pub mod Steps
+pub mod Worked

@@ -1,0 +1,3 @@
+pub mod NestReads
+pub mod Places
+pub mod Worked

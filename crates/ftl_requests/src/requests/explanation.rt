@@ -1,0 +1,48 @@
+//! What explains the pair of a schedule's first fault.
+
+ghost use Rattle.std.specs.Prelude.{◌≡◌, IfOk};
+ghost use Rattle.ftl_answer.specs.answers.Explanations.{IsExplanation};
+ghost use Rattle.ftl_deps.specs.reads.DepRows.{dep_rows};
+ghost use Rattle.ftl_deps.specs.reads.Meant.{meant};
+ghost use Rattle.ftl_order.specs.faults.FaultLaws.{AreComputed};
+ghost use Rattle.ftl_schedule.specs.stages.PassLimits.{IsWithinPassLimits};
+ghost use Rattle.ftl_schedule.specs.stages.Stages.{stages_of};
+ghost use Rattle.ftl_requests.specs.requests.Explained.{HasFaultPair};
+
+use ftl_answer::print_example;
+use ftl_checked::Checked;
+use ftl_deps::DepTable;
+use ftl_example::examples::example;
+use ftl_example::trees::ExampleFault;
+use ftl_schedule::Schedule;
+use std::alloc::{AllocError, Global};
+
+/// The text of an example; or that no tree shows the pair, or that those that do are too large.
+pub(crate) fn explanation(
+    alloc: Global,
+    checked: &Checked,
+    deps: &DepTable,
+    schedule: &Schedule,
+) -> Result<Vec<u8>, AllocError>
+    requires table { deps.now ≡ dep_rows (meant checked.now) }
+    requires computed { AreComputed (meant checked.now) (stages_of schedule.now) }
+    requires limits { IsWithinPassLimits (stages_of schedule.now) }
+    requires pair { HasFaultPair checked.now schedule.now }
+    ensures text { IfOk result (λ v. IsExplanation checked.now schedule.now v.items) }
+{
+    match example(alloc, checked, deps, schedule) {
+        Ok(found) => print_example(
+            alloc,
+            &found.tree,
+            found.reader,
+            found.writer,
+            found.order.as_slice(),
+        ),
+        Err(ExampleFault::NoTree) => Vec::from_slice(alloc, b"no tree shows the pair\n"),
+        Err(ExampleFault::TooLarge) => Vec::from_slice(
+            alloc,
+            b"each tree that shows the pair has more than 512 nodes\n",
+        ),
+        Err(ExampleFault::OutOfMemory) => Err(AllocError),
+    }
+}
