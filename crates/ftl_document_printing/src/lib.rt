@@ -1,5 +1,5 @@
 //! The canonical text of a tree. Goes in: a tree of a checked grammar. Comes out: the text of its
-//! document, which is read as the same tree again. The program doesn't call it.
+//! document, which is read as the same tree again.
 //!
 //! - `text`: the canonical text of a document by names
 //! - `trees`: `print_document`: the canonical text of a tree

@@ -153,7 +153,8 @@ fn write_fault_line(
     write_line(out, line.as_slice())
 }
 
-fn write_line(out: &mut String, line: &[u8]) -> Result<(), AllocError> {
+/// Adds a line that refuses something.
+pub(crate) fn write_line(out: &mut String, line: &[u8]) -> Result<(), AllocError> {
     out.push_str(str::from_utf8(line).unwrap_or("no text"))?;
     out.push('\n')
 }

@@ -20,6 +20,7 @@ mod code;
 mod documents;
 mod found;
 mod names;
+mod nests;
 mod numbers;
 mod places;
 mod reads;

@@ -1,10 +1,12 @@
 //! Canonical texts of schedules, also of ones that aren't accepted. A request is `print` and a
-//! text, in which `/` stands for a line feed.
+//! text, in which `/` stands for a line feed; or `nest` and the text of a schedule whose passes may
+//! nest others.
 
 ghost use Rattle.std.specs.Prelude.{◌≤◌, length, IfSome};
 ghost use Rattle.ftl_model.specs.layout.Limits.{most_page_bytes};
 ghost use Rattle.ftl_schedule.specs.printing.WrittenOf.{AreStagesKnown};
 
+use crate::nests::write_nests;
 use ftl_checked::Checked;
 use ftl_schedule::{Schedule, print_schedule, read_schedule};
 use ftl_tokens::{Scanned, tokens};
@@ -19,9 +21,10 @@ pub(crate) fn write_schedules(
     requests: &str,
 ) -> Result<(), AllocError> {
     for request in requests.lines() {
-        match request.strip_prefix("print ") {
-            Some(text) => write_canonical(out, alloc, checked, text)?,
-            None => out.push_str("no request\n")?,
+        match request.split_once(' ') {
+            Some(("print", text)) => write_canonical(out, alloc, checked, text)?,
+            Some(("nest", text)) => write_of_nests(out, alloc, checked, text)?,
+            _ => out.push_str("no request\n")?,
         }
     }
     Ok(())
@@ -55,6 +58,19 @@ fn write_canonical(
 ) -> Result<(), AllocError> {
     match scanned(alloc, with_lines(alloc, text)?) {
         Some(scanned) => write_canonical_of(out, alloc, checked, &scanned),
+        None => out.push_str("no tokens\n"),
+    }
+}
+
+/// What is answered of a schedule whose passes may nest others.
+fn write_of_nests(
+    out: &mut String,
+    alloc: Global,
+    checked: &Checked,
+    text: &str,
+) -> Result<(), AllocError> {
+    match scanned(alloc, with_lines(alloc, text)?) {
+        Some(scanned) => write_nests(out, alloc, checked, &scanned),
         None => out.push_str("no tokens\n"),
     }
 }

@@ -20,7 +20,7 @@ use Rattle.ftl_items.specs.stage_items.Cut.{nodes_by, subtree}
 use Rattle.ftl_items.specs.stage_items.Items.{Item, form_steps, item_steps}
 use Rattle.ftl_items.proofs.stage_items.Reverses.{reverse-cons}
 use Rattle.ftl_nests.specs.NestItems.{is_whole_with, nest_form, visit_with}
-use Rattle.ftl_nests.specs.Nests.{NestingPass, NestingSchedule, nesting_pass}
+use Rattle.ftl_nests.specs.Nests.{NestingPass, NestingSchedule, inner_stages, nesting_pass}
 use Rattle.ftl_cursors.specs.item_cursor.ItemSteps.{AreStepsOf, order_of}
 use Rattle.ftl_cursors.specs.visits.ItemSteps.{node_count_by}
 use Rattle.ftl_cursors.specs.visits.NodeRanges.{nodes_in}
@@ -28,8 +28,7 @@ use Rattle.ftl_cursors.proofs.item_cursor.ItemVisits.{in_nodes}
 use Rattle.ftl_cursors.proofs.visits.ItemLemmas.{nodes_within}
 use Rattle.ftl_cursors.proofs.visits.RangeLemmas.{subtree_nodes}
 use Rattle.ftl_host_cursors.proofs.HostTargets.{visit_in_tree, visit_targets}
-use Rattle.ftl_host_cursors.specs.HostLaws.{StandFor}
-use Rattle.ftl_host_cursors.specs.HostPlaces.{NoneInorder}
+use Rattle.ftl_host_cursors.specs.HostLaws.{StandFor, StandsAtMostOnce}
 use Rattle.ftl_host_cursors.specs.HostSteps.{host_steps, visit_steps}
 
 map-reverse : {X Y : Type 0} (f : X → Y) (xs : List X) → map f (reverse xs) ≡ reverse (map f xs)
@@ -53,7 +52,7 @@ range_is is_whole t p there =
 
 module _ (g : AttributeGrammar) (t : Forest) (law : IsLawful g) (fits : IsTreeOf g t) (whole : NestingPass)
     (pass : Pass) (host : Option ℕ) (inner : List Pass) (stand : StandFor whole pass host inner)
-    (kind : pass.kind ≢ InOrder) (kinds : NoneInorder inner) where
+    (kind : pass.kind ≢ InOrder) (few : StandsAtMostOnce g (inner_stages whole.nest)) where
   abbrev whole_visit : Path → List Instance
   whole_visit p = visit_with g t whole.kind whole.attributes whole.nest p
 
@@ -63,14 +62,14 @@ module _ (g : AttributeGrammar) (t : Forest) (law : IsLawful g) (fits : IsTreeOf
   nodes_targets (n ∷ nodes) known =
       map-append (target_of g t) (visit_steps g t pass host inner n) (host_steps g t pass host inner nodes)
       ∙ ap₂ (λ xs ys. xs ++ ys)
-      (visit_targets g t law fits n (known n (here_in n nodes)) pass kind inner kinds whole host stand)
+      (visit_targets g t law fits n (known n (here_in n nodes)) pass kind inner whole few host stand)
       (nodes_targets nodes (λ m h. known m (later_in n m nodes h)))
 
   nodes_in_tree : (nodes : List ℕ) → ((n : ℕ) → Contains nodes n → n < size t) → (x : Step)
       → Contains (host_steps g t pass host inner nodes) x → IsStepOf g t x
   nodes_in_tree nodes known x among =
       let f = in_flat_map (visit_steps g t pass host inner) nodes x among in
-      visit_in_tree g t law fits f.0 (known f.0 f.1) pass kind inner kinds host x f.2
+      visit_in_tree g t law fits f.0 (known f.0 f.1) pass kind inner host x f.2
 
   module _ (is_whole : Path → Bool) (p : Path) (there : Has t p) where
     abbrev nodes : List ℕ
@@ -119,7 +118,7 @@ module _ (g : AttributeGrammar) (t : Forest) (law : IsLawful g) (fits : IsTreeOf
     item_in_tree x among = nodes_in_tree nodes nodes_known x among
 
 module _ (g : AttributeGrammar) (t : Forest) (law : IsLawful g) (fits : IsTreeOf g t) (pass : Pass)
-    (host : Option ℕ) (inner : List Pass) (kind : pass.kind ≢ InOrder) (kinds : NoneInorder inner)
+    (host : Option ℕ) (inner : List Pass) (kind : pass.kind ≢ InOrder)
     (s : NestingSchedule) (grain stage : ℕ) (x : Item) (there : Has t x.first) where
   abbrev steps_with : NestingPass → List Step
   steps_with w =
@@ -130,19 +129,22 @@ module _ (g : AttributeGrammar) (t : Forest) (law : IsLawful g) (fits : IsTreeOf
   instances = item_steps (nest_form g s t grain stage) t x
 
   here : StandFor (nesting_pass s stage x.pass) pass host inner
+      → StandsAtMostOnce g (inner_stages (nesting_pass s stage x.pass).nest)
       → AreStepsOf g t instances (steps_with (nesting_pass s stage x.pass))
-  here stand =
+  here stand few =
       let w = nesting_pass s stage x.pass in
       record {
         steps_are =
-            item_in_tree g t law fits w pass host inner stand kind kinds (is_whole_with w.nest t grain) x.first there;
+            item_in_tree g t law fits w pass host inner stand kind few (is_whole_with w.nest t grain) x.first there;
         targets =
-            item_targets g t law fits w pass host inner stand kind kinds (is_whole_with w.nest t grain) x.first there
+            item_targets g t law fits w pass host inner stand kind few (is_whole_with w.nest t grain) x.first there
             (nest_form g s t grain stage x.pass).sequence;
       }
 
   pub item_is : (whole : NestingPass) → nesting_pass s stage x.pass ≡ whole → StandFor whole pass host inner
+      → StandsAtMostOnce g (inner_stages whole.nest)
       → AreStepsOf g t instances (steps_with whole)
-  item_is whole is stand =
+  item_is whole is stand few =
       subst (λ (w : NestingPass). AreStepsOf g t instances (steps_with w)) is
-      (here (subst (λ (w : NestingPass). StandFor w pass host inner) (sym is) stand))
+      (here (subst (λ (w : NestingPass). StandFor w pass host inner) (sym is) stand)
+      (subst (λ (w : NestingPass). StandsAtMostOnce g (inner_stages w.nest)) (sym is) few))

@@ -1,5 +1,5 @@
 -- What is left of a visit when its next part is begun.
-use Rattle.std.proofs.Common.{◌≡◌, ℕ, ◌<◌, ◌==◌, Bool, true, false, if◌then◌else◌, List, [], ◌∷◌, ◌++◌, flat_map, get_or, length, map, refl, sym, ◌∙◌, ap, ap₂, append_assoc, arith, eqb-true}
+use Rattle.std.proofs.Common.{◌≡◌, ◌≢◌, ℕ, ◌<◌, ◌==◌, Bool, true, false, if◌then◌else◌, List, [], ◌∷◌, ◌++◌, flat_map, get_or, length, refl, sym, ◌∙◌, ap, append_assoc, arith, eqb-true}
 use Rattle.std.proofs.lemmas.Bool.{false≢true}
 use Rattle.ftl_model.specs.layout.AttributeGrammar.{AttributeGrammar}
 use Rattle.ftl_model.specs.layout.Path.{node_at, size_at}
@@ -8,20 +8,19 @@ use Rattle.ftl_order.specs.declared.steps.step.Step.{Step}
 use Rattle.ftl_schedule.specs.declared.stages.types.Pass.{Pass}
 use Rattle.ftl_schedule.specs.declared.syntax.kind.PassKind.{PassKind}
 use Rattle.ftl_schedule.specs.declared.syntax.kind.PassKind.TheVariants.{BottomUp, InOrder, TopDown}
-use Rattle.ftl_visit.specs.declared.visits.visit_op.VisitOp.{VisitOp}
-use Rattle.ftl_cursors.specs.declared.visits.nodes.NodeOrder.{NodeOrder}
+use Rattle.ftl_visit.specs.passes.VisitRows.{visits_of}
+use Rattle.ftl_cursors.specs.declared.item_cursor.cursor.ItemCursor.{ItemCursor}
 use Rattle.ftl_cursors.specs.item_cursor.ItemSteps.{order_of}
-use Rattle.ftl_cursors.specs.stages.StageRows.{pass_visits}
 use Rattle.ftl_cursors.specs.visits.NodeRanges.{nodes_in}
 use Rattle.ftl_cursors.specs.visits.VisitSteps.{steps_of_nodes}
-use Rattle.ftl_host_cursors.proofs.FirstEntries.{after_first, first-map, rest_is}
+use Rattle.ftl_host_cursors.proofs.FirstEntries.{after_first, rest_is}
 use Rattle.ftl_host_cursors.specs.HostPlaces.{IsHostPlace, left}
-use Rattle.ftl_host_cursors.specs.HostSteps.{hosted_steps, inner_pass_steps, is_own_next}
+use Rattle.ftl_host_cursors.specs.HostSteps.{hosted_steps, is_own_next, tree_steps}
 use Rattle.ftl_host_cursors.specs.declared.place.HostPlace.{HostPlace}
 use Rattle.ftl_host_cursors.specs.declared.tables.HostTables.{HostTables}
 
 -- a place at which as much is left
-pub record IsAsFar (x : HostTables) (old new : HostPlace) (old_steps new_steps : List Step) : Type 0 where
+pub record IsAsFar (x : HostTables) (old new : HostPlace) (old_steps new_steps : ItemCursor) : Type 0 where
   pub place : IsHostPlace x new
   pub left : left x new new_steps ≡ left x old old_steps
 
@@ -61,12 +60,10 @@ module _ (f : Pass → List Step) (own_steps rest : List Step) where
   inner_turn kind own (pass ∷ inner) d some turn =
       ap (λ passes. f pass ++ all kind own passes) (rest_is pass inner) ∙ inner_first kind own pass inner turn
 
--- the steps of the first inner pass, by the visits
-pub first_inner : (g : AttributeGrammar) (t : Forest) (n : ℕ) (passes : List Pass) (visits : List (List (List VisitOp)))
-    (d : Pass) (e : List (List VisitOp)) (order : NodeOrder) (count : ℕ) → visits ≡ map (pass_visits g) passes
-    → 0 < length passes → order ≡ order_of (get_or passes 0 d).kind → count ≡ size_at t (node_at t n)
-    → steps_of_nodes g t (get_or visits 0 e) (nodes_in order n count) ≡ inner_pass_steps g t n (get_or passes 0 d)
-first_inner g t n passes visits d e order count are some is all =
-    ap (λ v. steps_of_nodes g t v (nodes_in order n count))
-    (ap (λ vs. get_or vs 0 e) are ∙ first-map (pass_visits g) passes d e some)
-    ∙ ap₂ (λ o m. steps_of_nodes g t (pass_visits g (get_or passes 0 d)) (nodes_in o n m)) is all
+-- the steps over the tree at a node in a pass that is not inorder, by its nodes
+pub by_nodes : (g : AttributeGrammar) (t : Forest) (n : ℕ) (kind : PassKind) (attributes : List ℕ) → kind ≢ InOrder
+    → steps_of_nodes g t (visits_of g kind attributes) (nodes_in (order_of kind) n (size_at t (node_at t n)))
+    ≡ tree_steps g t n kind attributes
+by_nodes g t n TopDown attributes other = refl
+by_nodes g t n BottomUp attributes other = refl
+by_nodes g t n InOrder attributes other = absurd (other refl)

@@ -1,6 +1,6 @@
 -- What the steps of visits compute: what the visits and the items of passes with nests have.
-use Rattle.std.specs.Prelude.{◌≡◌, ◌≢◌, ℕ, ◌<◌, List, map, flat_map, Option}
-use Rattle.ftl_model.specs.layout.AttributeGrammar.{AttributeGrammar}
+use Rattle.std.specs.Prelude.{◌≡◌, ◌≢◌, ℕ, ◌<◌, ◌≤◌, ◌==◌, List, count_by, map, flat_map, Option}
+use Rattle.ftl_model.specs.layout.AttributeGrammar.{AttributeGrammar, input}
 use Rattle.ftl_model.specs.layout.Path.{Has, node_at, number_of}
 use Rattle.ftl_model.specs.layout.Tree.{Forest, size}
 use Rattle.ftl_model.specs.layout.TreeOf.{IsTreeOf}
@@ -15,7 +15,6 @@ use Rattle.ftl_nests.specs.Nests.{NestingPass, NestingSchedule, host_of, inner_s
 use Rattle.ftl_cursors.specs.item_cursor.ItemSteps.{AreStepsOf, order_of}
 use Rattle.ftl_cursors.specs.visits.ItemSteps.{node_count_by}
 use Rattle.ftl_cursors.specs.visits.NodeRanges.{nodes_in}
-use Rattle.ftl_host_cursors.specs.HostPlaces.{NoneInorder}
 use Rattle.ftl_host_cursors.specs.HostSteps.{host_steps, visit_steps}
 
 -- the passes of a schedule, stage by stage
@@ -29,13 +28,18 @@ pub record StandFor (whole : NestingPass) (pass : Pass) (class : Option ℕ) (pa
   pub host : class ≡ host_of whole.nest
   pub inner : map pass_of passes ≡ passes_in_order (inner_stages whole.nest)
 
--- of each tree of a lawful grammar, and each topdown or bottomup pass none of whose inner passes is inorder
+-- each computed attribute stands in the lists at most once
+abbrev pub StandsAtMostOnce : AttributeGrammar → order.Schedule → Type 0
+StandsAtMostOnce g s =
+    (a : ℕ) → a < g.attribute_count → g.sort a ≢ input → count_by (λ b. b == a) (order.entries s) ≤ 1
+
+-- of each tree of a lawful grammar, and each topdown or bottomup pass that nests each attribute once
 abbrev pub OfNestingPasses :
     (AttributeGrammar → Forest → NestingPass → Pass → (host : Option ℕ) → (inner : List Pass) → Type 0) → Type 0
 OfNestingPasses P =
     (g : AttributeGrammar) (t : Forest) → IsLawful g → IsTreeOf g t
     → (whole : NestingPass) (pass : Pass) (host : Option ℕ) (inner : List Pass) → StandFor whole pass host inner
-    → pass.kind ≢ InOrder → NoneInorder inner → P g t whole pass host inner
+    → pass.kind ≢ InOrder → StandsAtMostOnce g (inner_stages whole.nest) → P g t whole pass host inner
 
 -- the steps of the visit of a node are steps of the tree, and compute its visit with the nest
 abbrev pub VisitsAreWithNests : AttributeGrammar → Forest → NestingPass → Pass → (host : Option ℕ)

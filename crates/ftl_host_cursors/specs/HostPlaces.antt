@@ -1,14 +1,15 @@
 -- What is left at a place of a cursor: parts of the visit of a node, and nodes.
-use Rattle.std.specs.Prelude.{◌≡◌, ◌≢◌, ℕ, suc, ◌+◌, ◌<◌, ◌≤◌, if◌then◌else◌, List, [], ◌∷◌, ◌++◌, length, map, sum_by, Contains}
+use Rattle.std.specs.Prelude.{◌≡◌, ◌≢◌, ℕ, suc, ◌+◌, ◌<◌, ◌≤◌, if◌then◌else◌, List, [], ◌∷◌, ◌++◌, length, map, sum_by}
 use Rattle.ftl_deps.specs.reads.Meant.{meant}
 use Rattle.ftl_model.specs.layout.AttributeGrammar.{AttributeGrammar}
 use Rattle.ftl_model.specs.layout.Tree.{Forest, size}
 use Rattle.ftl_order.specs.declared.steps.step.Step.{Step}
 use Rattle.ftl_order.specs.orders.Lawful.{IsLawful}
-use Rattle.ftl_schedule.specs.declared.stages.types.Pass.{Pass}
 use Rattle.ftl_schedule.specs.declared.syntax.kind.PassKind.TheVariants.{InOrder}
 use Rattle.ftl_visit.specs.passes.VisitRows.{target_of}
-use Rattle.ftl_cursors.specs.stages.StageRows.{pass_visits}
+use Rattle.ftl_cursors.specs.declared.item_cursor.cursor.ItemCursor.{ItemCursor}
+use Rattle.ftl_cursors.specs.item_cursor.ItemSteps.{steps_left}
+use Rattle.ftl_cursors.specs.stages.StageRows.{pass_places, pass_visits}
 use Rattle.ftl_cursors.specs.visits.NodeRanges.{nodes_in}
 use Rattle.ftl_host_cursors.specs.HostSteps.{host_steps, hosted_steps, inner_steps, own_steps, passes_at}
 use Rattle.ftl_host_cursors.specs.declared.nodes.NodesLeft.{NodesLeft}
@@ -23,18 +24,14 @@ grammar_of x = meant x.tree.now.checked
 abbrev pub tree_of : HostTables → Forest
 tree_of x = x.tree.now.tree
 
--- none of these passes is inorder
-abbrev pub NoneInorder : List Pass → Type 0
-NoneInorder passes = (pass : Pass) → Contains passes pass → pass.kind ≢ InOrder
-
--- the visits are those of the passes, none of which is inorder, and the targets those of the rules
+-- the visits are those of the passes, the inner ones with the places of their blocks, and the targets those of the rules
 pub record AreHostTables (x : HostTables) : Type 0 where
   pub law : IsLawful (grammar_of x)
   pub targets : x.targets.now ≡ map target_of (grammar_of x).rules
   pub kind : x.pass.now.kind ≢ InOrder
   pub visits : x.visits.now ≡ pass_visits (grammar_of x) x.pass.now
-  pub inner_kinds : NoneInorder x.inner.now
   pub inner_visits : x.inner_visits.now ≡ map (pass_visits (grammar_of x)) x.inner.now
+  pub inner_places : x.inner_places.now ≡ map (pass_places (grammar_of x)) x.inner.now
 
 -- the steps of the visits of some nodes
 abbrev pub steps_in : HostTables → (nodes : List ℕ) → List Step
@@ -53,8 +50,8 @@ pub record IsFirstLeft (all rest : NodesLeft) (node : ℕ) : Type 0 where
 -- all is of the tree, and the visits are those of the passes
 pub record IsHostPlace (x : HostTables) (at : HostPlace) : Type 0 where
   pub node : at.node < size (tree_of x)
-  pub kinds : NoneInorder at.passes.now
   pub visits : at.visits.now ≡ map (pass_visits (grammar_of x)) at.passes.now
+  pub places : at.places.now ≡ map (pass_places (grammar_of x)) at.passes.now
   pub nodes : at.nodes.first + at.nodes.count ≤ size (tree_of x)
 
 -- the steps of the own list, where it is still to come
@@ -71,8 +68,8 @@ left_at x at =
     hosted_steps x.pass.now.kind (own_left x at) (inner_left x at) ++ steps_in x (nodes_left at.nodes)
 
 -- the steps that are left, where these are of the part that was begun
-abbrev pub left : HostTables → HostPlace → (steps : List Step) → List Step
-left x at steps = steps ++ left_at x at
+abbrev pub left : HostTables → HostPlace → ItemCursor → List Step
+left x at steps = steps_left steps ++ left_at x at
 
 -- how many parts and nodes are left to begin
 abbrev pub parts_left : HostTables → HostPlace → ℕ

@@ -8,7 +8,9 @@ use Rattle.ftl_order.specs.declared.steps.step.Step.{Step}
 use Rattle.ftl_schedule.specs.declared.stages.types.Pass.{Pass}
 use Rattle.ftl_schedule.specs.declared.syntax.kind.PassKind.{PassKind}
 use Rattle.ftl_schedule.specs.declared.syntax.kind.PassKind.TheVariants.{BottomUp, InOrder, TopDown}
-use Rattle.ftl_cursors.specs.item_cursor.ItemSteps.{order_of}
+use Rattle.ftl_visit.specs.passes.VisitRows.{visits_of}
+use Rattle.ftl_cursors.specs.declared.visits.nodes.NodeOrder.TheVariants.{Preorder, Reverse}
+use Rattle.ftl_cursors.specs.inorder.InorderSteps.{inorder_steps}
 use Rattle.ftl_cursors.specs.stages.StageRows.{pass_visits}
 use Rattle.ftl_cursors.specs.visits.NodeRanges.{nodes_in}
 use Rattle.ftl_cursors.specs.visits.VisitSteps.{steps_of_nodes}
@@ -17,10 +19,17 @@ use Rattle.ftl_cursors.specs.visits.VisitSteps.{steps_of_nodes}
 abbrev pub own_steps : AttributeGrammar → Forest → Pass → (node : ℕ) → List Step
 own_steps g t pass n = steps_of_nodes g t (pass_visits g pass) (n ∷ [])
 
--- those of an inner pass over the tree at a node: topdown in preorder, bottomup the other way round
+-- those of a pass of this kind with this list over the tree at a node: in preorder, the other way round, or in sequence
+abbrev pub tree_steps : AttributeGrammar → Forest → (node : ℕ) → PassKind → (attributes : List ℕ) → List Step
+tree_steps g t n TopDown attributes =
+    steps_of_nodes g t (visits_of g TopDown attributes) (nodes_in Preorder n (size_at t (node_at t n)))
+tree_steps g t n BottomUp attributes =
+    steps_of_nodes g t (visits_of g BottomUp attributes) (nodes_in Reverse n (size_at t (node_at t n)))
+tree_steps g t n InOrder attributes = inorder_steps g t attributes (node_at t n)
+
+-- those of an inner pass over the tree at a node
 abbrev pub inner_pass_steps : AttributeGrammar → Forest → (node : ℕ) → Pass → List Step
-inner_pass_steps g t n pass =
-    steps_of_nodes g t (pass_visits g pass) (nodes_in (order_of pass.kind) n (size_at t (node_at t n)))
+inner_pass_steps g t n pass = tree_steps g t n pass.kind pass.attrs
 
 -- those of inner passes, one pass after the other
 abbrev pub inner_steps : AttributeGrammar → Forest → (node : ℕ) → (inner : List Pass) → List Step

@@ -8,6 +8,7 @@ ghost use Rattle.ftl_host_cursors.specs.HostPlaces.{AreHostTables, steps_in, tre
 use crate::nodes::{NodesLeft, node_order};
 use crate::place::{HostPlace, next_step};
 use crate::tables::HostTables;
+use ftl_cursors::ItemCursor;
 use ftl_cursors::visits::{NodeOrder, VisitCursor, visits_make_steps};
 use ftl_order::Step;
 use std::marker::Model;
@@ -18,7 +19,7 @@ use std::marker::Model;
 pub struct HostCursor<'a> {
     tables: HostTables<'a>,
     at: HostPlace<'a>,
-    steps: VisitCursor<'a>,
+    steps: ItemCursor<'a>,
 }
 
 impl<'a> Model for HostCursor<'a> {
@@ -51,13 +52,14 @@ impl<'a> HostCursor<'a> {
             own: false,
             passes: &[],
             visits: &[],
+            places: &[],
             nodes: NodesLeft {
                 order,
                 first,
                 count,
             },
         };
-        let steps = VisitCursor::new(
+        let none = VisitCursor::new(
             tables.tree,
             tables.visits,
             tables.targets,
@@ -65,6 +67,7 @@ impl<'a> HostCursor<'a> {
             0,
             0,
         );
+        let steps = ItemCursor::Visits(none);
         HostCursor { tables, at, steps }
     }
 

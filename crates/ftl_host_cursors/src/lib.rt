@@ -1,6 +1,6 @@
 //! The steps of the visits of nodes in a pass that nests a schedule in each node of a class, one
 //! after another. Goes in: a tree, a topdown or bottomup pass with the visits of its own list, the
-//! host class, the inner passes with the visits of each, and a range of nodes. Comes out:
+//! host class, the inner passes with the visits of each, in-order ones too, and a range of nodes. Comes out:
 //! `HostCursor`, which contracts see as the list of steps that are left;
 //! `specs/HostSteps.antt` has that list, and `specs/HostLaws.antt` says that it is what the visits
 //! and the items of passes with nests have.

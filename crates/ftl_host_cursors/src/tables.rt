@@ -1,11 +1,13 @@
 //! What cursors go by.
 
+use ftl_cursors::sequence::SequencePlaces;
 use ftl_schedule::Pass;
 use ftl_tree::Tree;
 use ftl_visit::{PassVisits, RuleTarget};
 
 /// What a cursor goes by: for whom each rule is, a pass with the visits of its own list, the host
-/// class, and the inner passes, stage by stage, with the visits of each.
+/// class, and the inner passes, stage by stage, with the visits of each and the places of blocks
+/// in them.
 #[derive(Clone, Copy)]
 pub struct HostTables<'a> {
     pub tree: &'a Tree<'a>,
@@ -15,4 +17,5 @@ pub struct HostTables<'a> {
     pub host: Option<u32>,
     pub inner: &'a [Pass],
     pub inner_visits: &'a [PassVisits],
+    pub inner_places: &'a [SequencePlaces],
 }

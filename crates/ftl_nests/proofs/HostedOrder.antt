@@ -11,13 +11,15 @@ use Rattle.ftl_order.specs.orders.Reads.{Reads}
 use Rattle.ftl_order.specs.orders.Schedule.{IsOnePass, bottomup, topdown}
 use Rattle.ftl_order.proofs.orders.Rows.{direct_precedes}
 use Rattle.ftl_items.proofs.stage_items.HandingLaws.{parent_found}
-use Rattle.ftl_nests.specs.Hosted.{HostedDirectlyFirst, HostedFirst, IsHost, MustPrecedeWithNests, PrecedesDirectlyWithNests}
+use Rattle.ftl_items.proofs.stage_items.Homes.{has_above}
+use Rattle.ftl_nests.specs.Hosted.{HostedDirectlyFirst, HostedFirst, IsHost, MustPrecedeWithNests, PrecedesDirectlyWithNests, nearest}
 use Rattle.ftl_nests.specs.NestLaws.{IsRegionSet}
 use Rattle.ftl_nests.specs.Nests.{IsNestOrdered, NestPlacing, NestingSchedule, nest_placing_of}
 use Rattle.ftl_nests.specs.Region.{InRegion, Leads}
-use Rattle.ftl_nests.proofs.RegionNodes.{below_host, one_host, region_attribute, region_kids}
+use Rattle.ftl_nests.proofs.InnerSteps.{visit_of}
+use Rattle.ftl_nests.proofs.RegionNodes.{below_host, nearest_is, one_host, region_attribute, region_kids}
 use Rattle.ftl_nests.proofs.Sides.{sides_kept}
-use Rattle.ftl_nests.proofs.Writers.{IsAtOrKid, hosted, nest_near, visit_kid}
+use Rattle.ftl_nests.proofs.Writers.{HasSides, IsAtOrKid, hosted, nest_near, visit_kid}
 
 -- ---- regions
 
@@ -66,6 +68,33 @@ module _ (g : AttributeGrammar) (t : Forest) (at : NestPlacing) (i j : Instance)
       ⊎_elim (λ stage. inl stage)
       (λ here. inr (here.0, hosted_first (at.host i.attribute) (at.host j.attribute) here.0 here.1)) direct
 
+module _ (g : AttributeGrammar) (t : Forest) (law : IsLawful g) (fits : IsTreeOf g t) (at : NestPlacing)
+    (sides : HasSides g t at) where
+  -- a step that stands in a nest has its host at or above
+  pub nearest_host : (i : Instance) (k : ℕ) → IsStep g t i → at.host i.attribute ≡ Some k
+      → IsHost t k (nearest t k (turn_of g i).visit) (turn_of g i).visit
+  nearest_host i k step e =
+      let h = hosted g law at t fits sides i k step e in
+      let near = nearest_is t k h.0 (turn_of g i).visit h.1.of_class h.1.holds in
+      record {
+        there = has_above t (nearest t k (turn_of g i).visit) (turn_of g i).visit (visit_of g t i step) near.1;
+        of_class = near.0;
+        holds = near.1;
+      }
+
+  -- one of a pass's own list runs below no node of the class that the pass's nest has as host
+  pub own_below_none : (i j : Instance) → IsStep g t i → IsOnePass (at.outer i.attribute) (at.outer j.attribute)
+      → at.host i.attribute ≡ None → (k : ℕ) → at.host j.attribute ≡ Some k → (h : Path) → class_at t h ≡ k
+      → Above h (turn_of g i).visit → ⊥
+  own_below_none i j step pass none k some h of above =
+      sides.own i.attribute j.attribute k pass none some
+      (region_attribute g t fits k law i.node i.attribute step.0.0 step.0.1
+      (below_host g t fits k h i.node step.0.0 of (node_below (visit_kid (g.sort i.attribute) i.node))))
+    where
+      node_below : IsAtOrKid i.node (turn_of g i).visit → Above h i.node
+      node_below (inl same) = subst (Above h) (sym same) above
+      node_below (inr kid) = subst (Above h) (sym kid.2) (inr above)
+
 module _ (g : AttributeGrammar) (s : NestingSchedule) (t : Forest) (law : IsLawful g) (ordered : IsNestOrdered g s)
     (fits : IsTreeOf g t) where
   abbrev at : NestPlacing
@@ -74,7 +103,7 @@ module _ (g : AttributeGrammar) (s : NestingSchedule) (t : Forest) (law : IsLawf
   pub one_host_of : (i : Instance) (k : ℕ) → IsStep g t i → at.host i.attribute ≡ Some k
       → (h : Path) × IsHost t k h (turn_of g i).visit × ((m : Path) → IsHost t k m (turn_of g i).visit → m ≡ h)
   one_host_of i k step e =
-      let sides = sides_kept g s ordered t law fits in
+      let sides = sides_kept g s ordered.once ordered.sides t law fits in
       let h = hosted g law at t fits sides i k step e in (
         h.0,
         h.1,
@@ -85,7 +114,7 @@ module _ (g : AttributeGrammar) (s : NestingSchedule) (t : Forest) (law : IsLawf
       → PrecedesDirectlyWithNests g t at j i
   writer_directly i j step reads written =
       ⊎_elim (λ given. absurd (written given)) (λ found. found.1)
-      (nest_near g law at t fits (sides_kept g s ordered t law fits) ordered.pairs i j step reads)
+      (nest_near g law at t fits (sides_kept g s ordered.once ordered.sides t law fits) ordered.pairs i j step reads)
 
   pub hosts_free : (i j : Instance) → IsOnePass (at.outer i.attribute) (at.outer j.attribute)
       → (k : ℕ) → at.host i.attribute ≡ Some k → at.host j.attribute ≡ Some k
@@ -98,7 +127,7 @@ module _ (g : AttributeGrammar) (s : NestingSchedule) (t : Forest) (law : IsLawf
       subst (λ x. HostedFirst t (Some k) x (at.outer j.attribute).kind at (turn_of g i) (turn_of g j)) ej
       (subst (λ x. HostedFirst t x (at.host j.attribute) (at.outer j.attribute).kind at (turn_of g i) (turn_of g j)) ei
       here.1) in
-      let closed = (sides_kept g s ordered t law fits).closed i.attribute k ei in
+      let closed = (sides_kept g s ordered.once ordered.sides t law fits).closed i.attribute k ei in
       two
       (one_host g t fits k closed h both.0 (turn_of g i).visit hi both.1
       ∙ sym (one_host g t fits k closed m both.0 (turn_of g j).visit hj both.2)))
@@ -121,7 +150,7 @@ module _ (g : AttributeGrammar) (s : NestingSchedule) (t : Forest) (law : IsLawf
       y = turn_of g j
 
       the_host : (m : Path) → IsHost t k m y.visit → m ≡ h
-      the_host m of = one_host g t fits k ((sides_kept g s ordered t law fits).closed j.attribute k some) m h y.visit of is
+      the_host m of = one_host g t fits k ((sides_kept g s ordered.once ordered.sides t law fits).closed j.attribute k some) m h y.visit of is
 
       own_first : MustPrecedeWithNests g t at i j → ((at.outer j.attribute).kind ≡ topdown) × AtOrAbove x.visit h
       own_first (inl stage) = let e = pass.0 in absurd (let z : ⊥ = omega (arith, stage, e) in z)
@@ -154,15 +183,3 @@ module _ (g : AttributeGrammar) (s : NestingSchedule) (t : Forest) (law : IsLawf
             subst (λ b. HostedFirst t (at.host j.attribute) b (at.outer i.attribute).kind at y x) (sym none)
                 (subst (λ b. HostedFirst t b None (at.outer i.attribute).kind at y x) (sym some) (kind, h, is, above)),
           )
-
-  pub own_below_none : (i j : Instance) → IsStep g t i → IsOnePass (at.outer i.attribute) (at.outer j.attribute)
-      → at.host i.attribute ≡ None → (k : ℕ) → at.host j.attribute ≡ Some k → (h : Path) → class_at t h ≡ k
-      → Above h (turn_of g i).visit → ⊥
-  own_below_none i j step pass none k some h of above =
-      (sides_kept g s ordered t law fits).own i.attribute j.attribute k pass none some
-      (region_attribute g t fits k law i.node i.attribute step.0.0 step.0.1
-      (below_host g t fits k h i.node step.0.0 of (node_below (visit_kid (g.sort i.attribute) i.node))))
-    where
-      node_below : IsAtOrKid i.node (turn_of g i).visit → Above h i.node
-      node_below (inl same) = subst (Above h) (sym same) above
-      node_below (inr kid) = subst (Above h) (sym kid.2) (inr above)

@@ -60,7 +60,7 @@ module _ (g : AttributeGrammar) (s : NestingSchedule) (t : Forest) (law : IsLawf
     stages = inner_stages (home_pass s j.attribute).nest
 
     home : home_pass s i.attribute ≡ home_pass s j.attribute
-    home = one_home g s ordered i.attribute j.attribute pass
+    home = one_home s i.attribute j.attribute pass
 
     place_i : at.inner i.attribute ≡ placing_of stages i.attribute
     place_i = ap (λ (p : NestingPass). placing_of (inner_stages p.nest) i.attribute) home
@@ -71,10 +71,10 @@ module _ (g : AttributeGrammar) (s : NestingSchedule) (t : Forest) (law : IsLawf
     listed_i : Contains (entries stages) i.attribute
     listed_i =
         subst (λ (p : NestingPass). Contains (entries (inner_stages p.nest)) i.attribute) home
-        (nest_lists (home_pass s i.attribute) i.attribute k host_i (home_lists g s ordered t law fits i step_i))
+        (nest_lists (home_pass s i.attribute) i.attribute k host_i (home_lists g s ordered.once t law fits i step_i))
 
     listed_j : Contains (entries stages) j.attribute
-    listed_j = nest_lists (home_pass s j.attribute) j.attribute k host_j (home_lists g s ordered t law fits j step_j)
+    listed_j = nest_lists (home_pass s j.attribute) j.attribute k host_j (home_lists g s ordered.once t law fits j step_j)
 
     inner_i : IsInner g law t fits stages few h (placing_of stages j.attribute).stage (placing_of stages j.attribute).pass i
     inner_i =

@@ -30,20 +30,20 @@ use Rattle.ftl_items.specs.stage_items.Visits.{visit}
 use Rattle.ftl_items.proofs.stage_items.Ahead.{Ahead, ahead_across, ahead_left, ahead_right, ahead_stands}
 use Rattle.ftl_items.proofs.stage_items.ByKey.{key_ahead_by}
 use Rattle.ftl_items.proofs.stage_items.HandingLaws.{both, kid_of}
-use Rattle.ftl_items.proofs.stage_items.Homes.{has_above}
 use Rattle.ftl_items.proofs.stage_items.Passes.{listed_at, many, many-append, stage_here}
 use Rattle.ftl_items.proofs.stage_items.VisitLaws.{in_visit, visit_has, visit_once}
 use Rattle.ftl_items.proofs.stage_items.CellKinds.{kind_given, kind_target, target_kind_of}
 use Rattle.ftl_items.specs.stage_items.FormLaws.{AreForms, IsOfPass, StandsDirectlyBefore, steps_at_node}
-use Rattle.ftl_nests.specs.Hosted.{HostedDirectlyFirst, IsHost}
+use Rattle.ftl_nests.specs.Hosted.{HostedDirectlyFirst, IsHost, nearest}
 use Rattle.ftl_nests.specs.NestItems.{hosted_visit, inner_steps, is_whole_with, nest_form, pass_count, visit_with}
 use Rattle.ftl_nests.specs.Nests.{IsNestOrdered, Nest, NestingPass, NestingSchedule, home_pass, host_in, host_of, inner_stages, nesting_pass, outer_schedule, nest_placing_of, whole_pass}
 use Rattle.ftl_items.proofs.stage_items.CutItems.{in_tops_by, item_here}
 use Rattle.ftl_nests.proofs.FlatLists.{place-append}
+use Rattle.ftl_nests.proofs.HostedOrder.{nearest_host}
 use Rattle.ftl_nests.proofs.InnerSteps.{inner_has, inner_near, inner_once, inner_only, placed, visit_of}
-use Rattle.ftl_nests.proofs.RegionNodes.{nearest, nearest_is, one_host}
+use Rattle.ftl_nests.proofs.RegionNodes.{one_host}
 use Rattle.ftl_nests.proofs.Sides.{home_lists, host_some, hosts, many_outer, nest_lists, outer_length, outer_pass_at, own_lists, sides_kept}
-use Rattle.ftl_nests.proofs.Writers.{HasSides, hosted, nest_near}
+use Rattle.ftl_nests.proofs.Writers.{HasSides, nest_near}
 
 -- ---- a host's own rules and its inner steps
 
@@ -138,7 +138,7 @@ module _ (g : AttributeGrammar) (s : NestingSchedule) (t : Forest) (law : IsLawf
   outer = outer_schedule s
 
   sides : HasSides g t (nest_placing_of s)
-  sides = sides_kept g s ordered t law fits
+  sides = sides_kept g s ordered.once ordered.sides t law fits
 
   abbrev pub kind_at : Instance → CellKind
   kind_at i = kind_of g outer stage i
@@ -159,32 +159,20 @@ module _ (g : AttributeGrammar) (s : NestingSchedule) (t : Forest) (law : IsLawf
 
   step_known : (m : ℕ) (i : Instance) → Of m i → m < count
   step_known m i of =
-      let l = (listed_at outer i.attribute (many_outer g s ordered t law fits i of.0)).known in
+      let l = (listed_at outer i.attribute (many_outer g s ordered.once t law fits i of.0)).known in
       let z : m < length (get_or outer stage []) =
       subst (λ n. m < length (get_or outer n [])) of.1.0
       (subst (λ n. n < length (get_or outer (placing_of outer i.attribute).stage [])) of.1.1 l) in
       let e = outer_length s stage in
       omega (arith, z, e)
 
-  -- a step has its host at or above
-  host_of_step : (i : Instance) (k : ℕ) → IsStep g t i → (nest_placing_of s).host i.attribute ≡ Some k
-      → IsHost t k (nearest t k (turn_of g i).visit) (turn_of g i).visit
-  host_of_step i k step e =
-      let h = hosted g law (nest_placing_of s) t fits sides i k step e in
-      let near = nearest_is t k h.0 (turn_of g i).visit h.1.of_class h.1.holds in
-      record {
-        there = has_above t (nearest t k (turn_of g i).visit) (turn_of g i).visit (visit_of g t i step) near.1;
-        of_class = near.0;
-        holds = near.1;
-      }
-
-  -- and no other
+  -- a step's host is the nearest node of its class
   host_is : (i : Instance) (k : ℕ) (h : Path) → IsStep g t i → (nest_placing_of s).host i.attribute ≡ Some k
       → IsHost t k h (turn_of g i).visit → place i ≡ h
   host_is i k h step e is =
       ap (λ o. place_by t o (turn_of g i).visit) e
       ∙ one_host g t fits k (sides.closed i.attribute k e) (nearest t k (turn_of g i).visit) h (turn_of g i).visit
-      (host_of_step i k step e) is
+      (nearest_host g t law fits (nest_placing_of s) sides i k step e) is
 
   own_place : (i : Instance) → (nest_placing_of s).host i.attribute ≡ None → place i ≡ (turn_of g i).visit
   own_place i e = ap (λ o. place_by t o (turn_of g i).visit) e
@@ -194,7 +182,7 @@ module _ (g : AttributeGrammar) (s : NestingSchedule) (t : Forest) (law : IsLawf
     where
       go : (o : Option ℕ) → (nest_placing_of s).host i.attribute ≡ o → Has t (place_by t o (turn_of g i).visit)
       go None e = visit_of g t i step
-      go (Some k) e = (host_of_step i k step e).there
+      go (Some k) e = (nearest_host g t law fits (nest_placing_of s) sides i k step e).there
 
   -- ---- one pass
 
@@ -213,12 +201,12 @@ module _ (g : AttributeGrammar) (s : NestingSchedule) (t : Forest) (law : IsLawf
 
     lists_here : (i : Instance) → Of m i → Contains (whole_pass pass).attributes i.attribute
     lists_here i of =
-        subst (λ p. Contains (whole_pass p).attributes i.attribute) (home_is i of) (home_lists g s ordered t law fits i of.0)
+        subst (λ p. Contains (whole_pass p).attributes i.attribute) (home_is i of) (home_lists g s ordered.once t law fits i of.0)
 
     -- a step that the pass lists is of it
     of_whole : (i : Instance) → IsStep g t i → Contains (whole_pass pass).attributes i.attribute → Of m i
     of_whole i step c =
-        let e = many_outer g s ordered t law fits i step in
+        let e = many_outer g s ordered.once t law fits i step in
         let here =
         stage_here outer stage m i.attribute (omega (arith, e))
         (subst (λ (p : Pass). Contains p.attributes i.attribute) (sym (outer_pass_at s stage m)) c) in
@@ -373,7 +361,7 @@ module _ (g : AttributeGrammar) (s : NestingSchedule) (t : Forest) (law : IsLawf
               (nest_lists pass i.attribute k e (lists_here i of));
           place_host =
               subst (λ q. IsHost t k q (turn_of g i).visit) (sym (ap (λ o. place_by t o (turn_of g i).visit) f))
-              (host_of_step i k of.0 f);
+              (nearest_host g t law fits (nest_placing_of s) sides i k of.0 f);
         }
 
     abbrev visit_here : Path → List Instance

@@ -12,7 +12,7 @@ use Rattle.ftl_model.proofs.layout.Standing.{has_parent}
 use Rattle.ftl_order.specs.orders.Lawful.{IsLawful, OfClass, class_owner, interface_owner}
 use Rattle.ftl_order.proofs.orders.Kids.{class_known, root_interface}
 use Rattle.ftl_order.proofs.orders.Owners.{one_owner}
-use Rattle.ftl_nests.specs.Hosted.{IsHost}
+use Rattle.ftl_nests.specs.Hosted.{IsHost, nearest}
 use Rattle.ftl_nests.specs.Region.{HasChildOf, InRegion, IsClosed, IsOwner, OfRegion}
 
 -- two nodes that are both at or above one are one, or one is above the other
@@ -135,12 +135,7 @@ module _ (g : AttributeGrammar) (t : Forest) (fits : IsTreeOf g t) (host : ℕ) 
     region_attribute p a there of r =
         (g.interface (class_at t p), r, owner_of g law (class_at t p) a (class_known g t fits p there) of)
 
--- the nearest node of a class at or above a node
-abbrev pub nearest : Forest → (class : ℕ) → Path → Path
-nearest t class top = top
-nearest t class (down c k p) = if class_at t (down c k p) == class then down c k p else nearest t class p
-
--- it is of the class, where some node at or above is
+-- the nearest node of a class at or above a node is of the class, where some node there is
 pub nearest_is : (t : Forest) (class : ℕ) (h p : Path) → class_at t h ≡ class → AtOrAbove h p
     → (class_at t (nearest t class p) ≡ class) × AtOrAbove (nearest t class p) p
 nearest_is t class h top is (inl e) = (subst (λ q. class_at t q ≡ class) e is, inl refl)

@@ -1,4 +1,4 @@
--- In an ordered schedule with nests, each attribute stands on its side of each nest.
+-- In a schedule that keeps the sides of its nests, each attribute stands on its side of each.
 use Rattle.std.proofs.Common.{◌≡◌, ℕ, zero, suc, Bool, true, false, if◌then◌else◌, refl, sym, ◌∙◌, ap, ap₂, subst, ⊎_elim, arith, List, [], ◌∷◌, get_or, length, Option, None, Some, Contains}
 use Rattle.std.proofs.lemmas.List.Elements.{Contains-append_cases}
 use Rattle.ftl_model.specs.lists.Lists.{is_listed}
@@ -9,10 +9,10 @@ use Rattle.ftl_model.specs.layout.Tree.{Forest}
 use Rattle.ftl_model.specs.layout.TreeOf.{IsTreeOf}
 use Rattle.ftl_order.specs.orders.Lawful.{IsLawful}
 use Rattle.ftl_order.specs.orders.LegalOrder.{IsStep}
-use Rattle.ftl_order.specs.orders.Schedule.{IsOnePass, Pass, empty_pass, entries, pass_at, pass_in_stage, placing_of, stage_of}
+use Rattle.ftl_order.specs.orders.Schedule.{EachStandsOnce, IsOnePass, Pass, empty_pass, entries, pass_at, pass_in_stage, placing_of, stage_of}
 use Rattle.ftl_items.proofs.stage_items.Passes.{listed_at, many}
 use Rattle.ftl_items.proofs.stage_items.VisitLaws.{attribute_of_step}
-use Rattle.ftl_nests.specs.Nests.{IsNestOrdered, KeepsSides, Nest, NestingPass, NestingSchedule, home_pass, host_in, host_of, inner_stages, nesting_pass, no_pass, outer_schedule, nest_placing_of, whole_pass, whole_stage}
+use Rattle.ftl_nests.specs.Nests.{AreSidesKept, KeepsSides, Nest, NestingPass, NestingSchedule, home_pass, host_in, host_of, inner_stages, nesting_pass, no_pass, outer_schedule, nest_placing_of, whole_pass, whole_stage}
 use Rattle.ftl_nests.specs.Region.{IsClosed, OfRegion}
 use Rattle.ftl_nests.proofs.Writers.{HasSides}
 
@@ -84,26 +84,29 @@ own_lists pass a e c = go (is_listed pass.attributes a) refl e
         ⊎_elim (λ own. own) (λ inner. absurd (nothing_nested pass.nest a e inner))
         (Contains-append_cases pass.attributes (entries (inner_stages pass.nest)) a c)
 
-module _ (g : AttributeGrammar) (s : NestingSchedule) (ordered : IsNestOrdered g s) where
+module _ (s : NestingSchedule) where
   pub one_home : (a b : ℕ) → IsOnePass (placing_of (outer_schedule s) a) (placing_of (outer_schedule s) b)
       → home_pass s a ≡ home_pass s b
   one_home a b one = ap₂ (λ m n. nesting_pass s m n) one.0 one.1
 
+module _ (g : AttributeGrammar) (s : NestingSchedule) (once : EachStandsOnce g (outer_schedule s)) (t : Forest)
+    (law : IsLawful g) (fits : IsTreeOf g t) where
+  pub many_outer : (i : Instance) → IsStep g t i → many i.attribute (entries (outer_schedule s)) ≡ 1
+  many_outer i step = once i.attribute (attribute_of_step g law t fits i step) step.1
+
+  -- the pass of a step lists it, its own list or its nest's
+  pub home_lists : (i : Instance) → IsStep g t i → Contains (whole_pass (home_pass s i.attribute)).attributes i.attribute
+  home_lists i step =
+      subst (λ (p : Pass). Contains p.attributes i.attribute)
+      (outer_pass_at s (stage_of (outer_schedule s) i.attribute) (pass_in_stage (outer_schedule s) i.attribute))
+      (listed_at (outer_schedule s) i.attribute (many_outer i step)).there
+
+module _ (g : AttributeGrammar) (s : NestingSchedule) (once : EachStandsOnce g (outer_schedule s))
+    (keeps : AreSidesKept g s) where
   kept : (a k : ℕ) (nest : Hosts (home_pass s a).nest k) → KeepsSides g (home_pass s a).attributes nest.it
-  kept a k nest =
-      ordered.sides (stage_of (outer_schedule s) a) (pass_in_stage (outer_schedule s) a) nest.it nest.is
+  kept a k nest = keeps (stage_of (outer_schedule s) a) (pass_in_stage (outer_schedule s) a) nest.it nest.is
 
   module _ (t : Forest) (law : IsLawful g) (fits : IsTreeOf g t) where
-    pub many_outer : (i : Instance) → IsStep g t i → many i.attribute (entries (outer_schedule s)) ≡ 1
-    many_outer i step = ordered.once i.attribute (attribute_of_step g law t fits i step) step.1
-
-    -- the pass of a step lists it, its own list or its nest's
-    pub home_lists : (i : Instance) → IsStep g t i → Contains (whole_pass (home_pass s i.attribute)).attributes i.attribute
-    home_lists i step =
-        subst (λ (p : Pass). Contains p.attributes i.attribute)
-        (outer_pass_at s (stage_of (outer_schedule s) i.attribute) (pass_in_stage (outer_schedule s) i.attribute))
-        (listed_at (outer_schedule s) i.attribute (many_outer i step)).there
-
     pub sides_kept : HasSides g t (nest_placing_of s)
     sides_kept =
         record {
@@ -116,17 +119,17 @@ module _ (g : AttributeGrammar) (s : NestingSchedule) (ordered : IsNestOrdered g
               subst (λ h. OfRegion g h a) nest.host
               ((kept a k nest).inner a
               (subst (λ n. Contains (entries (inner_stages n)) a) nest.is
-              (nest_lists (home_pass s a) a k e (home_lists i step))));
+              (nest_lists (home_pass s a) a k e (home_lists g s once t law fits i step))));
           own = λ a b k one none some region.
               let f : host_of (home_pass s a).nest ≡ Some k =
-              ap (λ (p : NestingPass). host_of p.nest) (one_home a b one) ∙ (host_some (home_pass s b) b k some).0 in
+              ap (λ (p : NestingPass). host_of p.nest) (one_home s a b one) ∙ (host_some (home_pass s b) b k some).0 in
               let nest = hosts (home_pass s a).nest k f in
               (kept a k nest).own a (own_listed (home_pass s a) a k none f)
               (subst (λ h. OfRegion g h a) (sym nest.host) region);
           one_nest = λ a b h k one eh ek.
               some_is h k
               (sym (host_some (home_pass s a) a h eh).0
-              ∙ ap (λ (p : NestingPass). host_of p.nest) (one_home a b one)
+              ∙ ap (λ (p : NestingPass). host_of p.nest) (one_home s a b one)
               ∙ (host_some (home_pass s b) b k ek).0);
         }
       where

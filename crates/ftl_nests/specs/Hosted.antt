@@ -1,7 +1,7 @@
 -- Which step must precede which, where passes have nests, and which directly.
-use Rattle.std.specs.Prelude.{◌≡◌, ◌⊎◌, ℕ, ◌<◌, Option, None, Some}
+use Rattle.std.specs.Prelude.{◌≡◌, ◌⊎◌, ℕ, ◌<◌, ◌==◌, if◌then◌else◌, Option, None, Some}
 use Rattle.ftl_model.specs.layout.AttributeGrammar.{AttributeGrammar}
-use Rattle.ftl_model.specs.layout.Path.{AtOrAbove, Has, Path, class_at, parent_of}
+use Rattle.ftl_model.specs.layout.Path.{AtOrAbove, Has, Path, class_at, down, parent_of, top}
 use Rattle.ftl_model.specs.layout.Solves.{Instance}
 use Rattle.ftl_model.specs.layout.Tree.{Forest}
 use Rattle.ftl_order.specs.orders.LegalOrder.{DirectlyFirstInPass, FirstInPass, Turn, TurnPrecedes}
@@ -14,6 +14,11 @@ pub record IsHost (t : Forest) (class : ℕ) (host node : Path) : Type 0 where
   pub there : Has t host
   pub of_class : class_at t host ≡ class
   pub holds : AtOrAbove host node
+
+-- the nearest node of a class at or above a node; the root where there is none
+abbrev pub nearest : Forest → (class : ℕ) → Path → Path
+nearest t class top = top
+nearest t class (down c k p) = if class_at t (down c k p) == class then down c k p else nearest t class p
 
 -- Of one outer pass, by the nests that the steps are hosted in. Neither: as without nests. Both: at one host, and in
 -- the inner stages as without nests. Only the second: in a topdown pass, and the first runs at its host or above. Only

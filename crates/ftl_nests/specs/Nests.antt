@@ -103,10 +103,13 @@ pub record KeepsSides (g : AttributeGrammar) (attributes : List ℕ) (nest : Nes
   pub own : (a : ℕ) → Contains attributes a → OfRegion g nest.host a → ⊥
   pub inner : (a : ℕ) → Contains (entries nest.stages) a → OfRegion g nest.host a
 
+-- each nest keeps its sides
+abbrev pub AreSidesKept : AttributeGrammar → NestingSchedule → Type 0
+AreSidesKept g s =
+    (m n : ℕ) (nest : Nest) → (nesting_pass s m n).nest ≡ Some nest → KeepsSides g (nesting_pass s m n).attributes nest
+
 -- a schedule with nests that is accepted
 pub record IsNestOrdered (g : AttributeGrammar) (s : NestingSchedule) : Type 0 where
   pub once : EachStandsOnce g (outer_schedule s)
-  pub sides :
-      (m n : ℕ) (nest : Nest) → (nesting_pass s m n).nest ≡ Some nest
-      → KeepsSides g (nesting_pass s m n).attributes nest
+  pub sides : AreSidesKept g s
   pub pairs : EachPairNestOrdered g (nest_placing_of s)

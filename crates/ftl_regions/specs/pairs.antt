@@ -1,3 +1,2 @@
 pub mod NestReads
-pub mod Places
 pub mod Worked

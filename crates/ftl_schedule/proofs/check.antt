@@ -1,7 +1,7 @@
-mod FaultsAlong
-mod AttributeKinds
-mod OneWriter
+pub mod FaultsAlong
+pub mod AttributeKinds
+pub mod OneWriter
 pub mod FirstWriters
 pub mod RuleCount
-mod AcceptedLaws
+pub mod AcceptedLaws
 pub mod NeverMemory

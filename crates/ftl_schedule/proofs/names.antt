@@ -1,2 +1,2 @@
-mod EachInTurn
+pub mod EachInTurn
 pub mod NamedParts

@@ -1,4 +1,4 @@
-mod EntryLists
-mod Lookup
-mod PlacingOf
-mod Filling
+pub mod EntryLists
+pub mod Lookup
+pub mod PlacingOf
+pub mod Filling

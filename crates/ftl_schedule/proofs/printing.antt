@@ -1,8 +1,8 @@
-mod Joined
+pub mod Joined
 pub mod Known
-mod NamedAgain
-mod NamedBack
-mod ReadAgain
-mod SaidNames
-mod SpelledNames
-mod Writable
+pub mod NamedAgain
+pub mod NamedBack
+pub mod ReadAgain
+pub mod SaidNames
+pub mod SpelledNames
+pub mod Writable

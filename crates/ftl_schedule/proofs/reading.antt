@@ -1,4 +1,4 @@
-mod Counted
+pub mod Counted
 pub mod ReadFrom
 pub mod ReadComputed
 pub mod ReadLimits

@@ -1,3 +1,3 @@
-mod Dots
-mod Fronts
-mod SpelledSchedule
+pub mod Dots
+pub mod Fronts
+pub mod SpelledSchedule

@@ -19,6 +19,10 @@ schedule_line (read.TooManyBeside stage count) =
     codes "refused schedule: too many passes in stage " ++ (decimal stage ++ (codes ": " ++ decimal count))
 schedule_line (read.UnknownAttribute owner attr) =
     codes "refused schedule: unknown attribute " ++ dotted owner attr
+schedule_line (read.UnknownHost name) = codes "refused schedule: unknown class " ++ name
+schedule_line (read.OpenNest host) = codes "refused schedule: nest " ++ (host ++ codes " is not closed")
+schedule_line (read.NestAttribute owner attr) =
+    codes "refused schedule: " ++ (dotted owner attr ++ codes " on the wrong side of a nest")
 schedule_line read.OutOfMemory = []
 
 -- the first fault of a schedule of a grammar

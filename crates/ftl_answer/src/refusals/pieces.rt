@@ -20,6 +20,14 @@ pub(crate) fn number(out: &mut Vec<u8>, number: u32) -> Result<(), AllocError>
     out.extend_from_slice(Buffer::new().format(number).as_bytes())
 }
 
+/// Adds a text and a name.
+pub(crate) fn named(out: &mut Vec<u8>, before: &str, name: &str) -> Result<(), AllocError>
+    ensures added { OnOk result (out.new.items ≡ out.old.items ++ (before.now ++ name.now)) }
+{
+    text(out, before)?;
+    text(out, name)
+}
+
 /// Adds a text and a number.
 pub(crate) fn numbered(out: &mut Vec<u8>, before: &str, count: u32) -> Result<(), AllocError>
     ensures added { OnOk result (out.new.items ≡ out.old.items ++ (before.now ++ decimal count)) }

@@ -2,11 +2,11 @@
 
 ghost use Rattle.std.specs.Prelude.{◌≡◌, ◌++◌, OnOk, codes};
 ghost use Rattle.std.specs.Fmt.{decimal};
-ghost use Rattle.ftl_answer.specs.refusals.Names.{attribute_text, rule_text_at};
+ghost use Rattle.ftl_answer.specs.refusals.Names.{attribute_text, dotted, rule_text_at};
 ghost use Rattle.ftl_answer.specs.refusals.ScheduleLines.{schedule_line, stuck_line, verify_line};
 
 use crate::refusals::names::{around_attribute, dotted_after, two_rules_at, with_attributes};
-use crate::refusals::pieces::{numbered, two_numbers};
+use crate::refusals::pieces::{around, named, numbered, text, two_numbers};
 use crate::refusals::text::at_byte;
 use ftl_checked::Checked;
 use ftl_order::VerifyFault;
@@ -32,8 +32,29 @@ pub fn write_schedule_fault(out: &mut Vec<u8>, fault: &ScheduleFault) -> Result<
                 attr.text(),
             )
         }
+        ScheduleFault::UnknownHost { name } => {
+            named(out, "refused schedule: unknown class ", name.text())
+        }
+        ScheduleFault::OpenNest { host } => {
+            around(
+                out,
+                "refused schedule: nest ",
+                host.text(),
+                " is not closed",
+            )
+        }
+        ScheduleFault::NestAttribute { owner, attr } => wrong_side(out, owner.text(), attr.text()),
         ScheduleFault::OutOfMemory => Ok(()),
     }
+}
+
+fn wrong_side(out: &mut Vec<u8>, owner: &str, attr: &str) -> Result<(), AllocError>
+    ensures line { OnOk result (out.new.items ≡ out.old.items
+        ++ (codes "refused schedule: " ++ (dotted owner.now attr.now
+        ++ codes " on the wrong side of a nest"))) }
+{
+    dotted_after(out, "refused schedule: ", owner, attr)?;
+    text(out, " on the wrong side of a nest")
 }
 
 fn too_many_beside(out: &mut Vec<u8>, stage: u32, count: u32) -> Result<(), AllocError>

@@ -79,4 +79,10 @@ pub fn lines_of_texts()
         ≡ codes "refused schedule: too many passes in stage 3: 5" }
     ensures attribute { schedule_line (schedule.UnknownAttribute (codes "Page") (codes "z"))
         ≡ codes "refused schedule: unknown attribute Page.z" }
+    ensures host { schedule_line (schedule.UnknownHost (codes "Pillar"))
+        ≡ codes "refused schedule: unknown class Pillar" }
+    ensures open_nest { schedule_line (schedule.OpenNest (codes "Column"))
+        ≡ codes "refused schedule: nest Column is not closed" }
+    ensures side { schedule_line (schedule.NestAttribute (codes "Slot") (codes "pw"))
+        ≡ codes "refused schedule: Slot.pw on the wrong side of a nest" }
 {}

@@ -185,14 +185,16 @@ module _ (g : AttributeGrammar) (law : IsLawful g) where
         (steps_are_below r p (one_more d seen) (passed + suc (size b)) there (left_next t p seen passed k d i b r left)
         fit.4))))
 
-    pub steps_of_tree : (x : Step) → Contains (inorder_steps g t attributes top) x → IsStepOf g t x
-    steps_of_tree =
-        let there = root_there g t fits in
-        let class = class_at t top in
-        let before = steps_of_ops (number_of t top) 0 (locals g class attributes) in
-        let inner = steps_below g t attributes top (λ c. 0) (below_of t) in
-        let after = steps_of_ops (number_of t top) 0 (synthesized_rules g class attributes) in
-        both (IsStepOf g t) before (inner ++ after) (own_locals top there class refl)
+    pub steps_at : (p : Path) → Has t p → (x : Step) → Contains (inorder_steps g t attributes p) x → IsStepOf g t x
+    steps_at p there =
+        let class = class_at t p in
+        let before = steps_of_ops (number_of t p) 0 (locals g class attributes) in
+        let inner = steps_below g t attributes p (λ c. 0) (below_of (tree_at t p)) in
+        let after = steps_of_ops (number_of t p) 0 (synthesized_rules g class attributes) in
+        both (IsStepOf g t) before (inner ++ after) (own_locals p there class refl)
         (both (IsStepOf g t) inner after
-        (steps_are_below (below_of t) top (λ c. 0) 0 there (left_all t top) (fits_at g t top fits there).below)
-        (own_synthesized top there class refl))
+        (steps_are_below (below_of (tree_at t p)) p (λ c. 0) 0 there (left_all t p) (fits_at g t p fits there).below)
+        (own_synthesized p there class refl))
+
+    pub steps_of_tree : (x : Step) → Contains (inorder_steps g t attributes top) x → IsStepOf g t x
+    steps_of_tree = steps_at top (root_there g t fits)

@@ -10,7 +10,7 @@ use Rattle.ftl_model.proofs.layout.Fits.{fits_at}
 use Rattle.ftl_model.proofs.layout.Numbering.{Left, at-left, left_all, left_below, left_next}
 use Rattle.ftl_model.proofs.layout.Standing.{node_at-number_of}
 use Rattle.ftl_order.specs.orders.Lawful.{IsLawful}
-use Rattle.ftl_order.specs.orders.Schedule.{EachStandsOnce, Placing, Schedule, SchedulePlace, pass_at, placing_of}
+use Rattle.ftl_order.specs.orders.Schedule.{Placing, Schedule, SchedulePlace, pass_at, placing_of}
 use Rattle.ftl_order.specs.orders.Sequence.{sequence, sequence_at, sequence_below, steps_at}
 use Rattle.ftl_order.proofs.orders.Kids.{kid_counted, root_there}
 use Rattle.ftl_items.specs.stage_items.Items.{pass_place}
@@ -21,6 +21,7 @@ use Rattle.ftl_visit.specs.declared.visits.visit_op.VisitOp.{VisitOp}
 use Rattle.ftl_visit.specs.declared.visits.visit_op.VisitOp.TheVariants.{Begin, Rule, Visit}
 use Rattle.ftl_cursors.specs.inorder.InorderSteps.{inorder_steps, steps_below, steps_of_ops}
 use Rattle.ftl_cursors.specs.inorder.InorderVisits.{targets}
+use Rattle.ftl_cursors.proofs.inorder.KeyedLists.{OwnsPass}
 use Rattle.ftl_cursors.proofs.inorder.SequenceVisits.{inherited_targets, local_targets, synthesized_targets}
 
 -- the instances of operations at a node
@@ -33,8 +34,8 @@ targets_are g t p there k (Rule r ∷ ops) =
 targets_are g t p there k (Begin c ∷ ops) = targets_are g t p there k ops
 targets_are g t p there k (Visit c ∷ ops) = targets_are g t p there k ops
 
-module _ (g : AttributeGrammar) (law : IsLawful g) (s : Schedule) (ordered : EachStandsOnce g s) (t : Forest)
-    (fits : IsTreeOf g t) (stage pass : ℕ) where
+module _ (g : AttributeGrammar) (law : IsLawful g) (s : Schedule) (stage pass : ℕ) (owns : OwnsPass g s stage pass)
+    (t : Forest) (fits : IsTreeOf g t) where
   abbrev attributes : List ℕ
   attributes = (pass_at s stage pass).attributes
 
@@ -53,7 +54,7 @@ module _ (g : AttributeGrammar) (law : IsLawful g) (s : Schedule) (ordered : Eac
       subst
       (λ k. instances_of (steps_of_ops (number_of t p) 0 (locals g k attributes)) ≡ steps_at g place here local k p) is
       (targets_are g t p there 0 (locals g (class_at t p) attributes)
-      ∙ local_targets g law s ordered t fits stage pass p there)
+      ∙ local_targets g law s stage pass owns t fits p there)
 
   synthesized_at : (p : Path) → Has t p → (class : ℕ) → class_at t p ≡ class
       → instances_of (steps_of_ops (number_of t p) 0 (synthesized_rules g class attributes))
@@ -64,7 +65,7 @@ module _ (g : AttributeGrammar) (law : IsLawful g) (s : Schedule) (ordered : Eac
       ≡ steps_at g place here synthesized k p)
       is
       (targets_are g t p there 0 (synthesized_rules g (class_at t p) attributes)
-      ∙ synthesized_targets g law s ordered t fits stage pass p there)
+      ∙ synthesized_targets g law s stage pass owns t fits p there)
 
   inherited_at : (p : Path) → Has t p → (c k : ℕ) → c < g.child_count (class_at t p) → Has t (down c k p)
       → (class : ℕ) → class_at t (down c k p) ≡ class
@@ -72,7 +73,7 @@ module _ (g : AttributeGrammar) (law : IsLawful g) (s : Schedule) (ordered : Eac
       ≡ steps_at g place here inherited class (down c k p)
   inherited_at p there c k declared kid class is =
       targets_are g t p there k (inherited_rules g (class_at t p) c attributes)
-      ∙ inherited_targets g law s ordered t fits stage pass p there c k declared
+      ∙ inherited_targets g law s stage pass owns t fits p there c k declared
       (kid_counted c k (below_of (tree_at t p)) kid)
       ∙ ap (λ n. steps_at g place here inherited n (down c k p)) is
 

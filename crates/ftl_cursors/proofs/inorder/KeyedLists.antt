@@ -4,7 +4,7 @@ use Rattle.std.proofs.lemmas.Bool.{and_parts}
 use Rattle.std.proofs.lemmas.List.Elements.{Contains-append_cases}
 use Rattle.ftl_model.specs.lists.Lists.{is_listed, place_in}
 use Rattle.ftl_model.proofs.lists.Elements.{distinct-filter, filter_has, here_in, in_cases, in_filter, later_in, nothing_in}
-use Rattle.ftl_model.proofs.lists.Listed.{is_there, listed}
+use Rattle.ftl_model.proofs.lists.Listed.{counted_in, is_there, listed}
 use Rattle.ftl_model.proofs.lists.Places.{place_is}
 use Rattle.ftl_model.proofs.lists.Rising.{Rising, rising_more, strictly}
 use Rattle.ftl_model.proofs.lists.Sorted.{distinct-sorted, none_falls-sorted}
@@ -121,7 +121,20 @@ module _ (q : ℕ → Bool) where
         | false ↦ rest
       ]
 
-module _ (g : AttributeGrammar) (law : IsLawful g) (s : Schedule) (ordered : EachStandsOnce g s) (m n : ℕ) where
+-- each computed attribute stands at most once in the lists, and each that is placed in this pass is listed
+pub record OwnsPass (g : AttributeGrammar) (s : Schedule) (m n : ℕ) : Type 0 where
+  pub few : (a : ℕ) → a < g.attribute_count → g.sort a ≢ input → many a (entries s) ≤ 1
+  pub listed : (a : ℕ) → a < g.attribute_count → g.sort a ≢ input → IsOnePass (placing_of s a) (pass_place m n)
+      → Contains (entries s) a
+
+-- so it is where each stands once
+pub once_owns : (g : AttributeGrammar) (s : Schedule) → EachStandsOnce g s → (m n : ℕ) → OwnsPass g s m n
+once_owns g s ordered m n = record {
+  few = λ a known computed. (let e = ordered a known computed in let z : many a (entries s) ≤ 1 = omega (arith, e) in z);
+  listed = λ a known computed one. counted_in (entries s) a (let e = ordered a known computed in omega (arith, e));
+}
+
+module _ (g : AttributeGrammar) (law : IsLawful g) (s : Schedule) (m n : ℕ) (owns : OwnsPass g s m n) where
   abbrev attributes : List ℕ
   attributes = (pass_at s m n).attributes
 
@@ -132,13 +145,21 @@ module _ (g : AttributeGrammar) (law : IsLawful g) (s : Schedule) (ordered : Eac
   here = pass_place m n
 
   module _ (sort : Sort) (computed : sort ≢ input) (class : ℕ) (known : class < g.class_count) where
-    once : (a : ℕ) → g.sort a ≡ sort → OfClass g class a → many a (entries s) ≡ 1
-    once a is of = ordered a (of_class_known g law class known a of) (λ e. computed (sym is ∙ e))
+    few_of : (a : ℕ) → g.sort a ≡ sort → OfClass g class a → many a (entries s) ≤ 1
+    few_of a is of = owns.few a (of_class_known g law class known a of) (λ e. computed (sym is ∙ e))
+
+    once : (a : ℕ) → g.sort a ≡ sort → OfClass g class a → IsOnePass (place a) here → many a (entries s) ≡ 1
+    once a is of one =
+        let most = few_of a is of in
+        let some =
+        in_counted (entries s) a (owns.listed a (of_class_known g law class known a of) (λ e. computed (sym is ∙ e)) one)
+        in
+        omega (arith, most, some)
 
     -- one of the list stands in this pass, at its place there
     in_pass : (a : ℕ) → g.sort a ≡ sort → OfClass g class a → Contains attributes a → IsOnePass (place a) here
     in_pass a is of there =
-        let found = stage_here s m n a (let e = once a is of in omega (arith, e)) there in
+        let found = stage_here s m n a (few_of a is of) there in
         (found.stage, found.pass)
 
     index_is : (a : ℕ) → IsOnePass (place a) here → (place a).index ≡ place_in attributes a
@@ -148,7 +169,7 @@ module _ (g : AttributeGrammar) (law : IsLawful g) (s : Schedule) (ordered : Eac
     in_list : (a : ℕ) → g.sort a ≡ sort → OfClass g class a → IsOnePass (place a) here → Contains attributes a
     in_list a is of one =
         subst (λ i. Contains (pass_at s i n).attributes a) one.0
-        (subst (λ j. Contains (pass_at s (stage_of s a) j).attributes a) one.1 (listed_at s a (once a is of)).there)
+        (subst (λ j. Contains (pass_at s (stage_of s a) j).attributes a) one.1 (listed_at s a (once a is of one)).there)
 
     abbrev kept : ℕ → Bool
     kept a = is_kept g sort (attributes_of g class) a
@@ -188,7 +209,7 @@ module _ (g : AttributeGrammar) (law : IsLawful g) (s : Schedule) (ordered : Eac
         (rising_places kept attributes
         (λ a there e.
         let p = kept_parts a e in
-        (stage_here s m n a (let f = once a p.0 p.1 in omega (arith, f)) there).few)))
+        (stage_here s m n a (few_of a p.0 p.1) there).few)))
         (λ a there.
         let k = is_keyed g place here sort class a there in
         filter_has kept attributes a (in_list a k.sort_is k.of k.pass)

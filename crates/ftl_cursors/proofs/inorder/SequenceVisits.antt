@@ -12,7 +12,7 @@ use Rattle.ftl_model.specs.layout.Tree.{Forest, below_of}
 use Rattle.ftl_model.specs.layout.TreeOf.{IsTreeOf}
 use Rattle.ftl_model.proofs.layout.Fits.{kid_stands}
 use Rattle.ftl_order.specs.orders.Lawful.{IsLawful}
-use Rattle.ftl_order.specs.orders.Schedule.{EachStandsOnce, Placing, Schedule, SchedulePlace, pass_at, placing_of}
+use Rattle.ftl_order.specs.orders.Schedule.{Placing, Schedule, SchedulePlace, pass_at, placing_of}
 use Rattle.ftl_order.specs.orders.Sequence.{is_same_sort, sequence_at, steps_at}
 use Rattle.ftl_order.proofs.orders.Kids.{class_known, kid_exists}
 use Rattle.ftl_items.specs.stage_items.Items.{pass_place}
@@ -21,7 +21,7 @@ use Rattle.ftl_visit.specs.visits.Visits.{children, inherited_rules, locals, syn
 use Rattle.ftl_cursors.specs.inorder.InorderVisits.{block_at, done_at, targets}
 use Rattle.ftl_cursors.specs.inorder.KidSequences.{child_sequence, children_sequence, kid_sequence}
 use Rattle.ftl_cursors.proofs.inorder.ListedRules.{is_kept}
-use Rattle.ftl_cursors.proofs.inorder.KeyedLists.{keyed_is, one_test}
+use Rattle.ftl_cursors.proofs.inorder.KeyedLists.{OwnsPass, keyed_is, one_test}
 use Rattle.ftl_cursors.proofs.inorder.RunRules.{runs_inherited, runs_locals, runs_synthesized}
 use Rattle.ftl_cursors.proofs.inorder.Pieces.{same_pieces}
 use Rattle.ftl_cursors.proofs.inorder.SequenceKids.{goes_kid_by_kid}
@@ -59,7 +59,7 @@ module _ (g : AttributeGrammar) (law : IsLawful g) where
       by local e = refl
       by inherited e = interface_has class known a e ∙ ap (λ j. is_listed (g.shared j) a) is
 
-  module _ (s : Schedule) (ordered : EachStandsOnce g s) (t : Forest) (fits : IsTreeOf g t) (stage pass : ℕ) where
+  module _ (s : Schedule) (stage pass : ℕ) (owns : OwnsPass g s stage pass) (t : Forest) (fits : IsTreeOf g t) where
     abbrev attributes : List ℕ
     attributes = (pass_at s stage pass).attributes
 
@@ -81,7 +81,7 @@ module _ (g : AttributeGrammar) (law : IsLawful g) where
           ap (map (λ w. target_of_rule p w 0)) (runs_locals g law class known attributes)
           ∙ map-map (λ w. target_of_rule p w 0) (for_self class)
           (filter (is_kept g local (attributes_of g class)) attributes)
-          ∙ ap (map (instance_of p)) (sym (keyed_is g law s ordered stage pass local (λ e. cc) class known))
+          ∙ ap (map (instance_of p)) (sym (keyed_is g law s stage pass owns local (λ e. cc) class known))
 
       pub synthesized_targets : targets g p 0 (synthesized_rules g class attributes)
           ≡ steps_at g place here synthesized class p
@@ -89,7 +89,7 @@ module _ (g : AttributeGrammar) (law : IsLawful g) where
           ap (map (λ w. target_of_rule p w 0)) (runs_synthesized g law class known attributes)
           ∙ map-map (λ w. target_of_rule p w 0) (for_self class)
           (filter (is_kept g synthesized (attributes_of g class)) attributes)
-          ∙ ap (map (instance_of p)) (sym (keyed_is g law s ordered stage pass synthesized (λ e. cc) class known))
+          ∙ ap (map (instance_of p)) (sym (keyed_is g law s stage pass owns synthesized (λ e. cc) class known))
 
       pub inherited_targets : (c k : ℕ) → c < g.child_count class → k < kids_at t p c
           → targets g p k (inherited_rules g class c attributes)
@@ -105,7 +105,7 @@ module _ (g : AttributeGrammar) (law : IsLawful g) where
           (filter (is_kept g inherited (g.shared (g.child_interface class c))) attributes)
           ∙ ap (λ (test : ℕ → Bool). map (instance_of q) (filter test attributes)) (λ i a. sym (alike a) i)
           ∙ ap (map (instance_of q))
-          (sym (keyed_is g law s ordered stage pass inherited (λ e. cc) (class_at t q) below))
+          (sym (keyed_is g law s stage pass owns inherited (λ e. cc) (class_at t q) below))
 
       blocks : children_sequence g place here t p
           ≡ flat_map

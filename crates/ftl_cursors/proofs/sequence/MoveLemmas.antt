@@ -15,29 +15,29 @@ use Rattle.ftl_cursors.specs.sequence.Moves.{child_moves, kid_moves, moves, move
 use Rattle.ftl_cursors.proofs.sequence.MovesByKids.{moves_by_kids}
 use Rattle.ftl_cursors.proofs.sequence.VisitShape.{AreRules, block_of, blocks_from, first_block, inherited_are, locals_are, synthesized_are, visit_is}
 
-module _ (g : AttributeGrammar) (t : Forest) (attributes : List ℕ) (p : Path) where
+module _ (g : AttributeGrammar) (t : Forest) (attributes : List ℕ) (start : Path) (p : Path) where
   abbrev class : ℕ
   class = class_at t p
 
   abbrev up : ℕ
-  up = moves_up g t p
+  up = moves_up g t start p
 
   -- rules are steps
   rules_moved : (k : ℕ) (rules ops : List VisitOp) → AreRules rules
-      → moves_left g t p k (rules ++ ops) ≡ moves_left g t p k ops
+      → moves_left g t start p k (rules ++ ops) ≡ moves_left g t start p k ops
   rules_moved k [] ops are = refl
   rules_moved k (Rule r ∷ rules) ops are = rules_moved k rules ops are
   rules_moved k (Begin c ∷ rules) ops are = absurd are
   rules_moved k (Visit c ∷ rules) ops are = absurd are
 
-  last_moves : moves_left g t p 0 (synthesized_rules g class attributes) ≡ suc up
+  last_moves : moves_left g t start p 0 (synthesized_rules g class attributes) ≡ suc up
   last_moves =
-      ap (moves_left g t p 0) (sym (append-nil (synthesized_rules g class attributes)))
+      ap (moves_left g t start p 0) (sym (append-nil (synthesized_rules g class attributes)))
       ∙ rules_moved 0 (synthesized_rules g class attributes) [] (synthesized_are g class attributes)
 
   -- at the blocks from a child on
   pub blocks_moves : (c count : ℕ) → c + count ≡ g.child_count class
-      → moves_left g t p 0 (blocks_from g class attributes c count) ≡ moves_from_child g t p c up
+      → moves_left g t start p 0 (blocks_from g class attributes c count) ≡ moves_from_child g t p c up
   blocks_moves c zero all =
       last_moves
       ∙ (let z : suc up ≡ 0 + 0 + suc up = omega arith in z)
@@ -47,7 +47,7 @@ module _ (g : AttributeGrammar) (t : Forest) (attributes : List ℕ) (p : Path) 
       let first = child_moves g t p c in
       let later = flat_map (child_moves g t p) (range_with_len (c + 1) count) in
       let both = length-append first later in
-      ap (moves_left g t p 0) (first_block g class attributes c count)
+      ap (moves_left g t start p 0) (first_block g class attributes c count)
       ∙ ap₂
       (λ n m. suc
       (length (flat_map (kid_moves g t p c) (range_with_len 0 n))
@@ -61,7 +61,7 @@ module _ (g : AttributeGrammar) (t : Forest) (attributes : List ℕ) (p : Path) 
 
   -- at the block of a child, for a kid
   pub block_moves : (c k count : ℕ) → k < kids_at t p c
-      → moves_left g t p k (block_of g class attributes c count) ≡ moves_from_kid g t p c k up
+      → moves_left g t start p k (block_of g class attributes c count) ≡ moves_from_kid g t p c k up
   block_moves c k count there =
       let first = kid_moves g t p c k in
       let later = flat_map (kid_moves g t p c) (range_with_len (k + 1) (kids_at t p c - (k + 1))) in
@@ -83,7 +83,7 @@ module _ (g : AttributeGrammar) (t : Forest) (attributes : List ℕ) (p : Path) 
 
   -- at the whole visit, once the node has been entered
   pub visit_moves : IsTreeOf g t → Has t p
-      → suc (moves_left g t p 0 (visit_of g InOrder attributes class))
+      → suc (moves_left g t start p 0 (visit_of g InOrder attributes class))
       ≡ length (own_moves g class ++ moves g (below_of (tree_at t p))) + up
   visit_moves fits there =
       let count = g.child_count class in
@@ -91,8 +91,8 @@ module _ (g : AttributeGrammar) (t : Forest) (attributes : List ℕ) (p : Path) 
       let own = length-range_with_len 0 count in
       let both = length-append (own_moves g class) (moves g (below_of (tree_at t p))) in
       let below = ap length (moves_by_kids g t fits p there) in
-      let inner : moves_left g t p 0 (visit_of g InOrder attributes class) ≡ length all + count + suc up =
-      ap (moves_left g t p 0) (visit_is g class attributes)
+      let inner : moves_left g t start p 0 (visit_of g InOrder attributes class) ≡ length all + count + suc up =
+      ap (moves_left g t start p 0) (visit_is g class attributes)
       ∙ rules_moved 0 (locals g class attributes) (blocks_from g class attributes 0 count)
       (locals_are g class attributes)
       ∙ blocks_moves 0 count (omega arith)

@@ -16,17 +16,17 @@ use Rattle.ftl_visit.specs.declared.visits.visit_op.VisitOp.TheVariants.{Begin, 
 use Rattle.ftl_cursors.specs.sequence.SequenceRest.{from_child, from_kid, rest_of_ops, rest_up}
 use Rattle.ftl_cursors.proofs.sequence.VisitShape.{AreRules, block_of, blocks_from, first_block, inherited_are, locals_are, synthesized_are, visit_is}
 
-module _ (g : AttributeGrammar) (t : Forest) (attributes : List ℕ) (p : Path) where
+module _ (g : AttributeGrammar) (t : Forest) (attributes : List ℕ) (first : Path) (p : Path) where
   abbrev class : ℕ
   class = class_at t p
 
   abbrev up : List Step
-  up = rest_up g t attributes p
+  up = rest_up g t attributes first p
 
   -- the steps of rules come first
   pub rules_left : (k : ℕ) (rules ops : List VisitOp) → AreRules rules
-      → rest_of_ops g t attributes p k (rules ++ ops)
-      ≡ steps_of_ops (number_of t p) k rules ++ rest_of_ops g t attributes p k ops
+      → rest_of_ops g t attributes first p k (rules ++ ops)
+      ≡ steps_of_ops (number_of t p) k rules ++ rest_of_ops g t attributes first p k ops
   rules_left k [] ops are = refl
   rules_left k (Rule r ∷ rules) ops are =
       ap (λ xs. record { node = number_of t p; rule = r; kid = k } ∷ xs) (rules_left k rules ops are)
@@ -34,20 +34,20 @@ module _ (g : AttributeGrammar) (t : Forest) (attributes : List ℕ) (p : Path) 
   rules_left k (Visit c ∷ rules) ops are = absurd are
 
   -- behind the last child
-  last_left : rest_of_ops g t attributes p 0 (synthesized_rules g class attributes) ≡ last_steps g t attributes p ++ up
+  last_left : rest_of_ops g t attributes first p 0 (synthesized_rules g class attributes) ≡ last_steps g t attributes p ++ up
   last_left =
-      ap (rest_of_ops g t attributes p 0) (sym (append-nil (synthesized_rules g class attributes)))
+      ap (rest_of_ops g t attributes first p 0) (sym (append-nil (synthesized_rules g class attributes)))
       ∙ rules_left 0 (synthesized_rules g class attributes) [] (synthesized_are g class attributes)
 
   -- at the blocks from a child on
   pub blocks_left : (c count : ℕ) → c + count ≡ g.child_count class
-      → rest_of_ops g t attributes p 0 (blocks_from g class attributes c count) ≡ from_child g t attributes p c up
+      → rest_of_ops g t attributes first p 0 (blocks_from g class attributes c count) ≡ from_child g t attributes p c up
   blocks_left c zero all =
       last_left
       ∙ ap (λ n. flat_map (child_steps g t attributes p) (range_with_len c n) ++ (last_steps g t attributes p ++ up))
       (let z : 0 ≡ g.child_count class - c = omega arith in z)
   blocks_left c (suc count) all =
-      ap (rest_of_ops g t attributes p 0) (first_block g class attributes c count)
+      ap (rest_of_ops g t attributes first p 0) (first_block g class attributes c count)
       ∙ ap₂
       (λ n m. flat_map (kid_steps g t attributes p c) (range_with_len 0 n)
       ++ (flat_map (child_steps g t attributes p) (range_with_len (c + 1) m) ++ (last_steps g t attributes p ++ up)))
@@ -61,7 +61,7 @@ module _ (g : AttributeGrammar) (t : Forest) (attributes : List ℕ) (p : Path) 
 
   -- at the block of a child, for a kid
   pub block_left : (c k count : ℕ) → k < kids_at t p c
-      → rest_of_ops g t attributes p k (block_of g class attributes c count) ≡ from_kid g t attributes p c k up
+      → rest_of_ops g t attributes first p k (block_of g class attributes c count) ≡ from_kid g t attributes p c k up
   block_left c k count there =
       let rules = inherited_rules g class c attributes in
       let later = flat_map (kid_steps g t attributes p c) (range_with_len (k + 1) (kids_at t p c - (k + 1))) in
@@ -82,18 +82,18 @@ module _ (g : AttributeGrammar) (t : Forest) (attributes : List ℕ) (p : Path) 
 
   -- at the whole visit
   pub visit_left : IsTreeOf g t → Has t p
-      → rest_of_ops g t attributes p 0 (visit_of g InOrder attributes class) ≡ inorder_steps g t attributes p ++ up
+      → rest_of_ops g t attributes first p 0 (visit_of g InOrder attributes class) ≡ inorder_steps g t attributes p ++ up
   visit_left fits there =
-      let first = first_steps g t attributes p in
+      let front = first_steps g t attributes p in
       let inner = flat_map (child_steps g t attributes p) (children g class) in
       let last = last_steps g t attributes p in
-      ap (rest_of_ops g t attributes p 0) (visit_is g class attributes)
+      ap (rest_of_ops g t attributes first p 0) (visit_is g class attributes)
       ∙ rules_left 0 (locals g class attributes) (blocks_from g class attributes 0 (g.child_count class))
       (locals_are g class attributes)
-      ∙ ap (λ xs. first ++ xs)
+      ∙ ap (λ xs. front ++ xs)
       (blocks_left 0 (g.child_count class) (omega arith)
       ∙ ap (λ n. flat_map (child_steps g t attributes p) (range_with_len 0 n) ++ (last ++ up))
       (let z : g.child_count class - 0 ≡ g.child_count class = omega arith in z)
       ∙ sym (append_assoc inner last up))
-      ∙ sym (append_assoc first (inner ++ last) up)
+      ∙ sym (append_assoc front (inner ++ last) up)
       ∙ ap (λ xs. xs ++ up) (sym (steps_kid_by_kid g t fits attributes p there))

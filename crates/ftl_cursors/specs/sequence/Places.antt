@@ -2,7 +2,7 @@
 use Rattle.std.specs.Prelude.{◌≡◌, ℕ, suc, ◌<◌, List, [], ◌∷◌, Option, Some, None}
 use Rattle.ftl_deps.specs.reads.Meant.{meant}
 use Rattle.ftl_model.specs.layout.AttributeGrammar.{AttributeGrammar}
-use Rattle.ftl_model.specs.layout.Path.{Path, class_at, kids_at, node_at}
+use Rattle.ftl_model.specs.layout.Path.{AtOrAbove, Path, class_at, kids_at, node_at}
 use Rattle.ftl_model.specs.layout.Tree.{Forest, size}
 use Rattle.ftl_schedule.specs.declared.syntax.kind.PassKind.TheVariants.{InOrder}
 use Rattle.ftl_order.specs.declared.steps.step.Step.{Step}
@@ -27,8 +27,18 @@ tree_of x = x.tree.now.tree
 abbrev pub node_of : Tables → (node : ℕ) → Path
 node_of x n = node_at (tree_of x) n
 
--- the visits are those of an inorder pass with these attributes, and the places those of their blocks
+-- the node whose tree it is
+abbrev pub first_of : Tables → Path
+first_of x = node_of x x.first
+
+-- the node is the first one or below it
+abbrev pub IsWithin : Tables → (node : ℕ) → Type 0
+IsWithin x n = AtOrAbove (first_of x) (node_of x n)
+
+-- the node is there, the visits are those of an inorder pass with these attributes, and the places those of their
+-- blocks
 pub record AreTables (x : Tables) : Type 0 where
+  pub first : x.first < size (tree_of x)
   pub visits : x.visits.now ≡ visits_of (grammar_of x) InOrder x.attrs.now
   pub places : x.places.now ≡ places_of x.visits.now
 
@@ -46,26 +56,27 @@ FitOps g t p k (Rule r ∷ ops) = FitOps g t p k ops
 FitOps g t p k (Begin c ∷ ops) = c < g.child_count (class_at t p)
 FitOps g t p k (Visit c ∷ ops) = (c < g.child_count (class_at t p)) × (k < kids_at t p c)
 
--- all is of the tree
+-- all is of the tree at the first node
 pub record IsPlace (x : Tables) (at : Place) : Type 0 where
   pub node : at.node < size (tree_of x)
+  pub within : IsWithin x at.node
   pub ops : FitOps (grammar_of x) (tree_of x) (node_of x at.node) at.kid at.ops.now
 
 -- the steps that are left
 abbrev pub left : Tables → Place → List Step
-left x at = rest_of_ops (grammar_of x) (tree_of x) x.attrs.now (node_of x at.node) at.kid at.ops.now
+left x at = rest_of_ops (grammar_of x) (tree_of x) x.attrs.now (first_of x) (node_of x at.node) at.kid at.ops.now
 
 -- how often a cursor goes on without a step
 abbrev pub moves_at : Tables → Place → ℕ
-moves_at x at = moves_left (grammar_of x) (tree_of x) (node_of x at.node) at.kid at.ops.now
+moves_at x at = moves_left (grammar_of x) (tree_of x) (first_of x) (node_of x at.node) at.kid at.ops.now
 
 -- what comes after a node and all below it
 abbrev pub rest_after : Tables → (node : ℕ) → List Step
-rest_after x n = rest_up (grammar_of x) (tree_of x) x.attrs.now (node_of x n)
+rest_after x n = rest_up (grammar_of x) (tree_of x) x.attrs.now (first_of x) (node_of x n)
 
 -- and how many moves
 abbrev pub moves_after : Tables → (node : ℕ) → ℕ
-moves_after x n = moves_up (grammar_of x) (tree_of x) (node_of x n)
+moves_after x n = moves_up (grammar_of x) (tree_of x) (first_of x) (node_of x n)
 
 -- a place where this is left
 pub record IsSequencePlace (x : Tables) (at : Place) (steps : List Step) (count : ℕ) : Type 0 where
@@ -87,9 +98,9 @@ IsAtKid x n c k at =
 pub record IsFirst (x : Tables) (node child kid : ℕ) (at : Place) : Type 0 where
   pub place : IsPlace x at
   pub left : left x at
-      ≡ rest_of_ops (grammar_of x) (tree_of x) x.attrs.now (node_of x node) kid (Visit child ∷ [])
+      ≡ rest_of_ops (grammar_of x) (tree_of x) x.attrs.now (first_of x) (node_of x node) kid (Visit child ∷ [])
   pub moves : suc (moves_at x at)
-      ≡ moves_left (grammar_of x) (tree_of x) (node_of x node) kid (Visit child ∷ [])
+      ≡ moves_left (grammar_of x) (tree_of x) (first_of x) (node_of x node) kid (Visit child ∷ [])
 
 -- as much is left there, with fewer moves
 pub record IsNext (x : Tables) (at next : Place) : Type 0 where

@@ -72,7 +72,7 @@ fn sequence_steps<'a>(tables: ItemTables<'a>, item: u32, found: FoundItem) -> Se
     let visits = &tables.visits[found.pass as usize];
     let places = &tables.places[found.pass as usize];
     let attrs = tables.items.passes[found.pass as usize].attrs.as_slice();
-    SequenceCursor::new(tables.items.rows.tree, visits, places, attrs)
+    SequenceCursor::new(tables.items.rows.tree, visits, places, attrs, 0)
 }
 
 /// In which order a pass visits the nodes of an item.

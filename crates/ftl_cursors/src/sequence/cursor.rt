@@ -1,8 +1,9 @@
 //! Cursors over the steps of an inorder pass.
-ghost use Rattle.std.specs.Prelude.{◌≡◌, [], ◌∷◌, MatchOption};
+ghost use Rattle.std.specs.Prelude.{◌≡◌, ◌<◌, [], ◌∷◌, MatchOption};
 ghost use Rattle.ftl_deps.specs.reads.Meant.{meant};
 ghost use Rattle.ftl_cursors.specs.inorder.InorderSteps.{inorder_steps};
-ghost use Rattle.ftl_model.specs.layout.Path.{top};
+ghost use Rattle.ftl_model.specs.layout.Path.{node_at};
+ghost use Rattle.ftl_model.specs.layout.Tree.{size};
 ghost use Rattle.ftl_schedule.specs.declared.syntax.kind.PassKind.TheVariants.{InOrder};
 ghost use Rattle.ftl_cursors.specs.sequence.BlockPlaces.{places_of};
 ghost use Rattle.ftl_visit.specs.passes.VisitRows.{visits_of};
@@ -14,7 +15,8 @@ use ftl_tree::Tree;
 use ftl_visit::PassVisits;
 use std::marker::Model;
 
-/// Goes through the steps of an inorder pass over a tree. Contracts see the steps that are left.
+/// Goes through the steps of an inorder pass over the tree at a node. Contracts see the steps that
+/// are left.
 #[derive(Drop)]
 pub struct SequenceCursor<'a> {
     tables: Tables<'a>,
@@ -35,29 +37,33 @@ impl<'a> Model for SequenceCursor<'a> {
 }
 
 impl<'a> SequenceCursor<'a> {
-    /// All steps of a pass with these visits, where these are the places of its blocks, and its
-    /// list of attributes is this one.
+    /// All steps at a node and below it of a pass with these visits, where these are the places of
+    /// its blocks, and its list of attributes is this one.
     pub fn new(
         tree: &'a Tree<'a>,
         visits: &'a PassVisits,
         places: &'a SequencePlaces,
         attrs: &'a [u32],
+        first: u32,
     ) -> SequenceCursor<'a>
         requires visits { visits.now ≡ visits_of (meant tree.now.checked) InOrder attrs.now }
         requires places { places.now ≡ places_of visits.now }
+        requires first { first < size tree.now.tree }
         ensures steps { result
-            ≡ inorder_steps (meant tree.now.checked) tree.now.tree attrs.now top }
+            ≡ inorder_steps (meant tree.now.checked) tree.now.tree attrs.now
+            (node_at tree.now.tree first) }
     {
         let _nodes = tree.node_count();
-        let ops = visits.visit(tree.class(0));
+        let ops = visits.visit(tree.class(first));
         let tables = Tables {
             tree,
             visits,
             places,
             attrs,
+            first,
         };
         let at = Place {
-            node: 0,
+            node: first,
             kid: 0,
             ops,
         };

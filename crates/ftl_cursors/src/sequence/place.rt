@@ -4,21 +4,22 @@ ghost use Rattle.ftl_model.specs.layout.Path.{kids_at};
 ghost use Rattle.ftl_model.specs.layout.Tree.{size};
 ghost use Rattle.ftl_tree.specs.rows.KidRuns.{IsChildOf};
 ghost use Rattle.ftl_cursors.specs.sequence.Places.{AreTables, IsAfter, IsAtKid, IsFirst, IsNext};
-ghost use Rattle.ftl_cursors.specs.sequence.Places.{IsPlace, grammar_of, left, node_of, rest_after};
-ghost use Rattle.ftl_cursors.specs.sequence.Places.{rule_first, tree_of};
+ghost use Rattle.ftl_cursors.specs.sequence.Places.{IsPlace, IsWithin, grammar_of, left, node_of};
+ghost use Rattle.ftl_cursors.specs.sequence.Places.{rest_after, rule_first, tree_of};
 
 use crate::sequence::block_places::{SequencePlaces, behind};
 use ftl_order::Step;
 use ftl_tree::Tree;
 use ftl_visit::{PassVisits, VisitOp};
 
-/// What a cursor goes by.
+/// What a cursor goes by; the tree at the first node is gone through.
 #[derive(Clone, Copy)]
 pub(crate) struct Tables<'a> {
     pub tree: &'a Tree<'a>,
     pub visits: &'a PassVisits,
     pub places: &'a SequencePlaces,
     pub attrs: &'a [u32],
+    pub first: u32,
 }
 
 /// The operations that are left at a node, and the kid for which they are.
@@ -101,14 +102,18 @@ fn next_place<'a>(tables: Tables<'a>, at: Place<'a>) -> Option<Place<'a>>
     }
 }
 
-/// The place at which what comes after a node begins; none after the root.
+/// The place at which what comes after a node begins; none after the first node.
 fn place_above<'a>(tables: Tables<'a>, node: u32) -> Option<Place<'a>>
     requires tables { AreTables tables }
     requires node { node < size (tree_of tables) }
+    requires within { IsWithin tables node }
     ensures above { MatchOption result (rest_after tables.entry node ≡ [])
         (IsAfter tables.entry node) }
 {
     let _nodes = tables.tree.node_count();
+    if node == tables.first {
+        return None;
+    }
     let Some(parent) = tables.tree.parent(node) else {
         return None;
     };
@@ -120,6 +125,7 @@ fn place_above<'a>(tables: Tables<'a>, node: u32) -> Option<Place<'a>>
 fn kid_place<'a>(tables: Tables<'a>, node: u32, child: u32, kid: u32) -> Place<'a>
     requires tables { AreTables tables }
     requires at { IsChildOf (grammar_of tables) (tree_of tables) node child }
+    requires within { IsWithin tables node }
     ensures kid { IsAtKid tables.entry node child kid result }
 {
     let _nodes = tables.tree.node_count();
@@ -139,6 +145,7 @@ fn kid_place<'a>(tables: Tables<'a>, node: u32, child: u32, kid: u32) -> Place<'
 fn first_place<'a>(tables: Tables<'a>, node: u32, child: u32, kid: u32) -> Place<'a>
     requires tables { AreTables tables }
     requires at { IsChildOf (grammar_of tables) (tree_of tables) node child }
+    requires within { IsWithin tables node }
     requires kid { kid < kids_at (tree_of tables) (node_of tables node) child }
     ensures first { IsFirst tables.entry node child kid result }
 {

@@ -19,9 +19,9 @@ pub fn places_of_two_children()
 /// A law: over a sheet with a column of two words, what is left in an inorder pass for y and h when
 /// the column is at the visit of its first word, and when it is done with the second.
 pub fn rest_of_two_words()
-    ensures visit { rest_of_ops stack two_words (box_h ∷ box_y ∷ page_h ∷ []) (down 0 0 top) 0
+    ensures visit { rest_of_ops stack two_words (box_h ∷ box_y ∷ page_h ∷ []) top (down 0 0 top) 0
         (Visit 0 ∷ [])
         ≡ runs 2 8 0 ∷ runs 1 6 1 ∷ runs 3 8 0 ∷ runs 1 4 0 ∷ runs 0 0 0 ∷ [] }
     ensures done { rest_of_ops stack two_words (box_h ∷ box_y ∷ page_h ∷ [])
-        (down 0 1 (down 0 0 top)) 0 [] ≡ runs 1 4 0 ∷ runs 0 0 0 ∷ [] }
+        top (down 0 1 (down 0 0 top)) 0 [] ≡ runs 1 4 0 ∷ runs 0 0 0 ∷ [] }
 {}

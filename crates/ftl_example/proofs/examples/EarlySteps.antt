@@ -16,7 +16,7 @@ use Rattle.ftl_example.specs.examples.EarlySteps.{early_steps, is_in_half}
 use Rattle.ftl_example.specs.orders.EarlyVisits.{is_early}
 use Rattle.ftl_example.specs.orders.PlainOrder.{parted}
 
-map-filter : {X Y : Type 0} (f : X → Y) (p : Y → Bool) (xs : List X)
+pub map-filter : {X Y : Type 0} (f : X → Y) (p : Y → Bool) (xs : List X)
     → map f (filter (λ x. p (f x)) xs) ≡ filter p (map f xs)
 map-filter f p [] = refl
 map-filter f p (x ∷ xs) =

@@ -29,7 +29,7 @@ or_split true y e = inl refl
 or_split false y e = inr e
 
 module _ (t : Forest) where
-  over_from : (p q : Path) → number_of t p ≤ number_of t q → number_of t q < number_of t p + size_at t p
+  pub over_from : (p q : Path) → number_of t p ≤ number_of t q → number_of t q < number_of t p + size_at t p
       → is_over t p q ≡ true
   over_from p q le less =
       and_from (nat_le (number_of t p) (number_of t q)) (nat_lt (number_of t q) (number_of t p + size_at t p))
@@ -41,7 +41,7 @@ module _ (t : Forest) where
       let b = and_parts (nat_le (number_of t p) (number_of t q)) (nat_lt (number_of t q) (number_of t p + size_at t p)) e in
       (leb-true (number_of t p) (number_of t q) b.0, ltb-true (number_of t q) (number_of t p + size_at t p) b.1)
 
-  over_self : (p : Path) → is_over t p p ≡ true
+  pub over_self : (p : Path) → is_over t p p ≡ true
   over_self p = over_from p p (omega arith) (omega arith)
 
   -- the whole tree at the second is in that at the first
@@ -60,7 +60,7 @@ module _ (t : Forest) where
       (cases_lt (number_of t p) (number_of t q))
 
   -- what is over a node that is over a third is over that
-  over_chain : (p q r : Path) → Has t p → Has t q → is_over t p q ≡ true → is_over t q r ≡ true → is_over t p r ≡ true
+  pub over_chain : (p q r : Path) → Has t p → Has t q → is_over t p q ≡ true → is_over t q r ≡ true → is_over t p r ≡ true
   over_chain p q r hp hq e f =
       let o = over_parts p q e in
       let k = over_parts q r f in
@@ -70,7 +70,7 @@ module _ (t : Forest) where
       let c = k.1 in
       over_from p r (omega (arith, a, b)) (omega (arith, c, i))
 
-  above_over : (p q : Path) → Has t q → Above p q → is_over t p q ≡ true
+  pub above_over : (p q : Path) → Has t q → Above p q → is_over t p q ≡ true
   above_over p q hq above =
       let a = above_range t p q hq above in
       let low = a.0 in
@@ -82,7 +82,7 @@ module _ (g : AttributeGrammar) (s : Schedule) (t : Forest) (r : Instance) (law 
   there : (i : Instance) → IsStep g t i → Has t (turn_of g i).visit
   there i step = visit_there g s t law once fits 0 i step
 
-  near_first : (kind : PassKind) (i j : Instance) → IsStep g t i → IsStep g t j
+  pub near_first : (kind : PassKind) (i j : Instance) → IsStep g t i → IsStep g t j
       → FirstInPass kind (placing_of s) (turn_of g i) (turn_of g j)
       → is_near kind t (turn_of g j).visit (turn_of g r).visit ≡ true
       → is_near kind t (turn_of g i).visit (turn_of g r).visit ≡ true
@@ -100,7 +100,7 @@ module _ (g : AttributeGrammar) (s : Schedule) (t : Forest) (r : Instance) (law 
       (above_over t (turn_of g j).visit (turn_of g i).visit (there i step_i) above)) first
   near_first inorder i j step_i step_j first near = refl
 
-  near_self : (kind : PassKind) → is_near kind t (turn_of g r).visit (turn_of g r).visit ≡ true
+  pub near_self : (kind : PassKind) → is_near kind t (turn_of g r).visit (turn_of g r).visit ≡ true
   near_self topdown = over_self t (turn_of g r).visit
   near_self bottomup = over_self t (turn_of g r).visit
   near_self inorder = refl

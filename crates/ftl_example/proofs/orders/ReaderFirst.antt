@@ -104,7 +104,7 @@ module _ (g : AttributeGrammar) (s : Schedule) (t : Forest) (law : IsLawful g) (
 
   module _ (r w : Instance) (step_r : IsStep g t r) (step_w : IsStep g t w) (free : MustPrecede g t s w r → ⊥) where
     -- w is r, or r must come before it
-    abbrev Later : Type 0
+    abbrev pub Later : Type 0
     Later = (w ≡ r) ⊎ MustPrecede g t s r w
 
     in_visit : (kind : PassKind) → IsOnePass (placing_of s w.attribute) (placing_of s r.attribute)
@@ -162,7 +162,7 @@ module _ (g : AttributeGrammar) (s : Schedule) (t : Forest) (law : IsLawful g) (
         (λ a. inr (next (address_by_place g law s once t fits place top root r w (ahead_stands xs r w a)))) ahead)
         (one_ahead xs w r has_w has_r)
 
-    later : is_early g (placing_of s) t r w ≡ true → Later
+    pub later : is_early g (placing_of s) t r w ≡ true → Later
     later e =
         ⊎_elim (λ early. absurd (free (inl (ltb-true (placing_of s w.attribute).stage (placing_of s r.attribute).stage early))))
         (λ both.

@@ -25,13 +25,13 @@ use Rattle.ftl_order.proofs.faults.Tests.{ordered_tells}
 use Rattle.ftl_example.specs.pairs.FirstPair.{IsPairOf, placed, placed_at}
 
 -- the first entry with a fault
-record FirstAlong {X : Type 0} (fault_at : X → Option VerifyFault) (xs : List X) (x : VerifyFault) : Type 0 where
+pub record FirstAlong {X : Type 0} (fault_at : X → Option VerifyFault) (xs : List X) (x : VerifyFault) : Type 0 where
   pub place : ℕ
   pub within : place < length xs
   pub is : (d : X) → fault_at (get_or xs place d) ≡ Some x
   pub none : (j : ℕ) (d : X) → j < place → fault_at (get_or xs j d) ≡ None
 
-along_some : {X : Type 0} (fault_at : X → Option VerifyFault) (xs : List X) (x : VerifyFault)
+pub along_some : {X : Type 0} (fault_at : X → Option VerifyFault) (xs : List X) (x : VerifyFault)
     → first_along fault_at xs ≡ Some x → FirstAlong fault_at xs x
 along_some fault_at [] x e = absurd (let z : ⊥ = grind arith in z)
 along_some {X} fault_at (y ∷ ys) x e = go (λ h. along_some fault_at ys x h) (fault_at y) refl e
@@ -67,7 +67,7 @@ get_map f [] n d e less = absurd (omega (arith, less))
 get_map f (x ∷ xs) zero d e less = refl
 get_map f (x ∷ xs) (suc n) d e less = get_map f xs n d e (omega (arith, less))
 
-get_numbered : {X : Type 0} (from : ℕ) (xs : List X) (n : ℕ) (d : ℕ × X) → n < length (enumerate_from from xs)
+pub get_numbered : {X : Type 0} (from : ℕ) (xs : List X) (n : ℕ) (d : ℕ × X) → n < length (enumerate_from from xs)
     → (n < length xs) × ((get_or (enumerate_from from xs) n d).0 ≡ from + n) × ((get_or (enumerate_from from xs) n d).1 ≡ get_or xs n d.1)
 get_numbered from [] n d less = absurd (omega (arith, less))
 get_numbered from (x ∷ xs) zero d less = (omega arith, omega arith, refl)

@@ -36,7 +36,7 @@ use Rattle.ftl_example.proofs.pairs.FirstPairs.{get_map, length-placed, length-r
 
 -- ---- along a list
 
-along_at : {X : Type 0} (f : X → Option VerifyFault) (xs : List X) (n : ℕ) (d : X) (x : VerifyFault) → n < length xs
+pub along_at : {X : Type 0} (f : X → Option VerifyFault) (xs : List X) (n : ℕ) (d : X) (x : VerifyFault) → n < length xs
     → ((m : ℕ) → m < n → f (get_or xs m d) ≡ None) → f (get_or xs n d) ≡ Some x → first_along f xs ≡ Some x
 along_at f [] n d x less none is = absurd (omega (arith, less))
 along_at f (y ∷ ys) zero d x less none is = ap (λ o. option_or o (first_along f ys)) is
@@ -44,7 +44,7 @@ along_at f (y ∷ ys) (suc n) d x less none is =
     ap (λ o. option_or o (first_along f ys)) (none 0 (omega arith))
     ∙ along_at f ys n d x (omega (arith, less)) (λ m l. none (suc m) (omega (arith, l))) is
 
-along_none : {X : Type 0} (f : X → Option VerifyFault) (xs : List X) (d : X)
+pub along_none : {X : Type 0} (f : X → Option VerifyFault) (xs : List X) (d : X)
     → ((m : ℕ) → m < length xs → f (get_or xs m d) ≡ None) → first_along f xs ≡ None
 along_none f [] d none = refl
 along_none f (y ∷ ys) d none =

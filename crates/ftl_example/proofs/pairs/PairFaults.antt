@@ -29,13 +29,13 @@ use Rattle.ftl_example.proofs.pairs.FirstPairs.{unordered_parts}
 
 -- ---- the other faults
 
-twice_not : (r w : ℕ) (before later : List ℕ) → first_twice before later ≢ Some (Unordered r w)
+pub twice_not : (r w : ℕ) (before later : List ℕ) → first_twice before later ≢ Some (Unordered r w)
 twice_not r w before [] = λ e. cc
 twice_not r w before (a ∷ later) =
     if_never (Unordered r w) (is_listed before a) (Some (Twice a)) (first_twice (a ∷ before) later) (λ e. cc)
     (twice_not r w (a ∷ before) later)
 
-missing_not : (g : AttributeGrammar) (r w : ℕ) (listed : List ℕ) → first_missing g listed ≢ Some (Unordered r w)
+pub missing_not : (g : AttributeGrammar) (r w : ℕ) (listed : List ℕ) → first_missing g listed ≢ Some (Unordered r w)
 missing_not g r w listed =
     along_never (Unordered r w) (missing_fault g listed) (range_with_len 0 g.attribute_count)
     (λ a.
@@ -43,7 +43,7 @@ missing_not g r w listed =
     (λ e. cc))
 
 -- where the first of two is not this fault, it is none, and the second is this fault
-later_one : (f : VerifyFault) (x y : Option VerifyFault) → x ≢ Some f → option_or x y ≡ Some f
+pub later_one : (f : VerifyFault) (x y : Option VerifyFault) → x ≢ Some f → option_or x y ≡ Some f
     → (x ≡ None) × (y ≡ Some f)
 later_one f None y other e = (refl, e)
 later_one f (Some z) y other e = absurd (other e)
@@ -65,7 +65,7 @@ is_unordered g s r w e =
 -- ---- the only pair
 
 -- what passes one test, and not another
-both_pass : (writes ordered : Bool) → writes ≡ true → (ordered ≡ true → ⊥) → (writes && not ordered) ≡ true
+pub both_pass : (writes ordered : Bool) → writes ≡ true → (ordered ≡ true → ⊥) → (writes && not ordered) ≡ true
 both_pass true true w free = absurd (free refl)
 both_pass true false w free = refl
 both_pass false ordered w free = let z : ⊥ = cc in absurd z
@@ -98,14 +98,14 @@ module _ (g : AttributeGrammar) (at : Placing) (law : IsLawful g) where
       (subst (λ v. unordered_writer g at v (dep_read g (placed_at (rule_named g v).parts p.place).1) ≡ None) (sym same)
       (q.first p.place less)))
 
-  one_where : (x y : Pair) → IsPair g x → IsPair g y → x.reader ≡ y.reader → x.read ≡ y.read → x.runs_at ≡ y.runs_at
+  pub one_where : (x y : Pair) → IsPair g x → IsPair g y → x.reader ≡ y.reader → x.read ≡ y.read → x.runs_at ≡ y.runs_at
   one_where x y p q reader read =
       same_Some x.runs_at y.runs_at
       (sym (sites_say g law (class_of_rule x.reader) x.read x.runs_at x.writer p.1)
       ∙ ap (λ r. where_of (dep_read g r).site) read
       ∙ sites_say g law (class_of_rule y.reader) y.read y.runs_at y.writer q.1)
 
-  pair_by : (x y : Pair) → x.reader ≡ y.reader → x.part ≡ y.part → x.read ≡ y.read → x.writer ≡ y.writer
+  pub pair_by : (x y : Pair) → x.reader ≡ y.reader → x.part ≡ y.part → x.read ≡ y.read → x.writer ≡ y.writer
       → x.runs_at ≡ y.runs_at → x ≡ y
   pair_by x y reader part read writer runs_at = grind (arith, reader, part, read, writer, runs_at)
 

@@ -101,8 +101,8 @@ fn is_early(tree: &Tree<'_>, placed: &Placed, reader: Step, step: Step) -> bool
             && is_near(tree, late.kind, step.node, reader.node))
 }
 
-// The attribute that a step computes.
-fn attr_of(tree: &Tree<'_>, step: Step) -> u32
+/// The attribute that a step computes.
+pub fn attr_of(tree: &Tree<'_>, step: Step) -> u32
     requires step { IsStepOf (meant tree.now.checked) tree.now.tree step }
     ensures attr { result
         ≡ (target_of (meant tree.now.checked) tree.now.tree step).attribute }
@@ -112,8 +112,8 @@ fn attr_of(tree: &Tree<'_>, step: Step) -> u32
     checked.rule(step.rule).attr
 }
 
-// Whether the visit of the first node comes before that of the second in a pass, or is it.
-fn is_near(tree: &Tree<'_>, kind: PassKind, node: u32, reader: u32) -> bool
+/// Whether the visit of the first node comes before that of the second in a pass, or is it.
+pub fn is_near(tree: &Tree<'_>, kind: PassKind, node: u32, reader: u32) -> bool
     requires node { node < size tree.now.tree }
     requires reader { reader < size tree.now.tree }
     ensures near { result ≡ is_near (kind_of kind) tree.now.tree (node_at tree.now.tree node)
@@ -126,8 +126,8 @@ fn is_near(tree: &Tree<'_>, kind: PassKind, node: u32, reader: u32) -> bool
     }
 }
 
-// Whether a node is another, or above it.
-fn is_over(tree: &Tree<'_>, above: u32, node: u32) -> bool
+/// Whether a node is another, or above it.
+pub fn is_over(tree: &Tree<'_>, above: u32, node: u32) -> bool
     requires above { above < size tree.now.tree }
     requires node { node < size tree.now.tree }
     ensures over { result ≡ is_over tree.now.tree (node_at tree.now.tree above)

@@ -8,13 +8,14 @@ mod call;
 mod early_steps;
 mod numbered;
 mod placed_copy;
-mod plain_steps;
+pub mod plain_steps;
 mod shown_order;
-mod shown_steps;
+pub mod shown_steps;
 mod types;
 
 pub use call::example;
-pub use early_steps::Half;
+pub use early_steps::{Half, attr_of, is_near, is_over};
 pub use numbered::NumberedOrder;
+pub use shown_order::numbers_of;
 pub use shown_steps::{AtHand, ShownPlaces};
 pub use types::Example;

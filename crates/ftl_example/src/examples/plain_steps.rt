@@ -26,7 +26,7 @@ use ftl_visit::{PassVisits, RuleIndex, RuleTarget, rule_targets};
 use std::alloc::{AllocError, Global};
 
 /// The steps that compute a tree, in plain order.
-pub(crate) fn plain_steps(
+pub fn plain_steps(
     alloc: Global,
     tree: &Tree<'_>,
     schedule: &Schedule,
@@ -133,7 +133,8 @@ fn add_sequence(
     ensures added { OnOk result (steps.new.items ≡ steps.old.items
         ++ inorder_steps (meant tree.now.checked) tree.now.tree attrs.now top) }
 {
-    let mut left = SequenceCursor::new(tree, visits, places, attrs);
+    let _nodes = tree.node_count();
+    let mut left = SequenceCursor::new(tree, visits, places, attrs, 0);
     while let Some(step) = left.next() {
         steps.push(step)?;
     }

@@ -55,7 +55,7 @@ pub(crate) fn shown_order(
 }
 
 /// The numbers of the instances that some steps compute.
-pub(crate) fn numbers_of(
+pub fn numbers_of(
     alloc: Global,
     tree: &Tree<'_>,
     steps: &[Step],

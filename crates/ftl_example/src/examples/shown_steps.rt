@@ -41,7 +41,7 @@ pub enum AtHand {
 }
 
 /// The first two steps that show the pair.
-pub(crate) fn shown_steps(tree: &Tree<'_>, pair: RefusedPair, steps: &[Step]) -> Option<ShownPlaces>
+pub fn shown_steps(tree: &Tree<'_>, pair: RefusedPair, steps: &[Step]) -> Option<ShownPlaces>
     requires sound { IsSound (meant tree.now.checked) }
     requires known { IsKnownPair (meant tree.now.checked) pair }
     requires pair { IsPair (meant tree.now.checked) (pair_meant pair) }

@@ -74,8 +74,8 @@ fn pair_of(
     })
 }
 
-// Where the writers of what is read at a site run.
-fn writer_node(site: Site) -> WriterNode
+/// Where the writers of what is read at a site run.
+pub fn writer_node(site: Site) -> WriterNode
     ensures node { (x : Where) → where_of site ≡ Some x → where_meant result ≡ x }
 {
     match site {

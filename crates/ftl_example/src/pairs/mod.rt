@@ -9,7 +9,8 @@ mod part_read;
 mod refused_pair;
 
 pub(crate) use first_pair::first_pair;
+pub use first_pair::writer_node;
 pub use first_read::FirstRead;
 pub use laws::first_pairs;
-pub use part_read::PlacedRead;
+pub use part_read::{PlacedRead, placed_read};
 pub use refused_pair::{RefusedPair, RulePart, WriterNode};

@@ -17,7 +17,7 @@ pub struct PlacedRead {
 }
 
 /// The read at a place of a rule, in the order of the text.
-pub(crate) fn placed_read(parts: &RuleParts, place: u32) -> PlacedRead
+pub fn placed_read(parts: &RuleParts, place: u32) -> PlacedRead
     requires within { place < length (placed (parts_meant parts.now)) }
     ensures read { placed_at (parts_meant parts.now) place
         ≡ (part_meant result.part, read_meant result.read) }

@@ -14,7 +14,7 @@ mod want;
 pub(crate) use building::example_tree;
 pub use fault::ExampleFault;
 pub use laws::{grown_trees, worked_examples};
-pub(crate) use shown::least_tree;
+pub use shown::least_tree;
 pub use site::Site;
 pub use tables::Tables;
 pub use want::{Want, Wants};

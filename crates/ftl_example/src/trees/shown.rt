@@ -19,7 +19,7 @@ use std::alloc::Global;
 
 /// A least tree that shows the pair, with every input 0; or that no tree does, or none of at most
 /// 512 nodes.
-pub(crate) fn least_tree<'a>(
+pub fn least_tree<'a>(
     alloc: Global,
     checked: &'a Checked,
     pair: RefusedPair,

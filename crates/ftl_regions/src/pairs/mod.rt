@@ -1,12 +1,8 @@
-//! Whether a schedule with nests has the writer of a read earlier, in constant time, by where
-//! attributes stand in it. Nothing makes these places from a schedule yet.
+//! The table of ordered reads with nests as tests, and the first pair that fails one, as
+//! definitions and laws without code.
 
 mod laws;
-mod nest_places;
-mod places;
 mod worked;
 
 pub use laws::refused_pairs;
-pub use nest_places::NestPlaces;
-pub use places::Places;
 pub use worked::first_refused_pairs;

@@ -27,16 +27,16 @@ use Rattle.ftl_order.proofs.faults.Pairs.{pairs_ordered}
 use Rattle.ftl_schedule.specs.check.Accepted.{OnEachTree, later_fault, verified_as}
 
 -- the schedule is the one that was looked at, and has no fault
-record IsClear (o : Option VerifyFault) (s p : Schedule) : Type 0 where
+pub record IsClear (o : Option VerifyFault) (s p : Schedule) : Type 0 where
   clear : o ≡ None
   same : s ≡ p
 
 -- the value, where there is one
-abbrev value_or : Schedule → Result Schedule VerifyFault → Schedule
+abbrev pub value_or : Schedule → Result Schedule VerifyFault → Schedule
 value_or s (Ok x) = x
 value_or s (Err e) = s
 
-from_ok : (o : Option VerifyFault) (s p : Schedule) → verdict o s ≡ Ok p → IsClear o s p
+pub from_ok : (o : Option VerifyFault) (s p : Schedule) → verdict o s ≡ Ok p → IsClear o s p
 from_ok None s p e = record { clear = refl; same = ap (value_or s) e }
 from_ok (Some x) s p e = cc
 

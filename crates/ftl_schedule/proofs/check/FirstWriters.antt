@@ -17,7 +17,7 @@ use Rattle.ftl_schedule.specs.check.RuleAt.{rule_at}
 use Rattle.ftl_schedule.proofs.check.OneWriter.{writers_alike}
 
 -- tests that agree find one place
-position-same : {X : Type 0} (p q : X → Bool) (xs : List X) → ((x : X) → p x ≡ q x) → position p xs ≡ position q xs
+pub position-same : {X : Type 0} (p q : X → Bool) (xs : List X) → ((x : X) → p x ≡ q x) → position p xs ≡ position q xs
 position-same p q [] same = refl
 position-same p q (x ∷ xs) same = by (position-same p q xs same) (q x) refl
   where

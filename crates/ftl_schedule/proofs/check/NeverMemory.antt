@@ -31,13 +31,13 @@ if_never fault false x y p q = q
 
 -- ---- nor is want of memory
 
-twice_never : (before later : List ℕ) → first_twice before later ≢ Some OutOfMemory
+pub twice_never : (before later : List ℕ) → first_twice before later ≢ Some OutOfMemory
 twice_never before [] = λ e. cc
 twice_never before (a ∷ later) =
     if_never OutOfMemory (is_listed before a) (Some (Twice a)) (first_twice (a ∷ before) later) (λ e. cc)
     (twice_never (a ∷ before) later)
 
-by_never : (reader : ℕ) (writer : Option ℕ) → fault_by reader writer ≢ Some OutOfMemory
+pub by_never : (reader : ℕ) (writer : Option ℕ) → fault_by reader writer ≢ Some OutOfMemory
 by_never reader None = λ e. cc
 by_never reader (Some writer) = λ e. cc
 

@@ -11,11 +11,11 @@ use Rattle.ftl_order.specs.declared.dependencies.dep_read.Site.TheVariants as si
 use Rattle.ftl_order.specs.faults.OrderedReads.{in_pass_by, is_one_pass, is_ordered_read}
 
 -- the rule that a rule of the class is, for this attribute
-abbrev of_class_is : (k : ℕ) (c : Option ℕ) (a : ℕ) → RuleName
+abbrev pub of_class_is : (k : ℕ) (c : Option ℕ) (a : ℕ) → RuleName
 of_class_is k None a = for_self k a
 of_class_is k (Some c) a = for_child k c a
 
-of_class : (k : ℕ) (c : Option ℕ) (a : ℕ) (v : RuleName) → is_of_class k c a v ≡ true → v ≡ of_class_is k c a
+pub of_class : (k : ℕ) (c : Option ℕ) (a : ℕ) (v : RuleName) → is_of_class k c a v ≡ true → v ≡ of_class_is k c a
 of_class k None a (for_self l b) e =
     let parts = and_parts (k == l) (a == b) e in
     ap (λ n. for_self n b) (sym (eqb-true k l parts.0)) ∙ ap (λ n. for_self k n) (sym (eqb-true a b parts.1))
@@ -39,12 +39,12 @@ module _ (g : AttributeGrammar) (k : ℕ) where
   below (Some c) a (for_child l d b) e = cc
 
 -- whether the writer stands earlier, by the site of what is read
-abbrev earlier : Placing → DepRead → (reader : VisitPlace) → Site → VisitPlace → Bool
+abbrev pub earlier : Placing → DepRead → (reader : VisitPlace) → Site → VisitPlace → Bool
 earlier at d y s x =
     nat_lt (at x.attribute).stage (at y.attribute).stage
     || (is_one_pass (at x.attribute) (at y.attribute) && in_pass_by s (at y.attribute).kind at d x y)
 
-by_site : (g : AttributeGrammar) (at : Placing) (k : ℕ) (d : DepRead) (y : VisitPlace) (v u : RuleName) (s : Site)
+pub by_site : (g : AttributeGrammar) (at : Placing) (k : ℕ) (d : DepRead) (y : VisitPlace) (v u : RuleName) (s : Site)
     (c : Option ℕ) (a : ℕ)
     → writes_at g k s c a v ≡ true → writes_at g k s c a u ≡ true
     → earlier at d y s (visit_place g v) ≡ earlier at d y s (visit_place g u)

@@ -34,7 +34,7 @@ pub rules_counted : (c : CheckedGrammar) → first_fault c.grammar ≡ None
     → length (all_rules c.grammar) ≡ length (meant c).rules
 rules_counted c none = sym (rules_long c none)
 
-few_parts : (x : Parts) → ((part : Part) → length (reads_in x part) ≤ 256) → length (reads_of_parts x) ≤ 512
+pub few_parts : (x : Parts) → ((part : Part) → length (reads_in x part) ≤ 256) → length (reads_of_parts x) ≤ 512
 few_parts (plain reads) few = let one = few plain_part in omega (arith, one)
 few_parts (first_then first later) few =
     let one = few first_part in

@@ -22,19 +22,19 @@ passes_of stage = map pass_of stage.passes
 abbrev pub listed_in : List order.Pass → List ℕ
 listed_in passes = flat_map (λ (pass : order.Pass). pass.attributes) passes
 
-attributes_of_pass : (stage pass : ℕ) (kind : PassKind) (n : ℕ) (attrs : List ℕ)
+pub attributes_of_pass : (stage pass : ℕ) (kind : PassKind) (n : ℕ) (attrs : List ℕ)
     → attributes_of (entries_from stage pass kind n attrs) ≡ attrs
 attributes_of_pass s p k n [] = refl
 attributes_of_pass s p k n (a ∷ attrs) = ap (λ l. a ∷ l) (attributes_of_pass s p k (n + 1) attrs)
 
-attributes_of_passes : (stage n : ℕ) (ps : List Pass)
+pub attributes_of_passes : (stage n : ℕ) (ps : List Pass)
     → attributes_of (passes_from stage n ps) ≡ listed_in (map pass_of ps)
 attributes_of_passes s n [] = refl
 attributes_of_passes s n (p ∷ ps) =
     map-append (λ (e : Entry). e.attr) (entries_of_pass s n p.kind p.attrs) (passes_from s (n + 1) ps)
     ∙ ap₂ (λ a b. a ++ b) (attributes_of_pass s n p.kind 0 p.attrs) (attributes_of_passes s (n + 1) ps)
 
-attributes_of_stages : (n : ℕ) (ss : List Stage) → attributes_of (stages_from n ss) ≡ entries (map passes_of ss)
+pub attributes_of_stages : (n : ℕ) (ss : List Stage) → attributes_of (stages_from n ss) ≡ entries (map passes_of ss)
 attributes_of_stages n [] = refl
 attributes_of_stages n (s ∷ ss) =
     map-append (λ (e : Entry). e.attr) (entries_of_stage n s.passes) (stages_from (n + 1) ss)

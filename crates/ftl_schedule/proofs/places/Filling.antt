@@ -24,10 +24,10 @@ pub record IsFilled (all left : List Entry) (count : ℕ) (rows : List (Option S
   pub below : AreBelow count (attributes_of left)
 
 -- no place
-abbrev nothing : Option SchedulePlace
+abbrev pub nothing : Option SchedulePlace
 nothing = None
 
-nothing_there : (n a : ℕ) → get_or (replicate n nothing) a nothing ≡ nothing
+pub nothing_there : (n a : ℕ) → get_or (replicate n nothing) a nothing ≡ nothing
 nothing_there n a =
     ⊎_elim (λ low. get_or-replicate n a nothing nothing low)
     (λ high. get_or_past (replicate n nothing) a nothing (subst (λ m. m ≤ a) (sym (length-replicate n nothing)) high))
@@ -53,7 +53,7 @@ pub data Same (a x : ℕ) : Type 0 where
   same : a ≡ x → Same a x
   differ : a ≢ x → (a == x) ≡ false → Same a x
 
-compare : (a x : ℕ) → Same a x
+pub compare : (a x : ℕ) → Same a x
 compare a x = by (a == x) refl
   where
     by : (b : Bool) → (a == x) ≡ b → Same a x

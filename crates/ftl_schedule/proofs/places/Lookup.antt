@@ -20,7 +20,7 @@ abbrev pub or_place : Option SchedulePlace → Option SchedulePlace → Option S
 or_place (Some x) later = Some x
 or_place None later = later
 
-entry_of-append : (xs ys : List Entry) (a : ℕ) → entry_of (xs ++ ys) a ≡ or_place (entry_of xs a) (entry_of ys a)
+pub entry_of-append : (xs ys : List Entry) (a : ℕ) → entry_of (xs ++ ys) a ≡ or_place (entry_of xs a) (entry_of ys a)
 entry_of-append [] ys a = refl
 entry_of-append (e ∷ xs) ys a =
     elim (a == e.attr) as
@@ -31,10 +31,10 @@ entry_of-append (e ∷ xs) ys a =
     ]
 
 -- a place by its numbers
-abbrev schedule_place : (stage pass : ℕ) → PassKind → (index : ℕ) → SchedulePlace
+abbrev pub schedule_place : (stage pass : ℕ) → PassKind → (index : ℕ) → SchedulePlace
 schedule_place s p k n = record { stage = s; pass = p; kind = k; index = n }
 
-in_pass : (s p : ℕ) (k : PassKind) (n : ℕ) (attrs : List ℕ) (a : ℕ)
+pub in_pass : (s p : ℕ) (k : PassKind) (n : ℕ) (attrs : List ℕ) (a : ℕ)
     → entry_of (entries_from s p k n attrs) a
     ≡ (if is_listed attrs a then Some (schedule_place s p k (n + place_in attrs a)) else None)
 in_pass s p k n [] a = refl
@@ -47,14 +47,14 @@ in_pass s p k n (x ∷ xs) a =
       | false ↦ in_pass s p k (n + 1) xs a ∙ ap (λ i. if is_listed xs a then Some (schedule_place s p k i) else None) (omega arith)
     ]
 
-in_whole_pass : (s p : ℕ) (k : PassKind) (attrs : List ℕ) (a : ℕ)
+pub in_whole_pass : (s p : ℕ) (k : PassKind) (attrs : List ℕ) (a : ℕ)
     → entry_of (entries_of_pass s p k attrs) a
     ≡ (if is_listed attrs a then Some (schedule_place s p k (place_in attrs a)) else None)
 in_whole_pass s p k attrs a =
     in_pass s p k 0 attrs a ∙ ap (λ i. if is_listed attrs a then Some (schedule_place s p k i) else None) (omega arith)
 
 -- where an attribute stands in passes of a stage, of which the first has this number
-abbrev schedule_place_in : (stage n : ℕ) → List order.Pass → ℕ → order.SchedulePlace
+abbrev pub schedule_place_in : (stage n : ℕ) → List order.Pass → ℕ → order.SchedulePlace
 schedule_place_in s n os a =
     record {
       stage = s;
@@ -63,7 +63,7 @@ schedule_place_in s n os a =
       index = place_in (get_or os (order.pass_of os a) empty_pass).attributes a;
     }
 
-in_passes : (s n : ℕ) (ps : List Pass) (a : ℕ)
+pub in_passes : (s n : ℕ) (ps : List Pass) (a : ℕ)
     → option_map schedule_place_meant (entry_of (passes_from s n ps) a)
     ≡ (if has_entry (map pass_of ps) a then Some (schedule_place_in s n (map pass_of ps) a) else None)
 in_passes s n [] a = refl
@@ -103,7 +103,7 @@ by_passes s os a =
       index = place_in (get_or os (order.pass_of os a) empty_pass).attributes a;
     }
 
-in_stage : (s : ℕ) (ps : List Pass) (a : ℕ)
+pub in_stage : (s : ℕ) (ps : List Pass) (a : ℕ)
     → option_map schedule_place_meant (entry_of (entries_of_stage s ps) a)
     ≡ (if has_entry (map pass_of ps) a then Some (by_passes s (map pass_of ps) a) else None)
 in_stage s ps a =
@@ -134,7 +134,7 @@ has_entry_where (o ∷ os) a =
     ∙ sym (listed-append o.attributes (listed_in os) a)
 
 -- where an attribute stands in stages, of which the first has this number
-abbrev schedule_place_from : (n : ℕ) → order.Schedule → ℕ → order.SchedulePlace
+abbrev pub schedule_place_from : (n : ℕ) → order.Schedule → ℕ → order.SchedulePlace
 schedule_place_from n os a =
     record {
       stage = n + stage_of os a;
@@ -144,7 +144,7 @@ schedule_place_from n os a =
     }
 
 -- the same, by the stage
-abbrev schedule_place_by : (n : ℕ) → order.Schedule → (stage : ℕ) → ℕ → order.SchedulePlace
+abbrev pub schedule_place_by : (n : ℕ) → order.Schedule → (stage : ℕ) → ℕ → order.SchedulePlace
 schedule_place_by n os m a =
     record {
       stage = n + m;

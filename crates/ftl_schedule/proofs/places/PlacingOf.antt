@@ -18,7 +18,7 @@ abbrev pub no_schedule_place : (stages : ℕ) → order.SchedulePlace
 no_schedule_place n = record { stage = n; pass = 0; kind = topdown; index = 0 }
 
 -- without an entry, no stage lists the attribute
-past_stages : (os : order.Schedule) (a : ℕ) → is_listed (entries os) a ≡ false → stage_of os a ≡ length os
+pub past_stages : (os : order.Schedule) (a : ℕ) → is_listed (entries os) a ≡ false → stage_of os a ≡ length os
 past_stages [] a none = refl
 past_stages (o ∷ os) a none = by (past_stages os a) (has_entry o a) refl
   where
@@ -33,7 +33,7 @@ past_stages (o ∷ os) a none = by (past_stages os a) (has_entry o a) refl
         ∙ ap (λ c. if c then true else is_listed (entries os) a) (sym (has_entry_where o a) ∙ e)) ∙ none))
 
 -- the place by the stage
-abbrev by_stage : order.Schedule → (stage : ℕ) → ℕ → order.SchedulePlace
+abbrev pub by_stage : order.Schedule → (stage : ℕ) → ℕ → order.SchedulePlace
 by_stage os m a =
     record {
       stage = m;
@@ -42,7 +42,7 @@ by_stage os m a =
       index = place_in (get_or (get_or os m []) (order.pass_of (get_or os m []) a) empty_pass).attributes a;
     }
 
-without_entry : (os : order.Schedule) (a : ℕ) → is_listed (entries os) a ≡ false → placing_of os a ≡ no_schedule_place (length os)
+pub without_entry : (os : order.Schedule) (a : ℕ) → is_listed (entries os) a ≡ false → placing_of os a ≡ no_schedule_place (length os)
 without_entry os a none =
     ap (λ m. by_stage os m a) (past_stages os a none)
     ∙ ap (λ ps. by_passes (length os) ps a) (get_or_past os (length os) [] (omega arith))
@@ -53,7 +53,7 @@ found_or_past n None = no_schedule_place n
 found_or_past n (Some x) = schedule_place_meant x
 
 -- the place by its stage, where the attribute has an entry
-in_schedule : (s : Schedule) (a : ℕ)
+pub in_schedule : (s : Schedule) (a : ℕ)
     → option_map schedule_place_meant (entry_of (all_entries s) a)
     ≡ (if is_listed (entries (stages_of s)) a then Some (placing_of (stages_of s) a) else None)
 in_schedule s a =

@@ -17,7 +17,7 @@ use Rattle.ftl_schedule.specs.declared.stages.types.Schedule.{Schedule}
 use Rattle.ftl_schedule.specs.printing.WrittenOf.{AreStagesKnown}
 
 -- what holds of all that a list has
-each_of : {X : Type 0} (P : X → Type 0) (xs : List X) → ((x : X) → Contains xs x → P x) → All P xs
+pub each_of : {X : Type 0} (P : X → Type 0) (xs : List X) → ((x : X) → Contains xs x → P x) → All P xs
 each_of P xs holds k d within = holds _ (All-contains_itself xs k d within)
 
 -- an attribute of a pass is an entry of its schedule

@@ -46,7 +46,7 @@ use Rattle.ftl_checked.proofs.lookup.Standing.{IsOwn, IsShared, own_is_in, share
 -- ---- places of names
 
 -- a name stands at its place, where no name stands twice
-place_of_name : (ns : List NameText) (i : ℕ) (d : NameText) → AreDistinct ns → i < length ns
+pub place_of_name : (ns : List NameText) (i : ℕ) (d : NameText) → AreDistinct ns → i < length ns
     → position_or_len (bytes_eq (get_or ns i d)) ns ≡ i
 place_of_name [] i d differ below = absurd (let z : ⊥ = omega (arith, below) in z)
 place_of_name (x ∷ xs) zero d differ below =
@@ -59,7 +59,7 @@ place_of_name (x ∷ xs) (suc i) d differ below =
     ∙ (let z : 1 + i ≡ suc i = omega arith in z)
 
 -- a name that isn't there has no place
-no_place : (name : NameText) (ns : List NameText) → (Contains ns name → ⊥) → position_or_len (bytes_eq name) ns ≡ length ns
+pub no_place : (name : NameText) (ns : List NameText) → (Contains ns name → ⊥) → position_or_len (bytes_eq name) ns ≡ length ns
 no_place name [] apart = refl
 no_place name (x ∷ xs) apart =
     ap (λ b. cond (not b) (1 + position_or_len (bytes_eq name) xs) 0)
@@ -68,7 +68,7 @@ no_place name (x ∷ xs) apart =
     ∙ (let z : 1 + length xs ≡ suc (length xs) = omega arith in z)
 
 -- an attribute is found by its name, where no two have one name
-found_at : (xs : List AttrDecl) (start i : ℕ) (d : AttrDecl) → AreDistinct (attribute_names xs) → i < length xs
+pub found_at : (xs : List AttrDecl) (start i : ℕ) (d : AttrDecl) → AreDistinct (attribute_names xs) → i < length xs
     → find_attribute (get_or xs i d).name (numbered start xs) ≡ Some (start + i, get_or xs i d)
 found_at [] start i d differ below = absurd (let z : ⊥ = omega (arith, below) in z)
 found_at (x ∷ xs) start zero d differ below =
@@ -83,19 +83,19 @@ found_at (x ∷ xs) start (suc i) d differ below =
     ∙ found_at xs (suc start) i d differ.1 within
     ∙ ap (λ m. Some (m, get_or xs i d)) (let z : suc start + i ≡ start + suc i = omega arith in z)
 
-names_of_numbered : (n : ℕ) (xs : List AttrDecl) → map (λ a. a.1.name) (numbered n xs) ≡ attribute_names xs
+pub names_of_numbered : (n : ℕ) (xs : List AttrDecl) → map (λ a. a.1.name) (numbered n xs) ≡ attribute_names xs
 names_of_numbered n [] = refl
 names_of_numbered n (x ∷ xs) = ap (λ ns. x.name ∷ ns) (names_of_numbered (suc n) xs)
 
 -- ---- kinds
 
-shared_kind : (k : AttrKind) → IsSharedKind k → sort_of k ≢ model.input → is_shared_computed k ≡ true
+pub shared_kind : (k : AttrKind) → IsSharedKind k → sort_of k ≢ model.input → is_shared_computed k ≡ true
 shared_kind kinds.Inh may computed = refl
 shared_kind kinds.Syn may computed = refl
 shared_kind kinds.Input may computed = absurd (computed refl)
 shared_kind kinds.Local may computed = absurd may
 
-own_kind : (k : AttrKind) → IsOwnKind k → sort_of k ≢ model.input → is_own_computed k ≡ true
+pub own_kind : (k : AttrKind) → IsOwnKind k → sort_of k ≢ model.input → is_own_computed k ≡ true
 own_kind kinds.Inh may computed = absurd may
 own_kind kinds.Syn may computed = absurd may
 own_kind kinds.Input may computed = absurd (computed refl)
@@ -103,13 +103,13 @@ own_kind kinds.Local may computed = refl
 
 -- ---- what is named again
 
-each_same : {X Y : Type 0} (f : X → Result Y ScheduleFault) (h : Y → X) (ys : List Y)
+pub each_same : {X Y : Type 0} (f : X → Result Y ScheduleFault) (h : Y → X) (ys : List Y)
     → ((y : Y) → Contains ys y → f (h y) ≡ Ok y) → each f (map h ys) ≡ Ok ys
 each_same f h [] same = refl
 each_same f h (y ∷ ys) same =
     ap₂ before (same y (here_in y ys)) (each_same f h ys (λ z later. same z (later_in y z ys later)))
 
-abbrev no_attribute : AttrDecl
+abbrev pub no_attribute : AttrDecl
 no_attribute = trees.attr_decl kinds.Inh []
 
 module _ (g : Grammar) (none : first_fault g ≡ None) (has_kinds : HasKinds g) where

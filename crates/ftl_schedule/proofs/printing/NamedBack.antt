@@ -41,7 +41,7 @@ use Rattle.ftl_schedule.proofs.reading.ReadComputed.{chosen, from_either, number
 -- ---- places
 
 -- the name at the place of a name is that name
-name_at_place : (name : NameText) (ns : List NameText) (i : ℕ) (d : NameText) → position_or_len (bytes_eq name) ns ≡ i
+pub name_at_place : (name : NameText) (ns : List NameText) (i : ℕ) (d : NameText) → position_or_len (bytes_eq name) ns ≡ i
     → i < length ns → get_or ns i d ≡ name
 name_at_place name [] i d is below = absurd (let z : ⊥ = omega (arith, below) in z)
 name_at_place name (x ∷ xs) i d is below =
@@ -59,7 +59,7 @@ name_at_place name (x ∷ xs) i d is below =
         ∙ later (omega (arith, below, is))
 
 -- a number that two lists of a row have is in one list
-one_owner : {X Y : Type 0} (f : X → List Y) (e : X) (xs : List X) (i o a : ℕ) → i < length xs → o < length xs
+pub one_owner : {X Y : Type 0} (f : X → List Y) (e : X) (xs : List X) (i o a : ℕ) → i < length xs → o < length xs
     → length (flat_map f (take i xs)) ≤ a → a < length (flat_map f (take i xs)) + length (f (get_or xs i e))
     → length (flat_map f (take o xs)) ≤ a → a < length (flat_map f (take o xs)) + length (f (get_or xs o e)) → i ≡ o
 one_owner f e [] i o a known other after before later end = absurd (let z : ⊥ = omega (arith, known) in z)
@@ -77,19 +77,19 @@ one_owner f e (x ∷ xs) (suc i) (suc o) a known other after before later end =
     (one_owner f e xs i o (a - length (f x)) (omega (arith, known)) (omega (arith, other)) (omega (arith, after, long))
     (omega (arith, before, after, long)) (omega (arith, later, long_other)) (omega (arith, end, later, long_other)))
 
-abbrev no_interface : Interface
+abbrev pub no_interface : Interface
 no_interface = trees.interface [] [] []
 
-abbrev no_class : Class
+abbrev pub no_class : Class
 no_class = trees.class [] [] [] [] []
 
-abbrev no_attribute : AttrDecl
+abbrev pub no_attribute : AttrDecl
 no_attribute = trees.attr_decl kinds.Inh []
 
-abbrev attrs_of : Interface → List AttrDecl
+abbrev pub attrs_of : Interface → List AttrDecl
 attrs_of x = x.attrs
 
-abbrev own_attrs_of : Class → List AttrDecl
+abbrev pub own_attrs_of : Class → List AttrDecl
 own_attrs_of x = x.attrs
 
 module _ (g : Grammar) where

@@ -26,14 +26,14 @@ use Rattle.ftl_schedule.specs.text.ScheduleText.{HasNames}
 use Rattle.ftl_schedule.specs.printing.WrittenOf.{name_of}
 
 -- what is said of all lists, one after another, is said of each
-each_of : {X Y : Type 0} (P : Y → Type 0) (f : X → List Y) (xs : List X) → Each P (flat_map f xs) → (x : X)
+pub each_of : {X Y : Type 0} (P : Y → Type 0) (f : X → List Y) (xs : List X) → Each P (flat_map f xs) → (x : X)
     → Contains xs x → Each P (f x)
 each_of P f [] said x there = absurd (nothing_in x there)
 each_of P f (y ∷ ys) said x there =
     ⊎_elim (λ same. subst (λ z. Each P (f z)) same (each-left P (f y) (flat_map f ys) said))
     (λ later. each_of P f ys (each-right P (f y) (flat_map f ys) said) x later) (in_cases y x ys there)
 
-abbrev no_attribute : AttrDecl
+abbrev pub no_attribute : AttrDecl
 no_attribute = trees.attr_decl kinds.Inh []
 
 module _ (g : Grammar) (said : Each Said (grammar_tokens g)) where

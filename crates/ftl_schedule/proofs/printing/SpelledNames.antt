@@ -24,43 +24,43 @@ PassNames p = All HasNames p.attrs
 abbrev pub StageNames : WrittenStage → Type 0
 StageNames s = All PassNames s.passes
 
-attribute_said : {ts : Tokens} {x : AttributeName} → SpellsAttribute ts x → Each Said ts → HasNames x
+pub attribute_said : {ts : Tokens} {x : AttributeName} → SpellsAttribute ts x → Each Said ts → HasNames x
 attribute_said attribute_of said = (said.0, said.1.1.0)
 
-attributes_said : {ts : Tokens} {xs : List AttributeName} → SpellsAttributes ts xs → Each Said ts
+pub attributes_said : {ts : Tokens} {xs : List AttributeName} → SpellsAttributes ts xs → Each Said ts
     → AllByRecursion HasNames xs
 attributes_said no_attributes said = tt
 attributes_said (more_attributes {a = a} {b = b} s t) said =
     (attribute_said s (each-left Said a b said), attributes_said t (each-right Said a b said))
 
-pass_said : {ts : Tokens} {x : WrittenPass} → SpellsPass ts x → Each Said ts → PassNames x
+pub pass_said : {ts : Tokens} {x : WrittenPass} → SpellsPass ts x → Each Said ts → PassNames x
 pass_said (pass_of {a = a} {xs = xs} s) said =
     All-from_recursion HasNames xs (attributes_said s (each-left Said a (fixed kind.RightBrace ∷ []) said.1.1))
 
-passes_said : {ts : Tokens} {xs : List WrittenPass} → SpellsPasses ts xs → Each Said ts → AllByRecursion PassNames xs
+pub passes_said : {ts : Tokens} {xs : List WrittenPass} → SpellsPasses ts xs → Each Said ts → AllByRecursion PassNames xs
 passes_said (one_pass s) said = (pass_said s said, tt)
 passes_said (more_passes {a = a} {b = b} s t) said = (
   pass_said s (each-left Said a (fixed kind.OrOr ∷ b) said),
   passes_said t (each-right Said a (fixed kind.OrOr ∷ b) said).1,
 )
 
-stage_said : {ts : Tokens} {x : WrittenStage} → SpellsStage ts x → Each Said ts → StageNames x
+pub stage_said : {ts : Tokens} {x : WrittenStage} → SpellsStage ts x → Each Said ts → StageNames x
 stage_said (stage_of {xs = xs} s) said = All-from_recursion PassNames xs (passes_said s said)
 
-stages_said : {ts : Tokens} {xs : List WrittenStage} → SpellsStages ts xs → Each Said ts → AllByRecursion StageNames xs
+pub stages_said : {ts : Tokens} {xs : List WrittenStage} → SpellsStages ts xs → Each Said ts → AllByRecursion StageNames xs
 stages_said (one_stage s) said = (stage_said s said, tt)
 stages_said (more_stages {a = a} {b = b} s t) said = (
   stage_said s (each-left Said a (fixed kind.Semicolon ∷ b) said),
   stages_said t (each-right Said a (fixed kind.Semicolon ∷ b) said).1,
 )
 
-schedule_said : {ts : Tokens} {s : WrittenSchedule} → SpellsSchedule ts s → Each Said ts
+pub schedule_said : {ts : Tokens} {s : WrittenSchedule} → SpellsSchedule ts s → Each Said ts
     → AllByRecursion StageNames s.stages
 schedule_said no_stages said = tt
 schedule_said (stages_of s) said = stages_said s said
 
 -- a stage with a pass has some passes
-has_pass : (stages : List WrittenStage) → AllByRecursion HasSome stages
+pub has_pass : (stages : List WrittenStage) → AllByRecursion HasSome stages
     → AllByRecursion (λ (s : WrittenStage). s.passes ≢ []) stages
 has_pass [] some = tt
 has_pass (s ∷ stages) some =

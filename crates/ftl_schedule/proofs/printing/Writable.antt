@@ -22,11 +22,11 @@ use Rattle.ftl_schedule.specs.printing.WrittenOf.{stage_by_name, written_of}
 use Rattle.ftl_schedule.proofs.printing.SpelledNames.{PassNames, StageNames}
 
 -- the passes of a stage
-abbrev passes_in : Stage → List order.Pass
+abbrev pub passes_in : Stage → List order.Pass
 passes_in stage = map pass_of stage.passes
 
 -- each entry's name has what each entry's number has
-each_named : {X Y : Type 0} (P : X → Type 0) (Q : Y → Type 0) (f : X → Y) (xs : List X) → ((x : X) → P x → Q (f x))
+pub each_named : {X Y : Type 0} (P : X → Type 0) (Q : Y → Type 0) (f : X → Y) (xs : List X) → ((x : X) → P x → Q (f x))
     → All P xs → All Q (map f xs)
 each_named P Q f xs gives all = All-map Q f xs (λ k d within. gives _ (all k d within))
 

@@ -24,37 +24,37 @@ use Rattle.ftl_schedule.proofs.check.NeverMemory.{if_never}
 
 -- ---- the definitions never answer want of memory
 
-beside_never : (n : ℕ) (stages : List WrittenStage) → beside_fault n stages ≢ Some OutOfMemory
+pub beside_never : (n : ℕ) (stages : List WrittenStage) → beside_fault n stages ≢ Some OutOfMemory
 beside_never n [] = λ e. cc
 beside_never n (s ∷ more) =
     if_never OutOfMemory (nat_lt 4 (length s.passes)) (Some (TooManyBeside n (length s.passes))) (beside_fault (n + 1) more)
     (λ e. cc) (beside_never (n + 1) more)
 
-limit_never : (stages : List WrittenStage) → limit_fault stages ≢ Some OutOfMemory
+pub limit_never : (stages : List WrittenStage) → limit_fault stages ≢ Some OutOfMemory
 limit_never stages =
     if_never OutOfMemory (nat_lt 2048 (pass_count stages)) (Some (TooManyPasses (pass_count stages))) (beside_fault 1 stages)
     (λ e. cc) (beside_never 1 stages)
 
-made_never : {X Y : Type 0} (f : X → Y) (r : Result X ScheduleFault) → r ≢ Err OutOfMemory
+pub made_never : {X Y : Type 0} (f : X → Y) (r : Result X ScheduleFault) → r ≢ Err OutOfMemory
     → made_of f r ≢ Err OutOfMemory
 made_never f (Ok x) told = λ e. cc
 made_never f (Err fault) told = λ e. told cc
 
-before_never : {X : Type 0} (r : Result X ScheduleFault) (later : Result (List X) ScheduleFault)
+pub before_never : {X : Type 0} (r : Result X ScheduleFault) (later : Result (List X) ScheduleFault)
     → r ≢ Err OutOfMemory → later ≢ Err OutOfMemory → before r later ≢ Err OutOfMemory
 before_never (Ok x) later p q = made_never _ later q
 before_never (Err fault) later p q = λ e. p cc
 
-each_never : {X Y : Type 0} (f : X → Result Y ScheduleFault) → ((x : X) → f x ≢ Err OutOfMemory) → (xs : List X)
+pub each_never : {X Y : Type 0} (f : X → Result Y ScheduleFault) → ((x : X) → f x ≢ Err OutOfMemory) → (xs : List X)
     → each f xs ≢ Err OutOfMemory
 each_never f never [] = λ e. cc
 each_never f never (x ∷ xs) = before_never (f x) (each f xs) (never x) (each_never f never xs)
 
-number_never : (found : Option ℕ) (x : AttributeName) → number_or found x ≢ Err OutOfMemory
+pub number_never : (found : Option ℕ) (x : AttributeName) → number_or found x ≢ Err OutOfMemory
 number_never (Some a) x = λ e. cc
 number_never None x = λ e. cc
 
-named_never : (g : Grammar) (w : WrittenSchedule) → schedule_named g w ≢ Err OutOfMemory
+pub named_never : (g : Grammar) (w : WrittenSchedule) → schedule_named g w ≢ Err OutOfMemory
 named_never g w =
     made_never _ _
     (each_never (stage_named g)
@@ -67,7 +67,7 @@ named_never g w =
     s.passes))
     w.stages)
 
-unless_never : (fault : Option ScheduleFault) (later : Result Schedule ScheduleFault) → fault ≢ Some OutOfMemory
+pub unless_never : (fault : Option ScheduleFault) (later : Result Schedule ScheduleFault) → fault ≢ Some OutOfMemory
     → later ≢ Err OutOfMemory → unless fault later ≢ Err OutOfMemory
 unless_never None later p q = q
 unless_never (Some fault) later p q = λ e. p cc
@@ -77,7 +77,7 @@ never_memory g w = unless_never (limit_fault w.stages) (schedule_named g w) (lim
 
 -- ---- some answer
 
-is_itself : (r : Result Schedule ScheduleFault) → Is r r
+pub is_itself : (r : Result Schedule ScheduleFault) → Is r r
 is_itself (Ok s) = refl
 is_itself (Err fault) = λ told. refl
 
@@ -110,7 +110,7 @@ some_schedule g scanned = by (schedule (symbols_of scanned)) refl
 
 -- ---- no other
 
-expected_is : (r expected : Result Schedule ScheduleFault) → Is r expected → r ≢ Err OutOfMemory → expected ≡ r
+pub expected_is : (r expected : Result Schedule ScheduleFault) → Is r expected → r ≢ Err OutOfMemory → expected ≡ r
 expected_is (Ok s) expected is told = is
 expected_is (Err fault) expected is told = is (λ same. told (ap Err same))
 

@@ -12,10 +12,10 @@ use Rattle.ftl_schedule.specs.declared.syntax.types.WrittenStage.{WrittenStage}
 use Rattle.ftl_schedule.specs.declared.syntax.types.WrittenSchedule.{WrittenSchedule}
 use Rattle.ftl_schedule.specs.reading.Limits.{pass_count}
 
-pass_some : {ts : Tokens} {p : WrittenPass} → SpellsPass ts p → 1 ≤ length ts
+pub pass_some : {ts : Tokens} {p : WrittenPass} → SpellsPass ts p → 1 ≤ length ts
 pass_some (pass_of s) = omega arith
 
-passes_few : {ts : Tokens} {ps : List WrittenPass} → SpellsPasses ts ps → length ps ≤ length ts
+pub passes_few : {ts : Tokens} {ps : List WrittenPass} → SpellsPasses ts ps → length ps ≤ length ts
 passes_few (one_pass s) = let some = pass_some s in omega (arith, some)
 passes_few (more_passes {a = a} {b = b} s t) =
     let some = pass_some s in
@@ -27,17 +27,17 @@ pub record IsCounted (n : ℕ) (stages : List WrittenStage) : Type 0 where
   pub passes : pass_count stages ≤ n
   pub many : length stages ≤ n
 
-passes_some : {ts : Tokens} {ps : List WrittenPass} → SpellsPasses ts ps → 1 ≤ length ts
+pub passes_some : {ts : Tokens} {ps : List WrittenPass} → SpellsPasses ts ps → 1 ≤ length ts
 passes_some (one_pass s) = pass_some s
 passes_some (more_passes {a = a} {b = b} s t) = omega (arith, length-append a (fixed kind.OrOr ∷ b))
 
-stage_few : {ts : Tokens} {s : WrittenStage} → SpellsStage ts s → length s.passes ≤ length ts
+pub stage_few : {ts : Tokens} {s : WrittenStage} → SpellsStage ts s → length s.passes ≤ length ts
 stage_few (stage_of s) = passes_few s
 
-stage_some : {ts : Tokens} {s : WrittenStage} → SpellsStage ts s → 1 ≤ length ts
+pub stage_some : {ts : Tokens} {s : WrittenStage} → SpellsStage ts s → 1 ≤ length ts
 stage_some (stage_of s) = passes_some s
 
-stages_few : {ts : Tokens} {ss : List WrittenStage} → SpellsStages ts ss → IsCounted (length ts) ss
+pub stages_few : {ts : Tokens} {ss : List WrittenStage} → SpellsStages ts ss → IsCounted (length ts) ss
 stages_few (one_stage s) =
     let few = stage_few s in
     let some = stage_some s in

@@ -39,7 +39,7 @@ use Rattle.ftl_schedule.proofs.reading.ReadFrom.{read_from}
 -- ---- what answers without a fault come from
 
 -- what holds of all that an entry can stand for holds of all that is made of a list
-each_gives : {X Y : Type 0} (f : X → Result Y ScheduleFault) (P : Y → Type 0)
+pub each_gives : {X Y : Type 0} (f : X → Result Y ScheduleFault) (P : Y → Type 0)
     → ((x : X) (y : Y) → f x ≡ Ok y → P y)
     → (xs : List X) (ys : List Y) → each f xs ≡ Ok ys → (y : Y) → Contains ys y → P y
 each_gives f P gives [] ys e y there =
@@ -56,19 +56,19 @@ pub chosen : (b : Bool) (n a : ℕ) → cond b (Some n) None ≡ Some a → (b �
 chosen true n a h = (refl, same_Some n a h)
 chosen false n a h = absurd (none-some a h)
 
-not_input : (k : AttrKind) → is_input k ≡ false → sort_of k ≢ model.input
+pub not_input : (k : AttrKind) → is_input k ≡ false → sort_of k ≢ model.input
 not_input kinds.Inh h e = cc
 not_input kinds.Syn h e = cc
 not_input kinds.Input h e = cc
 not_input kinds.Local h e = cc
 
-shared_not_input : (k : AttrKind) → is_shared_computed k ≡ true → is_input k ≡ false
+pub shared_not_input : (k : AttrKind) → is_shared_computed k ≡ true → is_input k ≡ false
 shared_not_input kinds.Inh h = refl
 shared_not_input kinds.Syn h = refl
 shared_not_input kinds.Input h = cc
 shared_not_input kinds.Local h = refl
 
-own_not_input : (k : AttrKind) → is_own_computed k ≡ true → is_input k ≡ false
+pub own_not_input : (k : AttrKind) → is_own_computed k ≡ true → is_input k ≡ false
 own_not_input kinds.Inh h = refl
 own_not_input kinds.Syn h = refl
 own_not_input kinds.Input h = cc

@@ -18,7 +18,7 @@ pub record IsReadFrom (g : Grammar) (scanned : Tokenized) (s : Schedule) : Type 
   pub limits : limit_fault written.stages ≡ None
   pub named : schedule_named g written ≡ Ok s
 
-without_fault : (o : Option ScheduleFault) (later : Result Schedule ScheduleFault) (s : Schedule)
+pub without_fault : (o : Option ScheduleFault) (later : Result Schedule ScheduleFault) (s : Schedule)
     → unless o later ≡ Ok s → (o ≡ None) × (later ≡ Ok s)
 without_fault (Some fault) later s e = absurd (cc e)
 without_fault None later s e = (refl, e)

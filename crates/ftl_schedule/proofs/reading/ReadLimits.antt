@@ -33,14 +33,14 @@ use Rattle.ftl_schedule.proofs.reading.ReadFrom.{read_from}
 abbrev pub HasSome : WrittenStage → Type 0
 HasSome s = 1 ≤ length s.passes
 
-passes_some : {ts : Tokens} {ps : List WrittenPass} → SpellsPasses ts ps → 1 ≤ length ps
+pub passes_some : {ts : Tokens} {ps : List WrittenPass} → SpellsPasses ts ps → 1 ≤ length ps
 passes_some (one_pass s) = omega arith
 passes_some (more_passes s t) = omega arith
 
-stage_some : {ts : Tokens} {s : WrittenStage} → SpellsStage ts s → HasSome s
+pub stage_some : {ts : Tokens} {s : WrittenStage} → SpellsStage ts s → HasSome s
 stage_some (stage_of s) = passes_some s
 
-stages_some : {ts : Tokens} {ss : List WrittenStage} → SpellsStages ts ss → AllByRecursion HasSome ss
+pub stages_some : {ts : Tokens} {ss : List WrittenStage} → SpellsStages ts ss → AllByRecursion HasSome ss
 stages_some (one_stage s) = (stage_some s, tt)
 stages_some (more_stages s t) = (stage_some s, stages_some t)
 
@@ -50,10 +50,10 @@ schedule_some (stages_of s) = stages_some s
 
 -- ---- what has no fault of the limits is within them
 
-abbrev HasFew : WrittenStage → Type 0
+abbrev pub HasFew : WrittenStage → Type 0
 HasFew s = length s.passes ≤ 4
 
-beside_few : (n : ℕ) (stages : List WrittenStage) → beside_fault n stages ≡ None → AllByRecursion HasFew stages
+pub beside_few : (n : ℕ) (stages : List WrittenStage) → beside_fault n stages ≡ None → AllByRecursion HasFew stages
 beside_few n [] e = tt
 beside_few n (s ∷ more) e = by_test (nat_lt 4 (length s.passes)) refl (λ rest. beside_few (n + 1) more rest) e
   where
@@ -64,7 +64,7 @@ beside_few n (s ∷ more) e = by_test (nat_lt 4 (length s.passes)) refl (λ rest
     by_test true is later e = absurd (cc e)
     by_test false is later e = (ltb-false 4 (length s.passes) is, later e)
 
-limits_kept : (stages : List WrittenStage) → limit_fault stages ≡ None
+pub limits_kept : (stages : List WrittenStage) → limit_fault stages ≡ None
     → (pass_count stages ≤ 2048) × AllByRecursion HasFew stages
 limits_kept stages e = by_test (nat_lt 2048 (pass_count stages)) refl e
   where
@@ -77,11 +77,11 @@ limits_kept stages e = by_test (nat_lt 2048 (pass_count stages)) refl e
 -- ---- names go, and as many entries stay
 
 -- the passes of a stage
-abbrev passes_in : Stage → List order.Pass
+abbrev pub passes_in : Stage → List order.Pass
 passes_in stage = map meaning.pass_of stage.passes
 
 -- the stages have as many passes as the written ones, few in each
-record AreFew (xs : List WrittenStage) (ss : List Stage) : Type 0 where
+pub record AreFew (xs : List WrittenStage) (ss : List Stage) : Type 0 where
   counted : sum_by length (map passes_in ss) ≡ pass_count xs
   each : All HasFewPasses (map passes_in ss)
 

@@ -6,7 +6,7 @@ use Rattle.std.proofs.lemmas.List.Sums.{sum_by-cons}
 use Rattle.ftl_order.specs.orders.Schedule.{Schedule}
 use Rattle.ftl_schedule.specs.stages.PassLimits.{HasFewPasses, IsWithinPassLimits}
 
-stages_within : (s : Schedule) → All HasFewPasses s → length s ≤ sum_by length s
+pub stages_within : (s : Schedule) → All HasFewPasses s → length s ≤ sum_by length s
 stages_within [] each = omega arith
 stages_within (passes ∷ stages) each =
     let some = (All-head HasFewPasses passes stages each).some in
@@ -19,7 +19,7 @@ few_stages s limits =
     let all = limits.all in
     omega (arith, within, all)
 
-few_at : (s : Schedule) → All HasFewPasses s → (stage : ℕ) → length (get_or s stage []) ≤ 4
+pub few_at : (s : Schedule) → All HasFewPasses s → (stage : ℕ) → length (get_or s stage []) ≤ 4
 few_at [] each zero = omega arith
 few_at [] each (suc stage) = omega arith
 few_at (passes ∷ stages) each zero = (All-head HasFewPasses passes stages each).few

@@ -12,7 +12,7 @@ use Rattle.ftl_schedule.specs.syntax.Trees.{NameText, word_of}
 use Rattle.ftl_schedule.specs.syntax.Reading.{take_kind}
 
 -- the kind that the word is of, by three tests
-abbrev kind_if : (top bottom order : Bool) → Option PassKind
+abbrev pub kind_if : (top bottom order : Bool) → Option PassKind
 kind_if top bottom order =
     if top then Some TopDown else (if bottom then Some BottomUp else (if order then Some InOrder else None))
 
@@ -27,12 +27,12 @@ takes_kind (name text) = kind_named text
 takes_kind _ = None
 
 -- both ways to say it
-by_tests : (top bottom order : Bool) (t : Symbol) (ts : Tokens) → ReadResult PassKind
+pub by_tests : (top bottom order : Bool) (t : Symbol) (ts : Tokens) → ReadResult PassKind
 by_tests top bottom order t ts =
     if top then Ok (TopDown, ts)
     else (if bottom then Ok (BottomUp, ts) else (if order then Ok (InOrder, ts) else Err (t ∷ ts)))
 
-by_tests-token : (top bottom order : Bool) (t : Symbol) (ts : Tokens)
+pub by_tests-token : (top bottom order : Bool) (t : Symbol) (ts : Tokens)
     → by_tests top bottom order t ts ≡ token_by (kind_if top bottom order) t ts
 unfolding by_tests
 by_tests-token true bottom order t ts = refl
@@ -60,11 +60,11 @@ takes_kind-same BottomUp = refl
 takes_kind-same InOrder = refl
 
 -- texts that are told to be equal
-same_text : (text word : NameText) → bytes_eq text word ≡ true → text ≡ word
+pub same_text : (text word : NameText) → bytes_eq text word ≡ true → text ≡ word
 same_text text word e = (bytes_eq-Decides text word).0 e
 
 -- the three words tell their kinds
-words_tell : (text : NameText) (top bottom order : Bool) (k : PassKind)
+pub words_tell : (text : NameText) (top bottom order : Bool) (k : PassKind)
     → bytes_eq text (word_of TopDown) ≡ top → bytes_eq text (word_of BottomUp) ≡ bottom
     → bytes_eq text (word_of InOrder) ≡ order → kind_if top bottom order ≡ Some k → text ≡ word_of k
 words_tell text true bottom order k a b c e =

@@ -14,13 +14,13 @@ use Rattle.ftl_schedule.proofs.syntax.KindWords.{kind_is_token}
 use Rattle.ftl_schedule.proofs.syntax.SchedulePrefix.{more_attribute_prefix, more_pass_prefix, more_stage_prefix}
 use Rattle.ftl_schedule.proofs.syntax.Went.{no_peak, some_attribute, some_pass, some_stage}
 
-attribute_alike : Alike no_peak 1 1 attribute attribute
+pub attribute_alike : Alike no_peak 1 1 attribute attribute
 unfolding attribute
 attribute_alike =
     name_alike (λ text ts few. few)
     (λ o. past_alike kind.Dot (λ ts few. few) (name_alike (λ text ts few. few) (λ a. pure_alike)))
 
-more_attribute_alike : Alike no_peak 1 1 more_attribute more_attribute
+pub more_attribute_alike : Alike no_peak 1 1 more_attribute more_attribute
 unfolding more_attribute
 more_attribute_alike = look_alike more_attribute_by more_attribute_by each
   where
@@ -28,11 +28,11 @@ more_attribute_alike = look_alike more_attribute_by more_attribute_by each
     each (Some kind.Name) = alike_at_any (map_alike Some attribute_alike)
     each _ = alike_at_any pure_alike
 
-some_attributes : TakesSome more_attribute
+pub some_attributes : TakesSome more_attribute
 unfolding more_attribute next_kind
 some_attributes = takes_some more_attribute_prefix (λ a x s. some_attribute s) refl
 
-pass_alike : Alike no_peak 1 1 pass pass
+pub pass_alike : Alike no_peak 1 1 pass pass
 unfolding pass
 pass_alike =
     bind_alike (token_alike kind_is_token (λ t ts k e few. few))
@@ -40,7 +40,7 @@ pass_alike =
     (bind_alike (chain_alike push more_attribute_alike some_attributes some_attributes [])
     (λ xs. past_alike kind.RightBrace (λ ts few. few) pure_alike)))
 
-more_pass_alike : Alike no_peak 1 1 more_pass more_pass
+pub more_pass_alike : Alike no_peak 1 1 more_pass more_pass
 unfolding more_pass
 more_pass_alike = look_alike more_pass_by more_pass_by each
   where
@@ -48,17 +48,17 @@ more_pass_alike = look_alike more_pass_by more_pass_by each
     each (Some kind.OrOr) = skip_alike kind.OrOr tt (λ ts few. few) (map_alike Some pass_alike)
     each _ = alike_at_any pure_alike
 
-some_passes : TakesSome more_pass
+pub some_passes : TakesSome more_pass
 unfolding more_pass next_kind
 some_passes = takes_some more_pass_prefix (λ a x s. some_pass s) refl
 
-stage_alike : Alike no_peak 1 1 stage stage
+pub stage_alike : Alike no_peak 1 1 stage stage
 unfolding stage
 stage_alike =
     bind_alike pass_alike
     (λ x. map_alike written_stage (chain_alike push more_pass_alike some_passes some_passes (x ∷ [])))
 
-more_stage_alike : Alike no_peak 1 1 more_stage more_stage
+pub more_stage_alike : Alike no_peak 1 1 more_stage more_stage
 unfolding more_stage
 more_stage_alike = look_alike more_stage_by more_stage_by each
   where
@@ -66,11 +66,11 @@ more_stage_alike = look_alike more_stage_by more_stage_by each
     each (Some kind.Semicolon) = skip_alike kind.Semicolon tt (λ ts few. few) (map_alike Some stage_alike)
     each _ = alike_at_any pure_alike
 
-some_stages : TakesSome more_stage
+pub some_stages : TakesSome more_stage
 unfolding more_stage next_kind
 some_stages = takes_some more_stage_prefix (λ a x s. some_stage s) refl
 
-stages_alike : Alike no_peak 1 1 stages stages
+pub stages_alike : Alike no_peak 1 1 stages stages
 unfolding stages
 stages_alike =
     bind_alike stage_alike

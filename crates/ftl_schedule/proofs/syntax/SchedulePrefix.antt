@@ -30,7 +30,7 @@ use Rattle.ftl_schedule.proofs.syntax.KindWords.{takes_kind, kind_is_token, from
 pub data SpellsKind : Tokens → PassKind → Type 0 where
   kind_of : {k : PassKind} → SpellsKind (name (word_of k) ∷ []) k
 
-kind_prefix : KeepsPrefix SpellsKind take_kind
+pub kind_prefix : KeepsPrefix SpellsKind take_kind
 kind_prefix = record { keeps = λ ts. subst (λ o. HasPrefix SpellsKind o ts) (sym (kind_is_token.reads ts)) (go ts) }
   where
     refused : (ts : Tokens) → HasPrefix SpellsKind (Err ts) ts
@@ -52,7 +52,7 @@ kind_prefix = record { keeps = λ ts. subst (λ o. HasPrefix SpellsKind o ts) (s
     go [] = refused []
     go (t ∷ ts) = by_case (takes_kind t) t ts refl
 
-attribute_prefix : KeepsPrefix SpellsAttribute attribute
+pub attribute_prefix : KeepsPrefix SpellsAttribute attribute
 unfolding attribute
 attribute_prefix =
     name_prefix (λ o. example (fixed kind.Dot ∷ name [] ∷ []) (attribute_name o []) attribute_of)
@@ -67,19 +67,19 @@ more_attribute_prefix = look_prefix more_attribute_by each
     each (Some kind.Name) = at_any (map_prefix Some attribute_prefix (λ a x s. s))
     each _ = at_any (pure_prefix refl)
 
-attributes_spell : {a : Tokens} {xs : List AttributeName} → Chain push SpellsAttribute [] a xs → SpellsAttributes a xs
+pub attributes_spell : {a : Tokens} {xs : List AttributeName} → Chain push SpellsAttribute [] a xs → SpellsAttributes a xs
 attributes_spell all = chain_spells SpellsAttributes no_attributes (λ a b x xs s t. more_attributes s t) all
 
 -- ---- passes
 
-pass_rest : PassKind → Reader WrittenPass
+pub pass_rest : PassKind → Reader WrittenPass
 pass_rest k = do
   expect kind.LeftBrace
   xs ← chain_of push more_attribute []
   expect kind.RightBrace
   pure (written_pass k xs)
 
-pass_rest_prefix : (k : PassKind) → KeepsPrefix (After (name (word_of k) ∷ []) SpellsPass) (pass_rest k)
+pub pass_rest_prefix : (k : PassKind) → KeepsPrefix (After (name (word_of k) ∷ []) SpellsPass) (pass_rest k)
 unfolding pass_rest
 pass_rest_prefix k =
     past_prefix kind.LeftBrace (example (fixed kind.RightBrace ∷ []) (written_pass k []) (pass_of no_attributes))
@@ -113,19 +113,19 @@ more_pass_prefix = look_prefix more_pass_by each
     each _ = at_any (pure_prefix refl)
 
 -- what may stand between a pass and the end of its stage
-record MorePasses (b : Tokens) (xs : List WrittenPass) : Type 0 where
+pub record MorePasses (b : Tokens) (xs : List WrittenPass) : Type 0 where
   after : (a : Tokens) (x : WrittenPass) → SpellsPass a x → SpellsPasses (a ++ b) (x ∷ xs)
 
-no_more_passes : MorePasses [] []
+pub no_more_passes : MorePasses [] []
 no_more_passes = record {
   after = λ a x s. subst (λ l. SpellsPasses l (x ∷ [])) (sym (append-nil a)) (one_pass s);
 }
 
-one_more_pass : (a b : Tokens) (x : WrittenPass) (xs : List WrittenPass) → MorePass a x → MorePasses b xs
+pub one_more_pass : (a b : Tokens) (x : WrittenPass) (xs : List WrittenPass) → MorePass a x → MorePasses b xs
     → MorePasses (a ++ b) (x ∷ xs)
 one_more_pass a b x xs (more_pass_of {a = c} s) rest = record { after = λ d y t. more_passes t (rest.after c x s) }
 
-passes_turn : (a b : Tokens) (x : WrittenPass) (xs : List WrittenPass) → SpellsPass a x
+pub passes_turn : (a b : Tokens) (x : WrittenPass) (xs : List WrittenPass) → SpellsPass a x
     → Chain push MorePass (x ∷ []) b xs → SpellsPasses (a ++ b) xs
 passes_turn a b x xs s all =
     let added = chain_added MorePasses no_more_passes one_more_pass all in
@@ -155,19 +155,19 @@ more_stage_prefix = look_prefix more_stage_by each
     each _ = at_any (pure_prefix refl)
 
 -- what may stand between a stage and the end of the schedule
-record MoreStages (b : Tokens) (xs : List WrittenStage) : Type 0 where
+pub record MoreStages (b : Tokens) (xs : List WrittenStage) : Type 0 where
   after : (a : Tokens) (x : WrittenStage) → SpellsStage a x → SpellsStages (a ++ b) (x ∷ xs)
 
-no_more_stages : MoreStages [] []
+pub no_more_stages : MoreStages [] []
 no_more_stages = record {
   after = λ a x s. subst (λ l. SpellsStages l (x ∷ [])) (sym (append-nil a)) (one_stage s);
 }
 
-one_more_stage : (a b : Tokens) (x : WrittenStage) (xs : List WrittenStage) → MoreStage a x → MoreStages b xs
+pub one_more_stage : (a b : Tokens) (x : WrittenStage) (xs : List WrittenStage) → MoreStage a x → MoreStages b xs
     → MoreStages (a ++ b) (x ∷ xs)
 one_more_stage a b x xs (more_stage_of {a = c} s) rest = record { after = λ d y t. more_stages t (rest.after c x s) }
 
-stages_turn : (a b : Tokens) (x : WrittenStage) (xs : List WrittenStage) → SpellsStage a x
+pub stages_turn : (a b : Tokens) (x : WrittenStage) (xs : List WrittenStage) → SpellsStage a x
     → Chain push MoreStage (x ∷ []) b xs → SpellsSchedule (a ++ (b ++ [])) (written_schedule xs)
 stages_turn a b x xs s all =
     let added = chain_added MoreStages no_more_stages one_more_stage all in
@@ -175,7 +175,7 @@ stages_turn a b x xs s all =
     subst (λ l. SpellsStages (a ++ b) l) (sym added.all) (added.spells.after a x s) in
     subst (λ l. SpellsSchedule (a ++ l) (written_schedule xs)) (sym (append-nil b)) (stages_of spells)
 
-stages_prefix : KeepsPrefix SpellsSchedule stages
+pub stages_prefix : KeepsPrefix SpellsSchedule stages
 unfolding stages
 stages_prefix =
     bind_prefix stage_prefix

@@ -26,20 +26,20 @@ one_written_schedule tokens s t a b = same_value (schedule_went a).reads (schedu
 
 -- ---- what the reader answers
 
-stages_read_all : ReadsAll stages
+pub stages_read_all : ReadsAll stages
 unfolding stages
 stages_read_all =
     bind_reads_all stage
     (λ x. bind_reads_all (chain_of push more_stage (x ∷ [])) (λ (xs : List WrittenStage). end_reads_all (written_schedule xs)))
 
 -- no token comes next in an empty list alone
-none_next : (ts : Tokens) → next_kind ts ≡ None → ts ≡ []
+pub none_next : (ts : Tokens) → next_kind ts ≡ None → ts ≡ []
 unfolding next_kind
 none_next [] e = refl
 none_next (t ∷ ts) e = cc
 
 -- by the kind of the first token
-read_by : (k : Option Kind) (tokens left : Tokens) (s : WrittenSchedule) → next_kind tokens ≡ k
+pub read_by : (k : Option Kind) (tokens left : Tokens) (s : WrittenSchedule) → next_kind tokens ≡ k
     → schedule_by k tokens ≡ got s left → left ≡ []
 read_by None tokens left s e read =
     let same : tokens ≡ left = ap rest_left read in sym same ∙ none_next tokens e
@@ -61,10 +61,10 @@ is_spelled tokens left s e =
     subst (λ l. SpellsSchedule l s) (sym whole) taken.spells
 
 -- the reader looks one token ahead, and reads all that is spelled
-placed : Placed SpellsSchedule no_peak 1 1 schedule (λ k. schedule)
+pub placed : Placed SpellsSchedule no_peak 1 1 schedule (λ k. schedule)
 placed = record { alike = λ k. schedule_alike; reads = λ spells k few. (schedule_went spells).reads }
 
-few : (ts : Tokens) → no_peak ts < 1
+pub few : (ts : Tokens) → no_peak ts < 1
 few ts = omega arith
 
 -- where the reader refuses a token, no schedule is spelled, and the tokens go wrong there

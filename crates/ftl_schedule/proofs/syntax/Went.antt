@@ -35,7 +35,7 @@ no_peak ts = 0
 abbrev pub Whole : {A : Type 0} → Reader A → Tokens → A → Tokens → Type 0
 Whole p ts x rest = Went no_peak p ts x rest 1
 
-small : (ts : Tokens) → no_peak ts < 1
+pub small : (ts : Tokens) → no_peak ts < 1
 small ts = omega arith
 
 -- what the next token goes on with: an attribute, a pass, a stage, or none of them
@@ -49,21 +49,21 @@ part _ = 0
 abbrev pub Ends : ℕ → Tokens → Type 0
 Ends n rest = part (next_kind rest) < n
 
-attribute_other : (k : Option Kind) → part k < 3 → more_attribute_by k ≡ pure None
+pub attribute_other : (k : Option Kind) → part k < 3 → more_attribute_by k ≡ pure None
 attribute_other (Some kind.Name) e = absurd (omega arith)
 attribute_other _ e = refl
 
-pass_other : (k : Option Kind) → part k < 2 → more_pass_by k ≡ pure None
+pub pass_other : (k : Option Kind) → part k < 2 → more_pass_by k ≡ pure None
 pass_other (Some kind.OrOr) e = absurd (omega arith)
 pass_other _ e = refl
 
-stage_other : (k : Option Kind) → part k < 1 → more_stage_by k ≡ pure None
+pub stage_other : (k : Option Kind) → part k < 1 → more_stage_by k ≡ pure None
 stage_other (Some kind.Semicolon) e = absurd (omega arith)
 stage_other _ e = refl
 
 -- ---- passes
 
-more_attribute_went : {a : Tokens} {x : AttributeName} → SpellsAttribute a x → (rest : Tokens)
+pub more_attribute_went : {a : Tokens} {x : AttributeName} → SpellsAttribute a x → (rest : Tokens)
     → Whole more_attribute (a ++ rest) (Some x) rest
 unfolding more_attribute attribute next_kind
 more_attribute_went (attribute_of {o = o} {a = a}) rest =
@@ -72,14 +72,14 @@ more_attribute_went (attribute_of {o = o} {a = a}) rest =
     (went_name (λ l. expect kind.Dot >> (take_name >>= (λ m. pure (attribute_name l m))))
     (went_past kind.Dot (went_name (λ m. pure (attribute_name o m)) (went_pure (small rest))))))
 
-attribute_stops : (rest : Tokens) → Ends 3 rest → more_attribute rest ≡ got None rest
+pub attribute_stops : (rest : Tokens) → Ends 3 rest → more_attribute rest ≡ got None rest
 unfolding more_attribute
 attribute_stops rest e = ap (λ p. p rest) (attribute_other (next_kind rest) e)
 
 pub some_attribute : {a : Tokens} {x : AttributeName} → SpellsAttribute a x → 0 < length a
 some_attribute attribute_of = omega arith
 
-attributes_went : CompleteItem no_peak 1 (Ends 3) (λ rest. Unit {0}) SpellsAttribute more_attribute
+pub attributes_went : CompleteItem no_peak 1 (Ends 3) (λ rest. Unit {0}) SpellsAttribute more_attribute
 attributes_went = record {
   found = λ s rest follows few. more_attribute_went s rest;
   stops = attribute_stops;
@@ -88,14 +88,14 @@ attributes_went = record {
   some = some_attribute;
 }
 
-attributes_chain : (found : List AttributeName) {a : Tokens} {xs : List AttributeName} → SpellsAttributes a xs
+pub attributes_chain : (found : List AttributeName) {a : Tokens} {xs : List AttributeName} → SpellsAttributes a xs
     → Chain push SpellsAttribute found a (found ++ xs)
 attributes_chain found no_attributes = chain_none found
 attributes_chain found (more_attributes {a = a} {b = b} {x = x} {xs = xs} s t) =
     chain_more a b x xs s (attributes_chain (push found x) t)
 
 -- the word of a kind is taken
-kind_went : {B : Type 0} {r s : Tokens} {y : B} (f : PassKind → Reader B) (k : PassKind) → Whole (f k) r y s
+pub kind_went : {B : Type 0} {r s : Tokens} {y : B} (f : PassKind → Reader B) (k : PassKind) → Whole (f k) r y s
     → Whole (take_kind >>= f) (name (word_of k) ∷ r) y s
 kind_went {r = r} f k went =
     went_bind f
@@ -122,19 +122,19 @@ pass_went (pass_of {k = k} {a = a} {xs = xs} s) rest =
 
 -- ---- stages
 
-more_pass_went : {a : Tokens} {x : WrittenPass} → MorePass a x → (rest : Tokens)
+pub more_pass_went : {a : Tokens} {x : WrittenPass} → MorePass a x → (rest : Tokens)
     → Whole more_pass (a ++ rest) (Some x) rest
 unfolding more_pass next_kind
 more_pass_went (more_pass_of s) rest = went_by more_pass_by refl (went_skip (went_map Some (pass_went s rest)))
 
-more_pass_stops : (rest : Tokens) → Ends 2 rest → more_pass rest ≡ got None rest
+pub more_pass_stops : (rest : Tokens) → Ends 2 rest → more_pass rest ≡ got None rest
 unfolding more_pass
 more_pass_stops rest e = ap (λ p. p rest) (pass_other (next_kind rest) e)
 
 pub some_pass : {a : Tokens} {x : WrittenPass} → MorePass a x → 0 < length a
 some_pass (more_pass_of s) = omega arith
 
-passes_went : CompleteItem no_peak 1 (Ends 2) (λ rest. Unit {0}) MorePass more_pass
+pub passes_went : CompleteItem no_peak 1 (Ends 2) (λ rest. Unit {0}) MorePass more_pass
 passes_went = record {
   found = λ s rest follows few. more_pass_went s rest;
   stops = more_pass_stops;
@@ -144,7 +144,7 @@ passes_went = record {
 }
 
 -- passes as their reader takes them: one, and those after `||`
-record SplitPasses (a : Tokens) (xs : List WrittenPass) : Type 0 where
+pub record SplitPasses (a : Tokens) (xs : List WrittenPass) : Type 0 where
   first : WrittenPass
   front : Tokens
   back : Tokens
@@ -154,7 +154,7 @@ record SplitPasses (a : Tokens) (xs : List WrittenPass) : Type 0 where
   all : xs ≡ first ∷ later
   chain : (found : List WrittenPass) → Chain push MorePass found back (found ++ later)
 
-split_passes : {a : Tokens} {xs : List WrittenPass} → SpellsPasses a xs → SplitPasses a xs
+pub split_passes : {a : Tokens} {xs : List WrittenPass} → SpellsPasses a xs → SplitPasses a xs
 split_passes (one_pass {a = a} {x = x} s) = record {
   first = x;
   front = a;
@@ -197,24 +197,24 @@ stage_went (stage_of {a = a} {xs = xs} s) rest e =
 
 -- ---- schedules
 
-more_stage_went : {a : Tokens} {x : WrittenStage} → MoreStage a x → (rest : Tokens) → Ends 2 rest
+pub more_stage_went : {a : Tokens} {x : WrittenStage} → MoreStage a x → (rest : Tokens) → Ends 2 rest
     → Whole more_stage (a ++ rest) (Some x) rest
 unfolding more_stage next_kind
 more_stage_went (more_stage_of s) rest e =
     went_by more_stage_by refl (went_skip (went_map Some (stage_went s rest e)))
 
-more_stage_stops : (rest : Tokens) → Ends 1 rest → more_stage rest ≡ got None rest
+pub more_stage_stops : (rest : Tokens) → Ends 1 rest → more_stage rest ≡ got None rest
 unfolding more_stage
 more_stage_stops rest e = ap (λ p. p rest) (stage_other (next_kind rest) e)
 
 pub some_stage : {a : Tokens} {x : WrittenStage} → MoreStage a x → 0 < length a
 some_stage (more_stage_of s) = omega arith
 
-begins_later : {a : Tokens} {x : WrittenStage} → MoreStage a x → (rest : Tokens) → Ends 2 (a ++ rest)
+pub begins_later : {a : Tokens} {x : WrittenStage} → MoreStage a x → (rest : Tokens) → Ends 2 (a ++ rest)
 unfolding next_kind
 begins_later (more_stage_of s) rest = omega arith
 
-list_went : CompleteItem no_peak 1 (Ends 1) (Ends 2) MoreStage more_stage
+pub list_went : CompleteItem no_peak 1 (Ends 1) (Ends 2) MoreStage more_stage
 list_went = record {
   found = λ s rest follows few. more_stage_went s rest follows;
   stops = more_stage_stops;
@@ -224,7 +224,7 @@ list_went = record {
 }
 
 -- stages as their reader takes them: one, and those after `;`
-record SplitStages (a : Tokens) (xs : List WrittenStage) : Type 0 where
+pub record SplitStages (a : Tokens) (xs : List WrittenStage) : Type 0 where
   first : WrittenStage
   front : Tokens
   back : Tokens
@@ -235,7 +235,7 @@ record SplitStages (a : Tokens) (xs : List WrittenStage) : Type 0 where
   chain : (found : List WrittenStage) → Chain push MoreStage found back (found ++ later)
   follows : Ends 2 (back ++ [])
 
-split_stages : {a : Tokens} {xs : List WrittenStage} → SpellsStages a xs → SplitStages a xs
+pub split_stages : {a : Tokens} {xs : List WrittenStage} → SpellsStages a xs → SplitStages a xs
 unfolding next_kind
 split_stages (one_stage {a = a} {x = x} s) = record {
   first = x;
@@ -269,7 +269,7 @@ split_stages (more_stages {a = a} {b = b} {x = x} {xs = xs} s t) =
     }
 
 -- stages are read to their end
-stages_went : {a : Tokens} {xs : List WrittenStage} → SpellsStages a xs → Whole stages a (written_schedule xs) []
+pub stages_went : {a : Tokens} {xs : List WrittenStage} → SpellsStages a xs → Whole stages a (written_schedule xs) []
 unfolding stages next_kind at_end
 stages_went {a} {xs} s =
     let read = split_stages s in
@@ -282,7 +282,7 @@ stages_went {a} {xs} s =
     (λ few. record { reads = refl; small = small [] }))))
 
 -- what begins a stage is a name
-begins_stages : {a : Tokens} {xs : List WrittenStage} → SpellsStages a xs → next_kind a ≡ Some kind.Name
+pub begins_stages : {a : Tokens} {xs : List WrittenStage} → SpellsStages a xs → next_kind a ≡ Some kind.Name
 unfolding next_kind
 begins_stages (one_stage (stage_of (one_pass (pass_of s)))) = refl
 begins_stages (one_stage (stage_of (more_passes (pass_of s) t))) = refl

@@ -14,16 +14,16 @@ use Rattle.ftl_tokens.proofs.scanner.KindLemmas.{begins_text-word, begins_word-a
 use Rattle.ftl_tokens.specs.writing.Written.{StandsApart}
 
 -- whether a kind is another one than that of names
-abbrev is_other : Kind → Bool
+abbrev pub is_other : Kind → Bool
 is_other Name = false
 is_other _ = true
 
 -- whether all of a table are
-abbrev are_other : List (List ℕ × Kind) → Bool
+abbrev pub are_other : List (List ℕ × Kind) → Bool
 are_other [] = true
 are_other (entry ∷ entries) = is_other entry.1 && are_other entries
 
-look_up-other : (text : List ℕ) (entries : List (List ℕ × Kind)) → are_other entries ≡ true → look_up text entries ≡ Some Name → ⊥
+pub look_up-other : (text : List ℕ) (entries : List (List ℕ × Kind)) → are_other entries ≡ true → look_up text entries ≡ Some Name → ⊥
 look_up-other text [] other found = cc
 look_up-other text (entry ∷ entries) other found =
     by (look_up-other text entries (and_parts (is_other entry.1) (are_other entries) other).1)
@@ -38,7 +38,7 @@ look_up-other text (entry ∷ entries) other found =
     by again false e = again e
 
 -- a name begins as words do
-name_begins : (d : ℕ) (ds : List ℕ) → kind_of (d ∷ ds) ≡ Some Name → begins_word d ≡ true
+pub name_begins : (d : ℕ) (ds : List ℕ) → kind_of (d ∷ ds) ≡ Some Name → begins_word d ≡ true
 unfolding kind_of_mark
 name_begins d ds is =
     ⊎_elim (λ word. (and_parts (begins_word d) (list_all is_xid_continue ds) word).0)
@@ -51,7 +51,7 @@ name_begins d ds is =
     (cases_Bool (is_word (d ∷ ds)))
 
 -- a test that fails at the end of a list does not hold of each
-fails_last : (p : ℕ → Bool) (xs : List ℕ) (c : ℕ) → p c ≡ false → list_all p (xs ++ (c ∷ [])) ≡ false
+pub fails_last : (p : ℕ → Bool) (xs : List ℕ) (c : ℕ) → p c ≡ false → list_all p (xs ++ (c ∷ [])) ≡ false
 fails_last p [] c stops = and_left (p c) true stops
 fails_last p (x ∷ xs) c stops = and_right (p x) (list_all p (xs ++ (c ∷ []))) (fails_last p xs c stops)
 
@@ -70,7 +70,7 @@ pub dot_then : (c : ℕ) → kind_of (46 ∷ c ∷ []) ≡ None
 unfolding kind_of_mark
 dot_then c = kind_of-mark (46 ∷ c ∷ []) (and_left _ _ (begins_word-ascii 46 (lit< tt))) refl
 
-dot_is_ascii : IsAscii (46 ∷ [])
+pub dot_is_ascii : IsAscii (46 ∷ [])
 dot_is_ascii zero = lit< tt
 dot_is_ascii (suc i) = omega arith
 

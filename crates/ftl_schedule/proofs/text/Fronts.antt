@@ -27,7 +27,7 @@ front-append xs ys first later rest ok =
     subst (AreReadable 2147483647) (sym (append_assoc xs ys rest)) (first (ys ++ rest) (later rest ok))
 
 -- white space does not go on a token
-apart : (token gap rest : List ℕ) → IsSpace gap → StandsApart token (chars (gap ++ rest))
+pub apart : (token gap rest : List ℕ) → IsSpace gap → StandsApart token (chars (gap ++ rest))
 apart token [] rest space = absurd space
 apart token (c ∷ cs) rest space =
     let ascii = white_ascii (c ∷ cs) space in
@@ -35,7 +35,7 @@ apart token (c ∷ cs) rest space =
     chars-append (c ∷ cs) rest (IsUtf8-from_ascii (c ∷ cs) ascii) ∙ ap (λ l. l ++ chars rest) (chars-IsAscii (c ∷ cs) ascii) in
     subst (StandsApart token) (sym letters) (white_stands_apart token c (and_parts _ _ space).0)
 
-space_is_white : (gap : List ℕ) → IsSpace gap → list_all is_white_space gap ≡ true
+pub space_is_white : (gap : List ℕ) → IsSpace gap → list_all is_white_space gap ≡ true
 space_is_white [] space = absurd space
 space_is_white (c ∷ cs) space = space
 

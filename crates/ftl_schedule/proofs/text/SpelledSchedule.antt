@@ -34,10 +34,10 @@ use Rattle.ftl_schedule.proofs.text.Fronts.{Fronts, attribute_front, front-appen
 -- ---- the words of the kinds of passes are names
 
 -- ASCII letters and digits, and `_`
-abbrev go_on : List ℕ → Bool
+abbrev pub go_on : List ℕ → Bool
 go_on cs = list_all (λ c. nat_lt c 128 && (is_ascii_alphanumeric c || eqb c 95)) cs
 
-continues : (cs : List ℕ) → go_on cs ≡ true → list_all is_xid_continue cs ≡ true
+pub continues : (cs : List ℕ) → go_on cs ≡ true → list_all is_xid_continue cs ≡ true
 continues [] all = refl
 continues (c ∷ cs) all =
     let parts = and_parts (nat_lt c 128 && (is_ascii_alphanumeric c || eqb c 95)) (go_on cs) all in
@@ -45,7 +45,7 @@ continues (c ∷ cs) all =
     (and_parts (nat_lt c 128) (is_xid_continue c) (sym (continues-ascii c) ∙ parts.0)).1
     (continues cs parts.1)
 
-word_is_name : (c : ℕ) (cs : List ℕ) → (nat_lt c 128 && (is_ascii_alphabetic c || eqb c 95)) ≡ true → go_on cs ≡ true
+pub word_is_name : (c : ℕ) (cs : List ℕ) → (nat_lt c 128 && (is_ascii_alphabetic c || eqb c 95)) ≡ true → go_on cs ≡ true
     → kind_of_word (c ∷ cs) ≡ kind.Name → kind_of (c ∷ cs) ≡ Some kind.Name
 word_is_name c cs first later is =
     kind_of-word (c ∷ cs)
@@ -55,22 +55,22 @@ word_is_name c cs first later is =
     ∙ ap Some is
 
 -- each is ASCII
-abbrev are_ascii : List ℕ → Bool
+abbrev pub are_ascii : List ℕ → Bool
 are_ascii cs = list_all (λ c. nat_lt c 128) cs
 
-ascii_from : (cs : List ℕ) → are_ascii cs ≡ true → IsAscii cs
+pub ascii_from : (cs : List ℕ) → are_ascii cs ≡ true → IsAscii cs
 ascii_from [] all i = omega arith
 ascii_from (c ∷ cs) all zero = let first = ltb-true c 128 (and_parts (nat_lt c 128) (are_ascii cs) all).0 in omega arith
 ascii_from (c ∷ cs) all (suc i) = ascii_from cs (and_parts (nat_lt c 128) (are_ascii cs) all).1 i
 
-ascii_said : (c : ℕ) (cs : List ℕ) → are_ascii (c ∷ cs) ≡ true → kind_of (c ∷ cs) ≡ Some kind.Name
+pub ascii_said : (c : ℕ) (cs : List ℕ) → are_ascii (c ∷ cs) ≡ true → kind_of (c ∷ cs) ≡ Some kind.Name
     → CanBeSaid 2147483647 (name (c ∷ cs))
 ascii_said c cs ascii is = (
   IsUtf8-from_ascii (c ∷ cs) (ascii_from (c ∷ cs) ascii),
   (ap kind_of (chars-IsAscii (c ∷ cs) (ascii_from (c ∷ cs) ascii)) ∙ is),
 )
 
-word_said : (k : PassKind) → CanBeSaid 2147483647 (name (word_of k))
+pub word_said : (k : PassKind) → CanBeSaid 2147483647 (name (word_of k))
 unfolding kind_of_word
 word_said TopDown = ascii_said _ _ refl (word_is_name _ _ refl refl refl)
 word_said BottomUp = ascii_said _ _ refl (word_is_name _ _ refl refl refl)
@@ -78,29 +78,29 @@ word_said InOrder = ascii_said _ _ refl (word_is_name _ _ refl refl refl)
 
 -- ---- they are read as they were written
 
-attributes_front : (xs : List AttributeName) → All HasNames xs → Fronts (flat_map attribute_written xs)
+pub attributes_front : (xs : List AttributeName) → All HasNames xs → Fronts (flat_map attribute_written xs)
 attributes_front [] names = no_front
 attributes_front (x ∷ xs) names =
     front-append (attribute_written x) (flat_map attribute_written xs)
     (attribute_front x (All-head HasNames x xs names)) (attributes_front xs (All-tail HasNames x xs names))
 
-open_front : (k : PassKind) → Fronts (open_pass k)
+pub open_front : (k : PassKind) → Fronts (open_pass k)
 open_front k =
     front-append (written (name (word_of k)) (codes " ") ∷ []) (written (fixed kind.LeftBrace) (codes " ") ∷ [])
     (spaced_front (written (name (word_of k)) (codes " ")) (word_said k) refl)
     (spaced_front (written (fixed kind.LeftBrace) (codes " ")) tt refl)
 
 -- all names of a pass can be said
-abbrev PassNames : WrittenPass → Type 0
+abbrev pub PassNames : WrittenPass → Type 0
 PassNames p = All HasNames p.attrs
 
-pass_front : (gap : List ℕ) (p : WrittenPass) → IsSpace gap → PassNames p → Fronts (pass_written gap p)
+pub pass_front : (gap : List ℕ) (p : WrittenPass) → IsSpace gap → PassNames p → Fronts (pass_written gap p)
 pass_front gap p space names =
     front-append (open_pass p.kind) (flat_map attribute_written p.attrs ++ close gap) (open_front p.kind)
     (front-append (flat_map attribute_written p.attrs) (close gap) (attributes_front p.attrs names)
     (spaced_front (written (fixed kind.RightBrace) gap) tt space))
 
-passes_front : (gap : List ℕ) (p : WrittenPass) (more : List WrittenPass) → IsSpace gap → All PassNames (p ∷ more)
+pub passes_front : (gap : List ℕ) (p : WrittenPass) (more : List WrittenPass) → IsSpace gap → All PassNames (p ∷ more)
     → Fronts (passes_written gap p more)
 passes_front gap p [] space names = pass_front gap p space (All-head PassNames p [] names)
 passes_front gap p (q ∷ more) space names =
@@ -111,15 +111,15 @@ passes_front gap p (q ∷ more) space names =
     (passes_front gap q more space (All-tail PassNames p (q ∷ more) names)))
 
 -- all names of a stage can be said
-abbrev StageNames : WrittenStage → Type 0
+abbrev pub StageNames : WrittenStage → Type 0
 StageNames stage = All PassNames stage.passes
 
-stage_front : (gap : List ℕ) (passes : List WrittenPass) → IsSpace gap → All PassNames passes
+pub stage_front : (gap : List ℕ) (passes : List WrittenPass) → IsSpace gap → All PassNames passes
     → Fronts (stage_written gap passes)
 stage_front gap [] space names = no_front
 stage_front gap (p ∷ more) space names = passes_front gap p more space names
 
-stages_front : (s : WrittenStage) (more : List WrittenStage) → All StageNames (s ∷ more) → Fronts (stages_written s more)
+pub stages_front : (s : WrittenStage) (more : List WrittenStage) → All StageNames (s ∷ more) → Fronts (stages_written s more)
 stages_front s [] names = stage_front (codes "\n") s.passes refl (All-head StageNames s [] names)
 stages_front s (t ∷ more) names =
     front-append (stage_written (codes " ") s.passes) (written (fixed kind.Semicolon) (codes "\n") ∷ stages_written t more)
@@ -128,27 +128,27 @@ stages_front s (t ∷ more) names =
     (spaced_front (written (fixed kind.Semicolon) (codes "\n")) tt refl)
     (stages_front t more (All-tail StageNames s (t ∷ more) names)))
 
-schedule_front : (stages : List WrittenStage) → All StageNames stages → Fronts (schedule_written stages)
+pub schedule_front : (stages : List WrittenStage) → All StageNames stages → Fronts (schedule_written stages)
 schedule_front [] names = no_front
 schedule_front (s ∷ more) names = stages_front s more names
 
 -- ---- they spell the schedule
 
 -- what tokens say, one list after another
-said-append : (xs ys : List Written) → said_by (xs ++ ys) ≡ said_by xs ++ said_by ys
+pub said-append : (xs ys : List Written) → said_by (xs ++ ys) ≡ said_by xs ++ said_by ys
 said-append xs ys = map-append (λ (t : Written). t.says) xs ys
 
-attributes_spell : (xs : List AttributeName) → SpellsAttributes (said_by (flat_map attribute_written xs)) xs
+pub attributes_spell : (xs : List AttributeName) → SpellsAttributes (said_by (flat_map attribute_written xs)) xs
 attributes_spell [] = no_attributes
 attributes_spell (x ∷ xs) = more_attributes attribute_of (attributes_spell xs)
 
-pass_spells : (gap : List ℕ) (p : WrittenPass) → SpellsPass (said_by (pass_written gap p)) p
+pub pass_spells : (gap : List ℕ) (p : WrittenPass) → SpellsPass (said_by (pass_written gap p)) p
 pass_spells gap p =
     subst (λ ts. SpellsPass (name (word_of p.kind) ∷ fixed kind.LeftBrace ∷ ts) p)
     (sym (said-append (flat_map attribute_written p.attrs) (close gap)))
     (pass_of (attributes_spell p.attrs))
 
-passes_spell : (gap : List ℕ) (p : WrittenPass) (more : List WrittenPass)
+pub passes_spell : (gap : List ℕ) (p : WrittenPass) (more : List WrittenPass)
     → SpellsPasses (said_by (passes_written gap p more)) (p ∷ more)
 passes_spell gap p [] = one_pass (pass_spells gap p)
 passes_spell gap p (q ∷ more) =
@@ -156,7 +156,7 @@ passes_spell gap p (q ∷ more) =
     (sym (said-append (pass_written (codes " ") p) (written (fixed kind.OrOr) (codes " ") ∷ passes_written gap q more)))
     (more_passes (pass_spells (codes " ") p) (passes_spell gap q more))
 
-stage_spells : (gap : List ℕ) (s : WrittenStage) → s.passes ≢ [] → SpellsStage (said_by (stage_written gap s.passes)) s
+pub stage_spells : (gap : List ℕ) (s : WrittenStage) → s.passes ≢ [] → SpellsStage (said_by (stage_written gap s.passes)) s
 stage_spells gap s some = stage_of (by s.passes some)
   where
     by : (ps : List WrittenPass) → ps ≢ [] → SpellsPasses (said_by (stage_written gap ps)) ps
@@ -164,10 +164,10 @@ stage_spells gap s some = stage_of (by s.passes some)
     by (p ∷ more) there = passes_spell gap p more
 
 -- a stage has a pass
-abbrev HasPass : WrittenStage → Type 0
+abbrev pub HasPass : WrittenStage → Type 0
 HasPass s = s.passes ≢ []
 
-stages_spell : (s : WrittenStage) (more : List WrittenStage) → All HasPass (s ∷ more)
+pub stages_spell : (s : WrittenStage) (more : List WrittenStage) → All HasPass (s ∷ more)
     → SpellsStages (said_by (stages_written s more)) (s ∷ more)
 stages_spell s [] some = one_stage (stage_spells (codes "\n") s (All-head HasPass s [] some))
 stages_spell s (t ∷ more) some =
@@ -176,7 +176,7 @@ stages_spell s (t ∷ more) some =
     (more_stages (stage_spells (codes " ") s (All-head HasPass s (t ∷ more) some))
     (stages_spell t more (All-tail HasPass s (t ∷ more) some)))
 
-schedule_spells : (stages : List WrittenStage) → All HasPass stages
+pub schedule_spells : (stages : List WrittenStage) → All HasPass stages
     → SpellsSchedule (said_by (schedule_written stages)) (written_schedule stages)
 schedule_spells [] some = no_stages
 schedule_spells (s ∷ more) some = stages_of (stages_spell s more some)

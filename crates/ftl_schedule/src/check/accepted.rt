@@ -39,7 +39,8 @@ impl<'a> Model for Accepted<'a> {
 }
 
 impl<'a> Accepted<'a> {
-    pub(crate) fn new(checked: &'a Checked, placed: Placed) -> Accepted<'a>
+    /// A placed schedule that is ordered.
+    pub fn new(checked: &'a Checked, placed: Placed) -> Accepted<'a>
         requires accepted { IsAccepted checked.now placed }
         ensures grammar { result.checked ≡ checked.now }
         ensures schedule { result.schedule ≡ placed }

@@ -13,7 +13,7 @@ use ftl_order::VerifyFault;
 
 /// The first computed attribute by number that has no entry.
 #[tactic(auto, using(crate::proofs::check::FaultsAlong::number_steps))]
-pub(crate) fn first_missing(checked: &Checked, placed: &Placed) -> Option<VerifyFault>
+pub fn first_missing(checked: &Checked, placed: &Placed) -> Option<VerifyFault>
     ensures fault { result ≡ first_missing (meant checked.now) (entries (stages_of placed.now)) }
 {
     for attr in 0..attribute_count(checked) {

@@ -18,4 +18,5 @@ pub use check::verify;
 pub use ftl_order::VerifyFault;
 pub use kinds::{attribute_count, is_input};
 pub use laws::faults_are_of_entries;
+pub use missing::first_missing;
 pub use unordered::{read_count, read_of, standing};

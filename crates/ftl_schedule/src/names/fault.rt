@@ -17,6 +17,12 @@ pub enum ScheduleFault {
     TooManyBeside { stage: u32, count: u32 },
     /// The names are those of no computed attribute.
     UnknownAttribute { owner: Name, attr: Name },
+    /// The name after `nest` is no class.
+    UnknownHost { name: Name },
+    /// A nest whose host is this class is not closed.
+    OpenNest { host: Name },
+    /// An attribute of the nest's region in the own list of its pass, or one outside it in the nest.
+    NestAttribute { owner: Name, attr: Name },
     /// No memory was left for the schedule.
     OutOfMemory,
 }

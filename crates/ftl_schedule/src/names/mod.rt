@@ -6,4 +6,4 @@ mod fault;
 mod named;
 
 pub use fault::ScheduleFault;
-pub use named::schedule_named;
+pub use named::{attributes_named, schedule_named, stages_named};

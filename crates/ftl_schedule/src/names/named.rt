@@ -26,7 +26,8 @@ pub fn schedule_named(
     Ok(Schedule { stages })
 }
 
-fn stages_named(
+/// The stages by number, or the first such attribute.
+pub fn stages_named(
     alloc: Global,
     checked: &Checked,
     stages: &[WrittenStage],
@@ -52,14 +53,15 @@ fn passes_named(
 {
     let mut found = Items::new(alloc);
     for pass in passes {
-        let attrs = attributes(alloc, checked, pass.attrs.as_slice())?;
+        let attrs = attributes_named(alloc, checked, pass.attrs.as_slice())?;
         let kind = pass.kind;
         found.push(Pass { kind, attrs })?;
     }
     Ok(found)
 }
 
-fn attributes(
+/// The attributes of a list by number, or the first that names no computed one.
+pub fn attributes_named(
     alloc: Global,
     checked: &Checked,
     names: &[AttributeName],

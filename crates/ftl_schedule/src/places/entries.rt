@@ -16,7 +16,7 @@ pub struct Entry {
 }
 
 /// The entries of all passes, in the order of the text.
-pub(crate) fn all_entries(alloc: Global, schedule: &Schedule) -> Result<Items<Entry>, AllocError>
+pub fn all_entries(alloc: Global, schedule: &Schedule) -> Result<Items<Entry>, AllocError>
     ensures entries { IfOk result (λ found. found ≡ all_entries schedule.now) }
 {
     let mut found = Items::new(alloc);

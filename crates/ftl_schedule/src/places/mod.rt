@@ -9,6 +9,7 @@ mod placed;
 mod schedule_place;
 mod standing;
 
+pub use entries::{Entry, all_entries};
 pub use placed::Placed;
 pub use schedule_place::SchedulePlace;
 pub use standing::{

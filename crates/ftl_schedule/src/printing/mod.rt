@@ -6,4 +6,4 @@ mod laws;
 mod print;
 
 pub use laws::printed_schedules;
-pub use print::print_schedule;
+pub use print::{print_schedule, write_pass, write_passes};

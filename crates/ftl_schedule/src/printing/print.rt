@@ -46,8 +46,8 @@ fn write_stages(out: &mut String, checked: &Checked, stages: &[Stage]) -> Result
     Ok(())
 }
 
-// Passes with `||` between them, and what follows the last.
-fn write_passes(
+/// Passes with `||` between them, and what follows the last.
+pub fn write_passes(
     out: &mut String,
     checked: &Checked,
     passes: &[Pass],
@@ -68,8 +68,13 @@ fn write_passes(
     Ok(())
 }
 
-// A pass, and what follows it.
-fn write_pass(out: &mut String, checked: &Checked, pass: &Pass, gap: &str) -> Result<(), AllocError>
+/// A pass, and what follows it.
+pub fn write_pass(
+    out: &mut String,
+    checked: &Checked,
+    pass: &Pass,
+    gap: &str,
+) -> Result<(), AllocError>
     requires known { IsPassKnown checked.now.grammar pass.now }
     ensures text { OnOk result (string_bytes out.new ≡ string_bytes out.old
         ++ text_of (pass_written gap.now (pass_by_name checked.now.grammar pass.now))) }

@@ -12,7 +12,7 @@ mod types;
 pub use fault::WrittenFault;
 pub use kind::PassKind;
 pub use laws::{one_place, one_written_schedule};
-pub use read::read_written_schedule;
+pub use read::{pass, read_written_schedule, stage, stage_list};
 pub use types::{
     AttributeName, AttributeNames, WrittenPass, WrittenPassList, WrittenSchedule, WrittenStage,
     WrittenStageList,

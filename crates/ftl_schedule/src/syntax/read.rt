@@ -63,8 +63,9 @@ fn attributes(alloc: Global, input: &mut Input<'_>) -> Result<AttributeNames, Re
     Ok(found)
 }
 
+/// A pass.
 #[tactic(auto, unfolding(crate::specs::syntax::Reading::pass))]
-fn pass(alloc: Global, input: &mut Input<'_>) -> Result<WrittenPass, ReadFault>
+pub fn pass(alloc: Global, input: &mut Input<'_>) -> Result<WrittenPass, ReadFault>
     ensures reads { Reads (spec.pass input.old) result input.new }
 {
     let kind = kind(input)?;
@@ -107,8 +108,9 @@ fn passes(
     Ok(found)
 }
 
+/// A stage: a pass, and all that follow it behind `||`.
 #[tactic(auto, unfolding(crate::specs::syntax::Reading::stage))]
-fn stage(alloc: Global, input: &mut Input<'_>) -> Result<WrittenStage, ReadFault>
+pub fn stage(alloc: Global, input: &mut Input<'_>) -> Result<WrittenStage, ReadFault>
     ensures reads { Reads (spec.stage input.old) result input.new }
 {
     let first = pass(alloc, input)?;
@@ -130,8 +132,8 @@ fn more_stage(alloc: Global, input: &mut Input<'_>) -> Result<Option<WrittenStag
     }
 }
 
-// The stages of a schedule, of which the first was read.
-fn stage_list(
+/// The stages of a schedule, of which the first was read.
+pub fn stage_list(
     alloc: Global,
     input: &mut Input<'_>,
     first: WrittenStage,

@@ -5,7 +5,7 @@ pub returns : goal.returns
 returns c = record {
   exists = λ g s t law ordered fits. order_exists g s law ordered t fits;
   before = λ g s t law ordered fits. writer_stands_before g s law ordered t fits;
-  flat = λ g s t law ordered fits. flat_order_legal g s law ordered t fits;
+  flat = λ g s t law ordered fits. flat_order_legal g s law ordered.once t fits;
   one_table = λ g s t law ordered fits. one_table g s law ordered t fits;
   solves = λ g s t law ordered fits. run_ends g s law ordered t fits;
 }

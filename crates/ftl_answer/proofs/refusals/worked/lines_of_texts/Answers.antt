@@ -30,3 +30,12 @@ returns-clause-passes c = refl
 pub returns-clause-beside : goal.returns-clause-beside
 unfolding digits
 returns-clause-beside c = refl
+
+pub returns-clause-host : goal.returns-clause-host
+returns-clause-host c = refl
+
+pub returns-clause-open_nest : goal.returns-clause-open_nest
+returns-clause-open_nest c = refl
+
+pub returns-clause-side : goal.returns-clause-side
+returns-clause-side c = refl

@@ -1,4 +1,4 @@
-use Rattle.std.proofs.Common.{◌≡◌, ℕ, List, ap, ◌∙◌, sym, subst, map, Contains}
+use Rattle.std.proofs.Common.{◌≡◌, ℕ, List, ap, ◌∙◌, sym, subst, map, Contains, arith}
 use Rattle.ftl_cursors.specs.inorder.InorderSteps.{inorder_steps}
 use Rattle.ftl_cursors.specs.item_cursor.ItemSteps.{forest_in, grammar_in}
 use Rattle.ftl_cursors.proofs.item_cursor.ItemVisits.{pass, pass_known, pass_listed, places_are, places_known, sequence_is, visit_known, visits_are}
@@ -8,6 +8,7 @@ use Rattle.ftl_cursors.specs.sequence.BlockPlaces.{places_of}
 use Rattle.ftl_schedule.specs.declared.stages.types.Pass.{Pass}
 use Rattle.ftl_order.specs.steps.Steps.{target_of}
 use Rattle.ftl_order.specs.declared.steps.step.Step.{Step}
+use Rattle.ftl_tree.proofs.rows.Access.{size-one}
 use Rattle.ftl_visit.specs.passes.VisitRows.{visits_of}
 use Rattle.ftl_cursors.proofs.item_cursor.item.sequence_steps.Goals as goal
 
@@ -41,6 +42,12 @@ new-requires-clause-places c =
     ∙ ap places_of
     (sym
     (visits_are x c.args.item found c.requires.item c.requires.found c.requires.tables c.index-tables-found.result))
+
+pub new-requires-clause-first : goal.new-requires-clause-first
+new-requires-clause-first c =
+    let x = c.args.tables in
+    let one = size-one (grammar_in x) (forest_in x) c.requires.found.is_tree in
+    omega (arith, one)
 
 pub returns : goal.returns
 returns c =

@@ -1,6 +1,6 @@
-use Rattle.std.proofs.Common.{◌≡◌, suc, ◌+◌, ◌++◌, ◌<◌, [], get_or, length, List, sym, ◌∙◌, ap, subst, arith}
+use Rattle.std.proofs.Common.{◌≡◌, suc, ◌+◌, ◌++◌, ◌<◌, [], get_or, length, List, inr, sym, ◌∙◌, ap, subst, arith}
 use Rattle.ftl_cursors.specs.inorder.InorderSteps.{inorder_steps}
-use Rattle.ftl_model.specs.layout.Path.{Has, at as tree_at, class_at, down}
+use Rattle.ftl_model.specs.layout.Path.{AtOrAbove, Has, at as tree_at, class_at, down}
 use Rattle.ftl_model.specs.layout.Tree.{below_of, size}
 use Rattle.ftl_model.proofs.layout.Standing.{node_at-number_of, number_of-lt}
 use Rattle.ftl_order.proofs.orders.Kids.{kid_exists}
@@ -9,8 +9,9 @@ use Rattle.ftl_tree.proofs.rows.Access.{has_at, size-one}
 use Rattle.ftl_visit.specs.declared.visits.visit_op.VisitOp.{VisitOp}
 use Rattle.ftl_visit.specs.passes.VisitRows.{visits_of}
 use Rattle.ftl_cursors.specs.sequence.Moves.{moves, moves_left, moves_up, own_moves}
-use Rattle.ftl_cursors.specs.sequence.Places.{FitOps, grammar_of, node_of, tree_of}
+use Rattle.ftl_cursors.specs.sequence.Places.{FitOps, first_of, grammar_of, node_of, tree_of}
 use Rattle.ftl_cursors.specs.sequence.SequenceRest.{rest_of_ops, rest_up}
+use Rattle.ftl_cursors.proofs.sequence.Above.{kid_elsewhere, moves_above, rest_above}
 use Rattle.ftl_cursors.proofs.sequence.MoveLemmas.{visit_moves}
 use Rattle.ftl_cursors.proofs.sequence.CursorMoves.{class_within, visit_fits, visit_in, visits_count}
 use Rattle.ftl_cursors.proofs.sequence.RestLemmas.{visit_left}
@@ -49,6 +50,7 @@ returns c =
     let g = grammar_of x in
     let t = tree_of x in
     let a = x.attrs.now in
+    let at_first = first_of x in
     let fits = c.node_count-nodes.ensures.is_tree in
     let p = node_of x c.args.node in
     let child = c.args.child in
@@ -62,6 +64,7 @@ returns c =
     let q_there = has_at g t below fits within in
     let same : q ≡ down child kid p =
     ap (node_of x) c.kid-below.ensures.kid ∙ node_at-number_of t (down child kid p) there in
+    let elsewhere = kid_elsewhere t at_first p child kid there c.requires.within in
     let is =
     c.visit-ops.ensures.visit
     ∙ ap (λ (vs : List (List VisitOp)). get_or vs c.class.result []) c.requires.tables.visits
@@ -71,14 +74,18 @@ returns c =
       first = record {
         place = record {
           node = within;
+          within = subst (AtOrAbove at_first) (sym same) (inr c.requires.within);
           ops = subst (FitOps g t q 0) (sym is) (visit_fits g t q a);
         };
         left =
-            ap (rest_of_ops g t a q 0) is ∙ visit_left g t a q fits q_there
-            ∙ ap (λ r. inorder_steps g t a r ++ rest_up g t a r) same;
+            ap (rest_of_ops g t a at_first q 0) is ∙ visit_left g t a at_first q fits q_there
+            ∙ ap (λ r. inorder_steps g t a r ++ rest_up g t a at_first r) same
+            ∙ ap (λ s. inorder_steps g t a (down child kid p) ++ s) (rest_above g t a at_first child kid p elsewhere);
         moves =
-            ap (λ ops. suc (moves_left g t q 0 ops)) is ∙ visit_moves g t a q fits q_there
+            ap (λ ops. suc (moves_left g t at_first q 0 ops)) is ∙ visit_moves g t a at_first q fits q_there
             ∙ ap
-            (λ r. length (own_moves g (class_at t r) ++ moves g (below_of (tree_at t r))) + moves_up g t r) same;
+            (λ r. length (own_moves g (class_at t r) ++ moves g (below_of (tree_at t r))) + moves_up g t at_first r) same
+            ∙ ap (λ m. length (own_moves g (class_at t (down child kid p)) ++ moves g (below_of (tree_at t (down child kid p)))) + m)
+            (moves_above g t a at_first child kid p elsewhere);
       };
     }

@@ -2,7 +2,7 @@ use Rattle.std.proofs.Common.{◌≡◌, ◌+◌, ◌-◌, ◌<◌, ◌≤◌, g
 use Rattle.ftl_model.specs.layout.Path.{class_at, kids_at}
 use Rattle.ftl_visit.specs.declared.visits.visit_op.VisitOp.TheVariants.{Begin, Visit}
 use Rattle.ftl_cursors.specs.sequence.Moves.{moves_left}
-use Rattle.ftl_cursors.specs.sequence.Places.{FitOps, grammar_of, node_of, tree_of}
+use Rattle.ftl_cursors.specs.sequence.Places.{FitOps, first_of, grammar_of, node_of, tree_of}
 use Rattle.ftl_cursors.specs.sequence.SequenceRest.{rest_of_ops}
 use Rattle.ftl_cursors.proofs.sequence.BlockLemmas.{behind_is, drop_within, nowhere}
 use Rattle.ftl_cursors.proofs.sequence.MoveLemmas.{block_moves, blocks_moves, no_kid_moves}
@@ -66,6 +66,7 @@ returns-then-kid-kid_count c =
     let t = tree_of x in
     let p = node_of x c.args.node in
     let a = x.attrs.now in
+    let at_first = first_of x in
     let child = c.args.child in
     let kid = c.args.kid in
     let class = class_at t p in
@@ -79,10 +80,11 @@ returns-then-kid-kid_count c =
       kid = record {
         place = record {
           node = c.requires.at.known;
+          within = c.requires.within;
           ops = subst (FitOps g t p kid) (sym is) (block_fits g t p a child kid later c.requires.at.declared there);
         };
-        left = ap (rest_of_ops g t a p kid) is ∙ block_left g t a p child kid later there;
-        moves = ap (moves_left g t p kid) is ∙ block_moves g t a p child kid later there;
+        left = ap (rest_of_ops g t a at_first p kid) is ∙ block_left g t a at_first p child kid later there;
+        moves = ap (moves_left g t at_first p kid) is ∙ block_moves g t a at_first p child kid later there;
       };
     }
 
@@ -97,6 +99,7 @@ returns-else-kid-kid_count c =
     let t = tree_of x in
     let p = node_of x c.args.node in
     let a = x.attrs.now in
+    let at_first = first_of x in
     let child = c.args.child in
     let kid = c.args.kid in
     let class = class_at t p in
@@ -112,13 +115,14 @@ returns-else-kid-kid_count c =
       kid = record {
         place = record {
           node = c.requires.at.known;
+          within = c.requires.within;
           ops = subst (FitOps g t p 0) (sym is) (blocks_fit g t p a (child + 1) later all);
         };
         left =
-            ap (rest_of_ops g t a p 0) is ∙ blocks_left g t a p (child + 1) later all
-            ∙ no_kid_left g t a p child kid past;
+            ap (rest_of_ops g t a at_first p 0) is ∙ blocks_left g t a at_first p (child + 1) later all
+            ∙ no_kid_left g t a at_first p child kid past;
         moves =
-            ap (moves_left g t p 0) is ∙ blocks_moves g t a p (child + 1) later all
-            ∙ no_kid_moves g t a p child kid past;
+            ap (moves_left g t at_first p 0) is ∙ blocks_moves g t a at_first p (child + 1) later all
+            ∙ no_kid_moves g t a at_first p child kid past;
       };
     }

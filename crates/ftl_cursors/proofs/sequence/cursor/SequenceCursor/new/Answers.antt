@@ -1,15 +1,16 @@
-use Rattle.std.proofs.Common.{◌<◌, [], get_or, length, List, sym, ◌∙◌, ap, subst, arith}
+use Rattle.std.proofs.Common.{◌++◌, [], get_or, length, List, inl, refl, sym, ◌∙◌, ap, subst, arith}
 use Rattle.std.proofs.lemmas.List.{append-nil}
 use Rattle.ftl_deps.specs.reads.Meant.{meant}
 use Rattle.ftl_cursors.specs.inorder.InorderSteps.{inorder_steps}
-use Rattle.ftl_model.specs.layout.Path.{class_at, top}
-use Rattle.ftl_model.specs.layout.Tree.{size}
+use Rattle.ftl_model.specs.layout.Path.{class_at, node_at}
+use Rattle.ftl_items.proofs.stage_items.HandingLaws.{node_itself}
 use Rattle.ftl_schedule.specs.declared.syntax.kind.PassKind.TheVariants.{InOrder}
-use Rattle.ftl_tree.proofs.rows.Access.{has_at, size-one}
+use Rattle.ftl_tree.proofs.rows.Access.{has_at}
 use Rattle.ftl_visit.specs.declared.visits.visit_op.VisitOp.{VisitOp}
 use Rattle.ftl_visit.specs.passes.VisitRows.{visits_of}
 use Rattle.ftl_cursors.specs.sequence.Places.{FitOps}
 use Rattle.ftl_cursors.specs.sequence.SequenceRest.{rest_of_ops}
+use Rattle.ftl_cursors.proofs.sequence.Above.{none_after}
 use Rattle.ftl_cursors.proofs.sequence.CursorMoves.{class_within, visit_fits, visit_in, visits_count}
 use Rattle.ftl_cursors.proofs.sequence.RestLemmas.{visit_left}
 use Rattle.ftl_cursors.proofs.sequence.cursor.SequenceCursor.new.Goals as goal
@@ -19,8 +20,7 @@ visit-ops-requires c =
     let g = meant c.args.tree.now.checked in
     let t = c.args.tree.now.tree in
     let fits = c.node_count-nodes.ensures.is_tree in
-    let one = size-one g t fits in
-    let known = class_within g t fits 0 (let z : 0 < size t = omega arith in z) in
+    let known = class_within g t fits c.args.first c.requires.first in
     let count = ap length c.requires.visits ∙ visits_count g c.args.attrs.now in
     record { class = omega (arith, c.class.ensures.class) }
 
@@ -30,15 +30,16 @@ invariant_of-result c =
     let t = c.args.tree.now.tree in
     let a = c.args.attrs.now in
     let fits = c.node_count-nodes.ensures.is_tree in
-    let one = size-one g t fits in
-    let within : 0 < size t = omega arith in
+    let first = node_at t c.args.first in
     let is =
     c.visit-ops.ensures.visit
     ∙ ap (λ (vs : List (List VisitOp)). get_or vs c.class.result []) c.requires.visits
     ∙ ap (λ n. get_or (visits_of g InOrder a) n []) c.class.ensures.class
-    ∙ visit_in g a (class_at t top) (class_within g t fits 0 within) in
-    let ops = subst (FitOps g t top 0) (sym is) (visit_fits g t top a) in
-    (record { visits = c.requires.visits; places = c.requires.places }, record { node = within; ops = ops })
+    ∙ visit_in g a (class_at t first) (class_within g t fits c.args.first c.requires.first) in
+    let ops = subst (FitOps g t first 0) (sym is) (visit_fits g t first a) in (
+      record { first = c.requires.first; visits = c.requires.visits; places = c.requires.places },
+      record { node = c.requires.first; within = inl refl; ops = ops },
+    )
 
 pub returns : goal.returns
 returns c =
@@ -46,15 +47,16 @@ returns c =
     let t = c.args.tree.now.tree in
     let a = c.args.attrs.now in
     let fits = c.node_count-nodes.ensures.is_tree in
-    let one = size-one g t fits in
-    let within : 0 < size t = omega arith in
+    let first = node_at t c.args.first in
     let is =
     c.visit-ops.ensures.visit
     ∙ ap (λ (vs : List (List VisitOp)). get_or vs c.class.result []) c.requires.visits
     ∙ ap (λ n. get_or (visits_of g InOrder a) n []) c.class.ensures.class
-    ∙ visit_in g a (class_at t top) (class_within g t fits 0 within) in
+    ∙ visit_in g a (class_at t first) (class_within g t fits c.args.first c.requires.first) in
     record {
       steps =
-          ap (rest_of_ops g t a top 0) is ∙ visit_left g t a top fits (has_at g t 0 fits within)
-          ∙ append-nil (inorder_steps g t a top);
+          ap (rest_of_ops g t a first first 0) is
+          ∙ visit_left g t a first first fits (has_at g t c.args.first fits c.requires.first)
+          ∙ ap (λ rest. inorder_steps g t a first ++ rest) (none_after g t a first first (node_itself first))
+          ∙ append-nil (inorder_steps g t a first);
     }

@@ -1,0 +1,3 @@
+pub mod NestRules
+pub mod NestFaults
+pub mod FlatAccepted

@@ -1,0 +1,2 @@
+pub mod BetweenPlaces
+pub mod HostPlaces

@@ -1,0 +1,4 @@
+pub mod stages
+pub mod places
+pub mod flat
+pub mod check

@@ -1,0 +1,3 @@
+pub mod NestFault
+pub mod NestAccepted
+pub mod Worked

@@ -1,0 +1,2 @@
+pub mod NestPlaced
+pub mod Between

@@ -1,0 +1,3 @@
+pub mod EarlyTests
+pub mod EarlySteps
+pub mod ReaderFirst

@@ -1,0 +1,3 @@
+pub mod NestPairs
+pub mod FoundNestPair
+pub mod NestFaultPairs

@@ -1,0 +1,3 @@
+pub mod orders
+pub mod pairs
+pub mod examples

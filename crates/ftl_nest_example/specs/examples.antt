@@ -1,0 +1,3 @@
+pub mod NestExamples
+pub mod EarlySteps
+pub mod ShownOrders

@@ -1,0 +1,2 @@
+pub mod NestOrders
+pub mod EarlyWithNests

@@ -1,0 +1,2 @@
+pub mod NestPair
+pub mod FirstRefused

@@ -1,0 +1,12 @@
+use Rattle.std.proofs.Common.{◌≡◌, drop}
+use Rattle.ftl_deps.specs.reads.Meant.{meant}
+use Rattle.ftl_schedule.specs.names.Named.{after, each}
+use Rattle.ftl_nest_text.specs.names.NestNamed.{inner_pass_named}
+use Rattle.ftl_nest_text.specs.names.RegionTests.{region_tests}
+use Rattle.ftl_nest_text.proofs.names.inner.inner_passes_named.Given as goal
+
+abbrev pub invariant-loop-pass : goal.invariant-loop-pass
+invariant-loop-pass l =
+    after l.found
+    (each (inner_pass_named (region_tests (meant l.checked)) l.checked.grammar l.host) (drop l.pass-index l.passes))
+    ≡ each (inner_pass_named (region_tests (meant l.checked)) l.checked.grammar l.host) l.passes

@@ -1,0 +1,2 @@
+mod NestFronts
+mod NestSpelled

@@ -1,0 +1,5 @@
+pub mod syntax
+pub mod text
+pub mod names
+pub mod reading
+pub mod printing

@@ -1,0 +1,2 @@
+pub mod RegionTests
+pub mod NestNamed

@@ -1,0 +1,2 @@
+pub mod NestWritten
+pub mod NestReadBack

@@ -1,0 +1,3 @@
+pub mod NestLimits
+pub mod NestReading
+pub mod WorkedLimits
