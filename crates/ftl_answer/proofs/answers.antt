@@ -1,6 +1,12 @@
 pub mod Ones
 pub mod DocumentBytes
 pub mod StagesBack
+pub mod NestsBack
+pub mod PlainFaults
+pub mod PlainTexts
+pub mod PlainExamples
+pub mod FlatParts
+pub mod FlatFaults
 pub mod Rules
 pub mod TreesRead
 pub mod Circles

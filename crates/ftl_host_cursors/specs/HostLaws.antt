@@ -1,7 +1,7 @@
 -- What the steps of visits compute: what the visits and the items of passes with nests have.
 use Rattle.std.specs.Prelude.{◌≡◌, ◌≢◌, ℕ, ◌<◌, ◌≤◌, ◌==◌, List, count_by, map, flat_map, Option}
 use Rattle.ftl_model.specs.layout.AttributeGrammar.{AttributeGrammar, input}
-use Rattle.ftl_model.specs.layout.Path.{Has, node_at, number_of}
+use Rattle.ftl_model.specs.layout.Path.{Has, Path, node_at, number_of}
 use Rattle.ftl_model.specs.layout.Tree.{Forest, size}
 use Rattle.ftl_model.specs.layout.TreeOf.{IsTreeOf}
 use Rattle.ftl_order.specs.orders.Lawful.{IsLawful}
@@ -11,8 +11,11 @@ use Rattle.ftl_schedule.specs.declared.syntax.kind.PassKind.TheVariants.{InOrder
 use Rattle.ftl_schedule.specs.stages.Stages.{kind_of, pass_of}
 use Rattle.ftl_items.specs.stage_items.Items.{Item, item_steps}
 use Rattle.ftl_nests.specs.NestItems.{is_whole_with, nest_form, visit_with}
-use Rattle.ftl_nests.specs.Nests.{NestingPass, NestingSchedule, host_of, inner_stages, nesting_pass}
+use Rattle.ftl_nests.specs.Nests.{Nest, NestingPass, NestingSchedule, host_of, inner_stages, nesting_pass}
 use Rattle.ftl_cursors.specs.item_cursor.ItemSteps.{AreStepsOf, order_of}
+use Rattle.ftl_cursors.specs.items.RowsCut.{is_whole_in}
+use Rattle.ftl_cursors.specs.items.StageItems.{tree_in}
+use Rattle.ftl_cursors.specs.declared.items.columns.ItemRows.{ItemRows}
 use Rattle.ftl_cursors.specs.visits.ItemSteps.{node_count_by}
 use Rattle.ftl_cursors.specs.visits.NodeRanges.{nodes_in}
 use Rattle.ftl_host_cursors.specs.HostSteps.{host_steps, visit_steps}
@@ -58,3 +61,9 @@ ItemsAreOfTheForm g t whole pass host inner =
     (host_steps g t pass host inner
     (nodes_in (order_of pass.kind) (number_of t x.first)
     (node_count_by (is_whole_with whole.nest t grain) t x.first)))
+
+-- rows with the host class of a nest cut as a pass with that nest
+abbrev pub RowsCutAsNests : Type 0
+RowsCutAsNests =
+    (rows : ItemRows) (nest : Option Nest) → rows.host ≡ host_of nest → (p : Path)
+    → is_whole_in rows p ≡ is_whole_with nest (tree_in rows) rows.grain p

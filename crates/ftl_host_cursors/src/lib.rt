@@ -14,6 +14,6 @@ mod tables;
 mod worked_steps;
 
 pub use cursor::HostCursor;
-pub use laws::host_visits;
+pub use laws::{host_visits, rows_cut_as_nests};
 pub use tables::HostTables;
 pub use worked_steps::steps_of_two_rows;

@@ -1,3 +1,4 @@
 pub mod NestFault
+pub mod WithoutNests
 pub mod NestAccepted
 pub mod Worked

@@ -1,3 +1,4 @@
 pub mod Endings
 pub mod Explaining
+mod PlacedPairs
 mod ReadBytes

@@ -6,8 +6,8 @@ use Rattle.std.specs.Str.{IsUtf8}
 use Rattle.std.proofs.lemmas.Bool.{ltb-false}
 use Rattle.std.proofs.lemmas.Str.{IsUtf8-nil}
 use Rattle.ftl_edits.specs.declared.meaning.types.Edit.{Edit}
-use Rattle.ftl_example.specs.pairs.FirstPair.{FaultsHavePairs}
-use Rattle.ftl_example.specs.shows.ExampleLaws.{ExamplesBySize}
+use Rattle.ftl_nest_example.specs.examples.NestExamples.{NestExamplesBySize}
+use Rattle.ftl_nest_example.specs.pairs.NestPair.{NestFaultsHavePairs}
 use Rattle.ftl_model.specs.layout.Table.{value_in}
 use Rattle.ftl_model.specs.layout.Tree.{Forest}
 use Rattle.ftl_model.specs.layout.TreeOf.{IsTreeOf}
@@ -15,7 +15,6 @@ use Rattle.ftl_model.specs.layout.Values.{Value}
 use Rattle.ftl_noncircular.specs.grammars.NoncircularLaws.{CirclesAreDecided, OneListWhereNoncircular}
 use Rattle.ftl_order.specs.orders.Lawful.{IsLawful}
 use Rattle.ftl_order.specs.orders.OneTable.{ExactlyOneList}
-use Rattle.ftl_order.proofs.orders.Scheduled.{one_list_under}
 use Rattle.ftl_page.specs.sections.Page.{page_of}
 use Rattle.ftl_page.specs.sections.Texts.{HasTextsUpTo}
 use Rattle.ftl_page.specs.declared.sections.fault.PageFault.{PageFault}
@@ -30,8 +29,7 @@ use Rattle.ftl_meaning.specs.faults.Checked.{CheckedGrammar}
 use Rattle.ftl_relayout.specs.laws.Relayout.{AreTouched}
 use Rattle.ftl_relayout.specs.relaid.Relaid.{edited_tree}
 use Rattle.ftl_deps.specs.reads.Meant.{meant}
-use Rattle.ftl_schedule.specs.stages.Stages.{stages_of}
-use Rattle.ftl_schedule.specs.declared.stages.types.Schedule.{Schedule}
+use Rattle.ftl_nest_check.specs.declared.stages.types.NestingSchedule.{NestingSchedule}
 use Rattle.ftl_answer.specs.refusals.PageLines.{page_line, too_long_line, words_line}
 use Rattle.ftl_answer.specs.answers.Answer.{Answer, refused}
 use Rattle.ftl_answer.specs.answers.Answers.{AskForNoExplanation, HasOneAnswer, IsLaidOutAnew, answered, boxes_and_touched}
@@ -47,7 +45,7 @@ use Rattle.ftl_answer.proofs.answers.DocumentBytes.{AreUtf8, page_utf8}
 use Rattle.ftl_answer.proofs.answers.Explained.{page_explained}
 use Rattle.ftl_answer.proofs.answers.Ones.{HasOne, HasSome, end_is_no_value, is_one, same_end, same_value, then_one}
 use Rattle.ftl_answer.proofs.answers.Ones.{then_some}
-use Rattle.ftl_answer.proofs.answers.Rules.{IsHanded, grammar_handed, grammar_one, handed_law, schedule_one, schedule_ordered}
+use Rattle.ftl_answer.proofs.answers.Rules.{IsHanded, grammar_handed, grammar_one, handed_law, one_list, schedule_one}
 use Rattle.ftl_answer.proofs.answers.Touched.{touched_count, touched_listed}
 use Rattle.ftl_answer.proofs.answers.TreesEdited.{edited_fits, edits_fit, edits_one}
 use Rattle.ftl_answer.proofs.answers.TreesRead.{grown_fits, grown_one, tree_fits, tree_one}
@@ -155,8 +153,8 @@ edited_one c t es one = record {
 
 -- ---- commands
 
-rules_one : (need : Need) (bytes : List ℕ) (next : CheckedGrammar → Schedule → Page → Stage ⊥)
-    → ((c : CheckedGrammar) (s : Schedule) (p : Page) → IsRead p → IsHanded p.width c
+rules_one : (need : Need) (bytes : List ℕ) (next : CheckedGrammar → NestingSchedule → Page → Stage ⊥)
+    → ((c : CheckedGrammar) (s : NestingSchedule) (p : Page) → IsRead p → IsHanded p.width c
     → schedule c p.schedule (hands_on s) → HasOne (next c s p))
     → HasOne (with_rules need bytes next)
 rules_one need bytes next one =
@@ -167,33 +165,31 @@ rules_one need bytes next one =
     (grammar_one p.width p.grammar)
     (λ c is.
     let law = grammar_handed p.width p.grammar c is in
-    then_one (schedule c p.schedule) (λ s. next c s p) (schedule_one c (handed_law p.width c law) p.schedule)
+    then_one (schedule c p.schedule) (λ s. next c s p) (schedule_one c law.faultless p.schedule)
     (λ s ordered. one c s p (page_read need bytes p read) law ordered)))
 
 solved_one : (bytes : List ℕ) (text : CheckedGrammar → Forest → List Value → List ℕ) → HasOne (solved bytes text)
 solved_one bytes text =
     rules_one whole_page bytes (λ c s p. Then (tree c s (document_text p)) (shown_by text c))
     (λ c s p read law ordered.
-    let lawful = handed_law p.width c law in
     then_one (tree c s (document_text p)) (shown_by text c) (tree_one c (document_text p) read.short read.utf8 s)
     (λ t is.
     shown_one text c t
-    (one_list_under (meant c) (stages_of s) t lawful (schedule_ordered c lawful p.schedule s ordered).pairs
+    (one_list c law.faultless p.schedule s ordered t
     (tree_fits c (document_text p) read.short read.utf8 s law.faultless t is))))
 
 -- the tree of an accepted document, with its edits
-pub tables_of_edits : (c : CheckedGrammar) (s : Schedule) (p : Page) (t : Forest) (es : List Edit) → IsRead p
+pub tables_of_edits : (c : CheckedGrammar) (s : NestingSchedule) (p : Page) (t : Forest) (es : List Edit) → IsRead p
     → IsHanded p.width c → schedule c p.schedule (hands_on s) → tree c s (document_text p) (hands_on t)
     → edits c t (edits_text p) (hands_on es) → IsTreeOf (meant c) (edited_tree c t es) × HasOneChange c t es
 tables_of_edits c s p t es read law ordered spelled changed =
     let lawful = handed_law p.width c law in
-    let pairs = (schedule_ordered c lawful p.schedule s ordered).pairs in
     let fits = tree_fits c (document_text p) read.short read.utf8 s law.faultless t spelled in
     let after =
     edited_fits c t lawful fits es (edits_fit c t (edits_text p) read.edits_short read.edits_utf8 es changed) in (
       after,
-      one_change c t es lawful after (one_list_under (meant c) (stages_of s) t lawful pairs fits)
-          (one_list_under (meant c) (stages_of s) (edited_tree c t es) lawful pairs after),
+      one_change c t es lawful after (one_list c law.faultless p.schedule s ordered t fits)
+          (one_list c law.faultless p.schedule s ordered (edited_tree c t es) after),
     )
 
 anew_one : (bytes : List ℕ) → HasOne (solved_anew bytes)
@@ -211,7 +207,7 @@ pub command_from : (o : Option Command) (c : Command) → hands_on c ≡ command
 command_from None c is = absurd (end_is_no_value (refused 2 words_line) c (sym is))
 command_from (Some other) c is = ap (λ (x : Command). Some x) (sym (same_value c other is))
 
-module _ (circles : CirclesAreDecided) (one_list : OneListWhereNoncircular) where
+module _ (circles : CirclesAreDecided) (by_demand : OneListWhereNoncircular) where
   -- the grammar of a page for evaluation by demand, and the table of its document
   demanded_one : (c : CheckedGrammar) (p : Page) (text : CheckedGrammar → Forest → List Value → List ℕ) → IsRead p
       → IsHanded p.width c
@@ -225,7 +221,7 @@ module _ (circles : CirclesAreDecided) (one_list : OneListWhereNoncircular) wher
       (grown_one c (document_text p) read.short read.utf8)
       (λ t grown.
       shown_one text c t
-      (one_list (meant c) t lawful told.1
+      (by_demand (meant c) t lawful told.1
       (grown_fits c (document_text p) read.short read.utf8 law.faultless t grown))))
 
   by_demand_one : (bytes : List ℕ) (text : CheckedGrammar → Forest → List Value → List ℕ)
@@ -257,7 +253,7 @@ module _ (circles : CirclesAreDecided) (one_list : OneListWhereNoncircular) wher
       (λ c is.
       obeyed_one c bytes (λ e. other (command_from (command_of words) c is ∙ ap (λ (x : Command). Some x) e)))
 
-  module _ (by_size : ExamplesBySize) (pairs : FaultsHavePairs) where
+  module _ (by_size : NestExamplesBySize) (pairs : NestFaultsHavePairs) where
     obeyed_some : (c : Command) (bytes : List ℕ) → HasSome (obeyed c bytes)
     obeyed_some (command.Run how) bytes = (obeyed_one (command.Run how) bytes (λ e. absurd cc)).some
     obeyed_some command.Check bytes = (obeyed_one command.Check bytes (λ e. absurd cc)).some

@@ -1,5 +1,5 @@
 -- Schedules of code and those of the definitions are the same.
-use Rattle.std.proofs.Common.{◌≡◌, refl, sym, ap, ◌∙◌, List, [], ◌∷◌, map}
+use Rattle.std.proofs.Common.{◌≡◌, refl, ap, ◌∙◌, List, [], ◌∷◌, map}
 use Rattle.ftl_order.specs.orders.Schedule as order
 use Rattle.ftl_schedule.specs.declared.syntax.kind.PassKind.{PassKind}
 use Rattle.ftl_schedule.specs.declared.syntax.kind.PassKind.TheVariants.{TopDown, BottomUp, InOrder}
@@ -8,7 +8,8 @@ use Rattle.ftl_schedule.specs.declared.stages.types.Pass.{Pass}
 use Rattle.ftl_schedule.specs.declared.stages.types.Stage.{Stage}
 use Rattle.ftl_schedule.specs.declared.stages.types.Schedule.{Schedule}
 
-abbrev kind_back : order.PassKind → PassKind
+-- the kind of code that stands for one
+abbrev pub kind_back : order.PassKind → PassKind
 kind_back order.topdown = TopDown
 kind_back order.bottomup = BottomUp
 kind_back order.inorder = InOrder
@@ -25,17 +26,17 @@ schedule_back s = record { stages = map stage_back s }
 
 -- ---- there and back
 
-same_kind : (k : order.PassKind) → kind_of (kind_back k) ≡ k
+pub same_kind : (k : order.PassKind) → kind_of (kind_back k) ≡ k
 same_kind order.topdown = refl
 same_kind order.bottomup = refl
 same_kind order.inorder = refl
 
-kind_same : (k : PassKind) → kind_back (kind_of k) ≡ k
+pub kind_same : (k : PassKind) → kind_back (kind_of k) ≡ k
 kind_same TopDown = refl
 kind_same BottomUp = refl
 kind_same InOrder = refl
 
-map_back : {X Y : Type 0} (f : X → Y) (b : Y → X) → ((y : Y) → f (b y) ≡ y) → (ys : List Y) → map f (map b ys) ≡ ys
+pub map_back : {X Y : Type 0} (f : X → Y) (b : Y → X) → ((y : Y) → f (b y) ≡ y) → (ys : List Y) → map f (map b ys) ≡ ys
 map_back f b same [] = refl
 map_back f b same (y ∷ ys) = ap (λ x. x ∷ map f (map b ys)) (same y) ∙ ap (λ zs. y ∷ zs) (map_back f b same ys)
 
@@ -55,11 +56,7 @@ stage_same s = ap (λ (passes : List Pass). record { passes = passes }) (map_bac
 pub same_schedule : (s : order.Schedule) → stages_of (schedule_back s) ≡ s
 same_schedule s = map_back (λ (stage : Stage). map pass_of stage.passes) stage_back same_passes s
 
-schedule_same : (s : Schedule) → schedule_back (stages_of s) ≡ s
+pub schedule_same : (s : Schedule) → schedule_back (stages_of s) ≡ s
 schedule_same s =
     ap (λ (stages : List Stage). record { stages = stages })
     (map_back stage_back (λ (stage : Stage). map pass_of stage.passes) stage_same s.stages)
-
--- two that stand for one are one
-pub one_stands : (s t : Schedule) → stages_of s ≡ stages_of t → s ≡ t
-one_stands s t same = sym (schedule_same s) ∙ (ap schedule_back same ∙ schedule_same t)

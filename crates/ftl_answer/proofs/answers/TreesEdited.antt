@@ -1,5 +1,5 @@
 -- A page has one list of edits, or one refusal of them; a tree with its edits applied is a tree of the grammar.
-use Rattle.std.proofs.Common.{ℕ, ◌≤◌, ℤ, sym, List, [], ◌∷◌, length, map}
+use Rattle.std.proofs.Common.{ℕ, ◌≤◌, ℤ, sym, List, [], ◌∷◌, length}
 use Rattle.std.specs.Str.{IsUtf8}
 use Rattle.std.proofs.lemmas.List.Elements.{All-head, All-tail}
 use Rattle.ftl_base.specs.Widths.{greatest_of_width}

@@ -18,8 +18,9 @@ use Rattle.ftl_meaning.proofs.counts.TokenCounts.{few_tokens}
 use Rattle.ftl_meaning.specs.faults.Checked.{CheckedGrammar}
 use Rattle.ftl_meaning.specs.lawful.Faultless.{IsFaultless}
 use Rattle.ftl_deps.specs.reads.Meant.{meant}
-use Rattle.ftl_schedule.specs.stages.Stages.{stages_of}
-use Rattle.ftl_schedule.specs.declared.stages.types.Schedule.{Schedule}
+use Rattle.ftl_nest_check.specs.stages.Nested.{nests_of}
+use Rattle.ftl_nest_check.specs.declared.stages.types.NestingSchedule.{NestingSchedule}
+use Rattle.ftl_nests.specs.Nests.{outer_schedule}
 use Rattle.ftl_document.proofs.syntax.NumberLemmas.{document-within}
 use Rattle.ftl_document.specs.faults.FirstFault.{first_node_fault, first_there, instance_count_of, too_many_instances}
 use Rattle.ftl_document.specs.faults.Within.{IsWithin}
@@ -102,7 +103,7 @@ module _ (c : CheckedGrammar) (text : List ℕ) (short : length text ≤ 6710886
       (some_tree c w (few_in scanned is).few (few_in scanned is).numbers) (any_two_trees c w))
       (λ t read. is_one _))
 
-  pub tree_one : (s : Schedule) → HasOne (tree c s text)
+  pub tree_one : (s : NestingSchedule) → HasOne (tree c s text)
   tree_one s = then_one (grown_tree c text) (planned_tree c s) grown_one (λ t grown. is_one _)
 
   -- a document without a fault has no node with one
@@ -127,9 +128,9 @@ module _ (c : CheckedGrammar) (text : List ℕ) (short : length text ≤ 6710886
       let b = then_handed (spelled_tree c w) (λ (x : CheckedTree). Is (hands_on x.tree)) t a.2 in
       subst (IsTreeOf (meant c)) (sym (same_value t b.0.tree b.2)) (read_is_tree law w refl (few_in a.0 a.1) b.0 b.1)
 
-  pub tree_fits : (s : Schedule) → IsFaultless c.grammar → (t : Forest) → tree c s text (hands_on t)
+  pub tree_fits : (s : NestingSchedule) → IsFaultless c.grammar → (t : Forest) → tree c s text (hands_on t)
       → IsTreeOf (meant c) t
   tree_fits s law t all =
       let a = then_handed (grown_tree c text) (planned_tree c s) t all in
-      let d = handed (λ fault. refused 7 (plan_line fault)) (first_fault (meant c) (stages_of s) a.0) a.0 t a.2 in
+      let d = handed (λ fault. refused 7 (plan_line fault)) (first_fault (meant c) (outer_schedule (nests_of s)) a.0) a.0 t a.2 in
       subst (IsTreeOf (meant c)) (sym d.1) (grown_fits law a.0 a.1)

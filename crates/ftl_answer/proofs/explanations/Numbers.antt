@@ -10,7 +10,7 @@ use Rattle.ftl_model.specs.layout.Path.{top}
 use Rattle.ftl_model.specs.layout.Solves.{Instance, IsInstance, instance_of}
 use Rattle.ftl_model.specs.layout.Table.{instance_number}
 use Rattle.ftl_order.specs.orders.Pairs.{Pair}
-use Rattle.ftl_order.specs.orders.Schedule as order
+use Rattle.ftl_nests.specs.Nests.{NestingSchedule}
 use Rattle.ftl_order.proofs.orders.Instances.{instance_at_number, number_within}
 use Rattle.ftl_tree.specs.trees.CheckedTree.{CheckedTree}
 use Rattle.ftl_answer.specs.answers.Explanations.{example_text, instance_line}
@@ -45,7 +45,7 @@ module _ (t : CheckedTree) where
   numbers_are steps each n there =
       let m = in_map number steps n there in number_is m.from n (each m.from m.there) (sym m.is)
 
-  module _ (s : order.Schedule) (pair : Pair) (reader writer : ℕ) (numbers : List ℕ)
+  module _ (s : NestingSchedule) (pair : Pair) (reader writer : ℕ) (numbers : List ℕ)
       (e : IsExampleOf s pair t reader writer numbers) where
     pub reader_known : IsNumber t reader
     reader_known = number_is e.reading reader e.is.shows.reader_there.0 e.reader_is

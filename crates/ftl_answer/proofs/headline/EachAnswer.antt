@@ -10,8 +10,8 @@ use Rattle.ftl_meaning.specs.faults.Checked.{CheckedGrammar}
 use Rattle.ftl_model.specs.layout.Tree.{Forest}
 use Rattle.ftl_model.specs.layout.Values.{Value}
 use Rattle.ftl_relayout.specs.relaid.Relaid.{edited_tree}
-use Rattle.ftl_schedule.specs.printing.WrittenOf.{written_of}
-use Rattle.ftl_schedule.specs.text.ScheduleText.{schedule_text}
+use Rattle.ftl_nest_text.specs.printing.NestWritten.{nest_written_of}
+use Rattle.ftl_nest_text.specs.text.NestText.{nesting_schedule_text}
 use Rattle.ftl_answer.specs.answers.Answer.{Answer, answer, refused}
 use Rattle.ftl_answer.specs.answers.Answers.{accepted_answer}
 use Rattle.ftl_answer.specs.answers.Answers.{boxes_and_touched, boxes_of, document_text, edited_answer, edited_page, obeyed}
@@ -73,8 +73,8 @@ module _ (Fine : Answer → Type 0) (section_line : (s : ℕ) → IsSectionStatu
       (paged rules_alone)
   of_reading command.Schedule bytes reads paged =
       of_rules Fine section_line rules_alone bytes
-      (λ c s p. Is (ends (answer 0 (schedule_text (written_of c.grammar s)))))
-      (λ c s p read lawful ordered a is. said (schedule_text (written_of c.grammar s)) a is)
+      (λ c s p. Is (ends (answer 0 (nesting_schedule_text (nest_written_of c.grammar s)))))
+      (λ c s p read lawful ordered a is. said (nesting_schedule_text (nest_written_of c.grammar s)) a is)
       (paged rules_alone)
   of_reading command.Explain bytes reads paged =
       of_explained Fine section_line bytes (λ c s p read lawful ordered. accepted (codes "accepted\n"))

@@ -5,7 +5,7 @@ use Rattle.ftl_order.specs.declared.faults.fault.VerifyFault.TheVariants.{Unorde
 use Rattle.ftl_page.specs.commands.Commands.{command_of}
 use Rattle.ftl_page.specs.declared.commands.command.Command.{Command}
 use Rattle.ftl_page.specs.declared.commands.command.Command.TheVariants as command
-use Rattle.ftl_schedule.specs.declared.stages.types.Schedule.{Schedule}
+use Rattle.ftl_nest_check.specs.declared.stages.types.NestingSchedule.{NestingSchedule}
 use Rattle.ftl_answer.specs.answers.Answer.{Answer, answer}
 use Rattle.ftl_answer.specs.answers.Answers.{HasOneAnswer, IsAnswer, accepted_answer, command_in, explained, explained_by}
 use Rattle.ftl_answer.specs.answers.Answers.{explained_page, obeyed}
@@ -14,7 +14,7 @@ use Rattle.ftl_answer.specs.answers.Stages.{Is, ends}
 use Rattle.ftl_answer.specs.headline.Promises.{AreRulesAccepted, IsPairRefused, IsShown}
 use Rattle.ftl_answer.proofs.answers.Explained.{accepted_alone, rules_go_on, spelled_goes_on}
 use Rattle.ftl_answer.proofs.answers.Ones.{goes_on, is_one, same_end}
-use Rattle.ftl_answer.proofs.answers.Rules.{grammar_handed, handed_law}
+use Rattle.ftl_answer.proofs.answers.Rules.{grammar_handed}
 use Rattle.ftl_answer.proofs.headline.Shown.{accepted_is_shown}
 
 -- what the command of the words comes to
@@ -25,16 +25,16 @@ obeyed_by words bytes c a named answers =
     answers
 
 -- where grammar and schedule are accepted, each answer says so
-pub accepted_shown : (bytes : List ℕ) (c : CheckedGrammar) (s : Schedule) (a : Answer) → AreRulesAccepted bytes c s
+pub accepted_shown : (bytes : List ℕ) (c : CheckedGrammar) (s : NestingSchedule) (a : Answer) → AreRulesAccepted bytes c s
     → explained_page bytes (ends a) → a ≡ accepted_answer
 accepted_shown bytes c s a x obeys =
     let p = x.sections in
-    let law = handed_law p.width c (grammar_handed p.width p.grammar c x.lawful) in
+    let law = (grammar_handed p.width p.grammar c x.lawful).faultless in
     same_end a accepted_answer
     (accepted_alone c law p.schedule s x.ordered (ends a) (rules_go_on bytes p c x.read x.lawful (ends a) obeys))
 
 -- where the schedule is refused for a pair, each explains it
-pub pair_shown : (bytes : List ℕ) (c : CheckedGrammar) (s : Schedule) (a : Answer) → IsPairRefused bytes c s
+pub pair_shown : (bytes : List ℕ) (c : CheckedGrammar) (s : NestingSchedule) (a : Answer) → IsPairRefused bytes c s
     → explained_page bytes (ends a) → (text : List ℕ) × IsExplanation c s text × (a ≡ answer 0 text)
 pair_shown bytes c s a x obeys =
     let of_text : explained c (Some x.text) (ends a) =

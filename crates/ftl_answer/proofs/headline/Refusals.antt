@@ -34,11 +34,12 @@ use Rattle.ftl_answer.specs.refusals.PageLines.{page_line, too_long_line, words_
 use Rattle.ftl_answer.specs.refusals.PlanLines.{plan_line}
 use Rattle.ftl_answer.specs.refusals.ScheduleLines.{schedule_line, stuck_line, verify_line}
 use Rattle.ftl_answer.specs.refusals.TextLines.{syntax_line, token_line}
-use Rattle.ftl_order.specs.faults.FirstFault as orders
+use Rattle.ftl_nest_check.specs.check.NestFault as orders
 use Rattle.ftl_schedule.specs.declared.names.fault.ScheduleFault.TheVariants as schedules
-use Rattle.ftl_schedule.specs.reading.Read.{Answers}
-use Rattle.ftl_schedule.specs.stages.Stages.{stages_of}
-use Rattle.ftl_schedule.specs.declared.stages.types.Schedule.{Schedule}
+use Rattle.ftl_nest_check.specs.stages.Nested.{nests_of}
+use Rattle.ftl_nest_check.specs.declared.stages.types.NestingSchedule.{NestingSchedule}
+use Rattle.ftl_nest_text.specs.reading.NestReading.{NestAnswers}
+use Rattle.ftl_nests.specs.Nests.{outer_schedule}
 use Rattle.ftl_grammar.specs.declared.syntax.rules.Grammar.{Grammar}
 use Rattle.ftl_tokens.specs.scanner.Scan.{scan}
 use Rattle.ftl_tokens.specs.scanner.Tokenized.{Tokenized}
@@ -169,11 +170,11 @@ module _ (Fine : Answer → Type 0) (line : (s : ℕ) → IsSectionStatus s → 
       (of_tokens section.Schedule of_schedule_status 2147483647 text)
       (λ scanned read.
       two Fine (spelled_schedule c scanned) (ordered_schedule c)
-      (call_ends Fine schedules.OutOfMemory (λ fault. refused 6 (schedule_line fault)) (Answers c.grammar scanned)
+      (call_ends Fine schedules.OutOfMemory (λ fault. refused 6 (schedule_line fault)) (NestAnswers c scanned)
       (λ fault. line 6 of_schedule_status (schedule_line fault)))
-      (λ (s : Schedule) spelled.
+      (λ (s : NestingSchedule) spelled.
       fault_ends Fine (λ fault. refused 6 (verify_line c.grammar fault))
-      (λ fault. line 6 of_schedule_status (verify_line c.grammar fault)) (orders.first_fault (meant c) (stages_of s)) s))
+      (λ fault. line 6 of_schedule_status (verify_line c.grammar fault)) (orders.first_nest_fault (meant c) (nests_of s)) s))
       a p
 
   pub of_noncircular : (c : CheckedGrammar) (a : Answer) → noncircular_grammar c (ends a) → Fine a
@@ -194,12 +195,12 @@ module _ (Fine : Answer → Type 0) (line : (s : ℕ) → IsSectionStatus s → 
       (λ fault. line 7 of_document_status (document_line c.grammar fault)))
       (λ (t : CheckedTree) spelled a is. absurd (end_is_no_value a t.tree is)))
 
-  pub of_tree : (c : CheckedGrammar) (s : Schedule) (text : List ℕ) (a : Answer) → tree c s text (ends a) → Fine a
+  pub of_tree : (c : CheckedGrammar) (s : NestingSchedule) (text : List ℕ) (a : Answer) → tree c s text (ends a) → Fine a
   of_tree c s text =
       two Fine (grown_tree c text) (planned_tree c s) (of_grown c text)
       (λ (t : Forest) grown.
       fault_ends Fine (λ fault. refused 7 (plan_line fault)) (λ fault. line 7 of_document_status (plan_line fault))
-      (plans.first_fault (meant c) (stages_of s) t) t)
+      (plans.first_fault (meant c) (outer_schedule (nests_of s)) t) t)
 
   pub of_edits : (c : CheckedGrammar) (t : Forest) (text : List ℕ) (a : Answer) → edits c t text (ends a) → Fine a
   of_edits c t text =
@@ -212,8 +213,8 @@ module _ (Fine : Answer → Type 0) (line : (s : ℕ) → IsSectionStatus s → 
       (λ fault. line 10 of_edits_status (edit_line fault)))
 
   -- a grammar and a schedule, and what goes on with them
-  pub of_rules : (need : Need) (bytes : List ℕ) (next : CheckedGrammar → Schedule → Page → Stage ⊥)
-      → ((c : CheckedGrammar) (s : Schedule) (p : Page) → page need bytes (hands_on p)
+  pub of_rules : (need : Need) (bytes : List ℕ) (next : CheckedGrammar → NestingSchedule → Page → Stage ⊥)
+      → ((c : CheckedGrammar) (s : NestingSchedule) (p : Page) → page need bytes (hands_on p)
       → grammar p.width p.grammar (hands_on c) → schedule c p.schedule (hands_on s)
       → (a : Answer) → next c s p (ends a) → Fine a)
       → ((a : Answer) → page need bytes (ends a) → Fine a)
@@ -231,17 +232,17 @@ module _ (Fine : Answer → Type 0) (line : (s : ℕ) → IsSectionStatus s → 
 
   -- a schedule that is accepted, or whose first fault is a pair that a text explains
   module _ (c : CheckedGrammar) (text : List ℕ) (scanned : Tokenized)
-      (read : tokens section.Schedule 2147483647 text (hands_on scanned)) (s : Schedule)
+      (read : tokens section.Schedule 2147483647 text (hands_on scanned)) (s : NestingSchedule)
       (spelled : spelled_schedule c scanned (hands_on s))
       (accept : schedule c (Some text) (hands_on s) → Fine accepted_answer)
-      (explain : (reader writer : ℕ) → orders.first_fault (meant c) (stages_of s) ≡ Some (verify.Unordered reader writer)
+      (explain : (reader writer : ℕ) → orders.first_nest_fault (meant c) (nests_of s) ≡ Some (verify.Unordered reader writer)
       → (told : List ℕ) → IsExplanation c s told → Fine (answer 0 told)) where
     refused_fault : (fault : VerifyFault) (a : Answer) → ended ⊥ a ≡ ends (fault_refused c fault) → Fine a
     refused_fault fault a is =
         same Fine a (fault_refused c fault) (same_end a (fault_refused c fault) is)
         (line 6 of_schedule_status (verify_line c.grammar fault))
 
-    told_by : (o : Option VerifyFault) → orders.first_fault (meant c) (stages_of s) ≡ o → (a : Answer)
+    told_by : (o : Option VerifyFault) → orders.first_nest_fault (meant c) (nests_of s) ≡ o → (a : Answer)
         → explained_by c s o (ends a) → Fine a
     told_by None e a is =
         let ordered : ordered_schedule c s (hands_on s) =
@@ -256,10 +257,10 @@ module _ (Fine : Answer → Type 0) (line : (s : ℕ) → IsSectionStatus s → 
 
   -- the text of a schedule that is accepted, or whose first fault is a pair that a text explains
   of_explained_text : (c : CheckedGrammar) (text : Option (List ℕ))
-      → ((s : Schedule) → schedule c text (hands_on s) → Fine accepted_answer)
-      → ((written : List ℕ) (scanned : Tokenized) (s : Schedule) → text ≡ Some written
+      → ((s : NestingSchedule) → schedule c text (hands_on s) → Fine accepted_answer)
+      → ((written : List ℕ) (scanned : Tokenized) (s : NestingSchedule) → text ≡ Some written
       → tokens section.Schedule 2147483647 written (hands_on scanned) → spelled_schedule c scanned (hands_on s)
-      → (reader writer : ℕ) → orders.first_fault (meant c) (stages_of s) ≡ Some (verify.Unordered reader writer)
+      → (reader writer : ℕ) → orders.first_nest_fault (meant c) (nests_of s) ≡ Some (verify.Unordered reader writer)
       → (told : List ℕ) → IsExplanation c s told → Fine (answer 0 told))
       → (a : Answer) → explained c text (ends a) → Fine a
   of_explained_text c None accept explain =
@@ -271,20 +272,20 @@ module _ (Fine : Answer → Type 0) (line : (s : ℕ) → IsSectionStatus s → 
       (of_tokens section.Schedule of_schedule_status 2147483647 text)
       (λ scanned read.
       two Fine (spelled_schedule c scanned) (explained_schedule c)
-      (call_ends Fine schedules.OutOfMemory (λ fault. refused 6 (schedule_line fault)) (Answers c.grammar scanned)
+      (call_ends Fine schedules.OutOfMemory (λ fault. refused 6 (schedule_line fault)) (NestAnswers c scanned)
       (λ fault. line 6 of_schedule_status (schedule_line fault)))
-      (λ (s : Schedule) spelled.
+      (λ (s : NestingSchedule) spelled.
       told_by c text scanned read s spelled (accept s) (explain text scanned s refl read spelled)
-      (orders.first_fault (meant c) (stages_of s)) refl))
+      (orders.first_nest_fault (meant c) (nests_of s)) refl))
 
   -- a grammar and its schedule, accepted or with a pair that a text explains
   pub of_explained : (bytes : List ℕ)
-      → ((c : CheckedGrammar) (s : Schedule) (p : Page) → page rules_alone bytes (hands_on p)
+      → ((c : CheckedGrammar) (s : NestingSchedule) (p : Page) → page rules_alone bytes (hands_on p)
       → grammar p.width p.grammar (hands_on c) → schedule c p.schedule (hands_on s) → Fine accepted_answer)
-      → ((c : CheckedGrammar) (s : Schedule) (p : Page) → page rules_alone bytes (hands_on p)
+      → ((c : CheckedGrammar) (s : NestingSchedule) (p : Page) → page rules_alone bytes (hands_on p)
       → grammar p.width p.grammar (hands_on c) → (written : List ℕ) (scanned : Tokenized) → p.schedule ≡ Some written
       → tokens section.Schedule 2147483647 written (hands_on scanned) → spelled_schedule c scanned (hands_on s)
-      → (reader writer : ℕ) → orders.first_fault (meant c) (stages_of s) ≡ Some (verify.Unordered reader writer)
+      → (reader writer : ℕ) → orders.first_nest_fault (meant c) (nests_of s) ≡ Some (verify.Unordered reader writer)
       → (told : List ℕ) → IsExplanation c s told → Fine (answer 0 told))
       → ((a : Answer) → page rules_alone bytes (ends a) → Fine a)
       → (a : Answer) → explained_page bytes (ends a) → Fine a
@@ -322,7 +323,7 @@ module _ (Fine : Answer → Type 0) (line : (s : ℕ) → IsSectionStatus s → 
 
   -- a tree with edits of it, and what goes on with them
   pub of_anew : (bytes : List ℕ)
-      → ((c : CheckedGrammar) (s : Schedule) (p : Page) (t : Forest) (es : List Edit) → page edited_page bytes (hands_on p)
+      → ((c : CheckedGrammar) (s : NestingSchedule) (p : Page) (t : Forest) (es : List Edit) → page edited_page bytes (hands_on p)
       → grammar p.width p.grammar (hands_on c) → schedule c p.schedule (hands_on s)
       → tree c s (document_text p) (hands_on t) → edits c t (edits_text p) (hands_on es)
       → (a : Answer) → edited_by c t es (ends a) → Fine a)

@@ -2,7 +2,7 @@
 use Rattle.std.proofs.Common.{◌≡◌, ◌⊎◌, inl, inr, refl, sym, ap, subst, ◌∙◌, ℕ, ◌<◌, Bool, true, false, List, length, Option, Some, None, Result, Ok, Err}
 use Rattle.std.proofs.lemmas.Bool.{lt-ltb}
 use Rattle.std.specs.Prelude.{if◌then◌else◌}
-use Rattle.ftl_order.specs.faults.FirstFault.{first_fault}
+use Rattle.ftl_nest_check.specs.check.NestFault.{first_nest_fault}
 use Rattle.ftl_boxes.specs.SamplePage.{sample_page_of}
 use Rattle.ftl_boxes.specs.declared.fault.SampleFault.{SampleFault}
 use Rattle.ftl_page.specs.commands.Commands.{command_of}
@@ -20,9 +20,9 @@ use Rattle.ftl_model.specs.layout.Boxes.{shows_overflow}
 use Rattle.ftl_model.specs.layout.Table.{value_in}
 use Rattle.ftl_model.specs.layout.Tree.{Forest}
 use Rattle.ftl_model.specs.layout.Values.{Value}
-use Rattle.ftl_schedule.specs.printing.WrittenOf.{written_of}
-use Rattle.ftl_schedule.specs.text.ScheduleText.{schedule_text}
-use Rattle.ftl_schedule.specs.stages.Stages.{stages_of}
+use Rattle.ftl_nest_check.specs.stages.Nested.{nests_of}
+use Rattle.ftl_nest_text.specs.printing.NestWritten.{nest_written_of}
+use Rattle.ftl_nest_text.specs.text.NestText.{nesting_schedule_text}
 use Rattle.ftl_answer.specs.answers.Answer.{Answer, answer, refused}
 use Rattle.ftl_answer.specs.answers.Answers.{IsAnswer, accepted_answer, boxes_of, command_in, document_text, edited_answer}
 use Rattle.ftl_answer.specs.answers.Answers.{edited_page, explained, explained_by, explained_page}
@@ -101,7 +101,7 @@ acceptance_is_shown bytes a (c, s, x, is) =
 
 explanation_is_shown : (bytes : List ℕ) (a : Answer) → IsExplanationShown bytes a → explained_page bytes (ends a)
 explanation_is_shown bytes a (c, s, text, x, explains, is) =
-    let told : explained_by c s (first_fault (meant c) (stages_of s)) (ends a) =
+    let told : explained_by c s (first_nest_fault (meant c) (nests_of s)) (ends a) =
     subst (λ f. explained_by c s f (ends a)) (sym x.fault) (text, explains, ap (ended ⊥) is) in
     let by_text : explained c (Some x.text) (ends a) = inr (x.scanned, x.tokens_are, inr (s, x.spelled, told)) in
     inr (
@@ -240,13 +240,13 @@ shown_or_refused command.Check bytes =
     (of_page (Shown bytes command.Check) (shown_line bytes command.Check 4 of_page_status) rules_alone bytes)
 shown_or_refused command.Schedule bytes =
     of_rules (Shown bytes command.Schedule) (λ s is. shown_line bytes command.Schedule s (of_section s is)) rules_alone bytes
-    (λ c s p. Is (ends (answer 0 (schedule_text (written_of c.grammar s)))))
+    (λ c s p. Is (ends (answer 0 (nesting_schedule_text (nest_written_of c.grammar s)))))
     (λ c s p read lawful ordered a is.
     inl (
       c,
       s,
       record { sections = p; read = read; lawful = lawful; ordered = ordered },
-      same_end a (answer 0 (schedule_text (written_of c.grammar s))) is,
+      same_end a (answer 0 (nesting_schedule_text (nest_written_of c.grammar s))) is,
     ))
     (of_page (Shown bytes command.Schedule) (shown_line bytes command.Schedule 4 of_page_status) rules_alone bytes)
 shown_or_refused command.Explain bytes =

@@ -10,11 +10,9 @@ use Rattle.ftl_model.specs.layout.Tree.{Forest}
 use Rattle.ftl_model.specs.layout.TreeOf.{IsTreeOf}
 use Rattle.ftl_relayout.specs.relaid.Relaid.{edited_tree}
 use Rattle.ftl_noncircular.specs.grammars.NoncircularLaws.{OneListWhereNoncircular}
-use Rattle.ftl_order.proofs.orders.Scheduled.{one_list_under}
-use Rattle.ftl_schedule.specs.stages.Stages.{stages_of}
 use Rattle.ftl_answer.specs.answers.Answers.{document_text, edited_page, unscheduled_page, whole_page}
 use Rattle.ftl_answer.proofs.answers.Commands.{HasOneChange, page_read, tables_of_edits}
-use Rattle.ftl_answer.proofs.answers.Rules.{grammar_handed, handed_law, schedule_ordered}
+use Rattle.ftl_answer.proofs.answers.Rules.{grammar_handed, handed_law, one_list}
 use Rattle.ftl_answer.proofs.answers.TreesRead.{grown_fits, tree_fits}
 use Rattle.ftl_answer.specs.headline.Headline.{AreEditsAccepted, HasOneChangedTable, HasOneTable, HasOneTableWhere}
 use Rattle.ftl_answer.specs.headline.Headline.{IsAcceptedFor, IsAcceptedForDemand, IsAcceptedForEdits, OneTableOf}
@@ -25,9 +23,7 @@ one_for need bytes c t x =
     let p = x.sections in
     let read = page_read need bytes p x.read in
     let law = grammar_handed p.width p.grammar c x.lawful in
-    let lawful = handed_law p.width c law in
-    one_list_under (meant c) (stages_of x.order) t lawful
-    (schedule_ordered c lawful p.schedule x.order x.ordered).pairs
+    one_list c law.faultless p.schedule x.order x.ordered t
     (tree_fits c (document_text p) read.short read.utf8 x.order law.faultless t x.spelled)
 
 pub accepted_one : (bytes : List ℕ) → HasOneTable bytes
@@ -48,26 +44,25 @@ edited_one bytes = (
   λ c t es x.
       let y = x.accepted in
       let p = y.sections in
-      let law = handed_law p.width c (grammar_handed p.width p.grammar c y.lawful) in
-      one_list_under (meant c) (stages_of y.order) (edited_tree c t es) law
-      (schedule_ordered c law p.schedule y.order y.ordered).pairs (changed_one bytes c t es x).0,
+      let law = grammar_handed p.width p.grammar c y.lawful in
+      one_list c law.faultless p.schedule y.order y.ordered (edited_tree c t es) (changed_one bytes c t es x).0,
 )
 
 -- so it does without a schedule, where the grammar is noncircular
 demanded_one : OneListWhereNoncircular → (bytes : List ℕ) → HasOneTableWhere IsAcceptedForDemand bytes
-demanded_one one_list bytes c t x =
+demanded_one by_demand bytes c t x =
     let p = x.sections in
     let read = page_read unscheduled_page bytes p x.read in
     let law = grammar_handed p.width p.grammar c x.lawful in
-    one_list (meant c) t (handed_law p.width c law) x.noncircular
+    by_demand (meant c) t (handed_law p.width c law) x.noncircular
     (grown_fits c (document_text p) read.short read.utf8 law.faultless t x.spelled)
 
 pub one_table_of : OneListWhereNoncircular → (c : Option Command) (told : Option (List ℕ)) → OneTableOf c told
-one_table_of one_list None told = tt
-one_table_of one_list (Some (command.Run how)) told = λ bytes are. accepted_one bytes
-one_table_of one_list (Some command.Check) told = λ bytes are. accepted_one bytes
-one_table_of one_list (Some command.Schedule) told = λ bytes are. accepted_one bytes
-one_table_of one_list (Some command.Explain) told = λ bytes are. accepted_one bytes
-one_table_of one_list (Some command.Demand) told = λ bytes are. demanded_one one_list bytes
-one_table_of one_list (Some (command.Edit how)) told = λ bytes are. edited_one bytes
-one_table_of one_list (Some (command.Sample pieces name how)) told = λ text is. accepted_one text
+one_table_of by_demand None told = tt
+one_table_of by_demand (Some (command.Run how)) told = λ bytes are. accepted_one bytes
+one_table_of by_demand (Some command.Check) told = λ bytes are. accepted_one bytes
+one_table_of by_demand (Some command.Schedule) told = λ bytes are. accepted_one bytes
+one_table_of by_demand (Some command.Explain) told = λ bytes are. accepted_one bytes
+one_table_of by_demand (Some command.Demand) told = λ bytes are. demanded_one by_demand bytes
+one_table_of by_demand (Some (command.Edit how)) told = λ bytes are. edited_one bytes
+one_table_of by_demand (Some (command.Sample pieces name how)) told = λ text is. accepted_one text

@@ -10,7 +10,7 @@ use Rattle.ftl_meaning.specs.faults.Checked.{CheckedGrammar}
 use Rattle.ftl_model.specs.layout.Table.{SolvesList}
 use Rattle.ftl_model.specs.layout.Tree.{Forest}
 use Rattle.ftl_model.specs.layout.Values.{Value}
-use Rattle.ftl_schedule.specs.declared.stages.types.Schedule.{Schedule}
+use Rattle.ftl_nest_check.specs.declared.stages.types.NestingSchedule.{NestingSchedule}
 use Rattle.ftl_page.specs.commands.Commands.{command_of}
 use Rattle.ftl_page.specs.declared.commands.command.Command.{Command}
 use Rattle.ftl_page.specs.declared.commands.command.Command.TheVariants as command
@@ -300,8 +300,8 @@ module _ (ones : EachHasOneAnswer) (k : Call) (bytes : List ℕ) (promised : Kee
   explains_it : explained_page bytes (ends some_written_answer.0)
   explains_it = obeyed_by k.words bytes command.Explain some_written_answer.0 named some_written_answer.1
 
-  neither_shown : ((c : CheckedGrammar) (s : Schedule) → AreRulesAccepted bytes c s → ⊥)
-      → ((c : CheckedGrammar) (s : Schedule) → IsPairRefused bytes c s → ⊥) → (a : Answer)
+  neither_shown : ((c : CheckedGrammar) (s : NestingSchedule) → AreRulesAccepted bytes c s → ⊥)
+      → ((c : CheckedGrammar) (s : NestingSchedule) → IsPairRefused bytes c s → ⊥) → (a : Answer)
       → IsShown command.Explain bytes a → ⊥
   neither_shown none no_pair a (inl (c, s, x, shown)) = none c s x
   neither_shown none no_pair a (inr (c, s, text, x, explains, shown)) = no_pair c s x
@@ -367,20 +367,14 @@ module _ (ones : EachHasOneAnswer) where
   pub writes_the_change_in_memory : WritesTheChangeInMemory
   writes_the_change_in_memory words status source source_after sink sink_after how promised fine named =
       let k = in_memory words status source source_after sink sink_after in
-      let written = edit_change how k source.left promised fine refl named in (
-        λ c t es x values touched anew. ((written.0 c t es x).2 values touched anew).1,
-        λ none. let x = written.1 none in (x.0, x.1, x.3.0, x.3.1),
-      )
+      edit_change how k source.left promised fine refl named
 
   -- what was written to a sink in memory
   in_sink : (accepted : Acceptance) (words : List (List ℕ)) (status : ℕ) (source source_after : SourceState)
       (sink sink_after : SinkState)
       → WritesTheBoxesWhere accepted (in_memory words status source source_after sink sink_after) source.left
-      → AddsTheBoxesWhere accepted status source sink sink_after
-  in_sink accepted words status source source_after sink sink_after written = (
-    λ c t x values solves. ((written.0 c t x).1 values solves).1,
-    λ none. let x = written.1 none in (x.0, x.1, x.3.0, x.3.1),
-  )
+      → AddsTheBoxesWhere accepted words status source sink sink_after
+  in_sink accepted words status source source_after sink sink_after written = written
 
   pub writes_the_boxes_in_memory : WritesTheBoxesInMemory
   writes_the_boxes_in_memory words status source source_after sink sink_after how promised fine runs =

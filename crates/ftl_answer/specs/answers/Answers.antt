@@ -18,12 +18,12 @@ use Rattle.ftl_edits.specs.declared.meaning.types.Edit.{Edit}
 use Rattle.ftl_relayout.specs.relaid.Relaid.{IsRelaid, edited_tree}
 use Rattle.ftl_order.specs.declared.faults.fault.VerifyFault.{VerifyFault}
 use Rattle.ftl_order.specs.declared.faults.fault.VerifyFault.TheVariants as verify
-use Rattle.ftl_order.specs.faults.FirstFault.{first_fault}
+use Rattle.ftl_nest_check.specs.check.NestFault.{first_nest_fault}
 use Rattle.ftl_page.specs.declared.sections.fault.Section.TheVariants as section
-use Rattle.ftl_schedule.specs.declared.stages.types.Schedule.{Schedule}
-use Rattle.ftl_schedule.specs.stages.Stages.{stages_of}
-use Rattle.ftl_schedule.specs.printing.WrittenOf.{written_of}
-use Rattle.ftl_schedule.specs.text.ScheduleText.{schedule_text}
+use Rattle.ftl_nest_check.specs.declared.stages.types.NestingSchedule.{NestingSchedule}
+use Rattle.ftl_nest_check.specs.stages.Nested.{nests_of}
+use Rattle.ftl_nest_text.specs.printing.NestWritten.{nest_written_of}
+use Rattle.ftl_nest_text.specs.text.NestText.{nesting_schedule_text}
 use Rattle.ftl_answer.specs.refusals.PageLines.{words_line}
 use Rattle.ftl_answer.specs.refusals.ScheduleLines.{verify_line}
 use Rattle.ftl_answer.specs.answers.Answer.{Answer, answer, refused}
@@ -82,7 +82,7 @@ summary_of name c t values = summary name (meant c) (names_of c.grammar) t (valu
 -- ---- commands
 
 -- a grammar and a schedule, and what goes on with them
-abbrev pub with_rules : Need → (bytes : List ℕ) → (CheckedGrammar → Schedule → Page → Stage ⊥) → Stage ⊥
+abbrev pub with_rules : Need → (bytes : List ℕ) → (CheckedGrammar → NestingSchedule → Page → Stage ⊥) → Stage ⊥
 with_rules need bytes next =
     Then (page need bytes) (λ p. Then (grammar p.width p.grammar) (λ c. Then (schedule c p.schedule) (λ s. next c s p)))
 
@@ -149,7 +149,7 @@ fault_refused c fault = refused 6 (verify_line c.grammar fault)
 
 -- The schedule by its first fault: with none it is accepted; a pair is explained, by any text that does so; other faults
 -- are refused.
-abbrev pub explained_by : CheckedGrammar → Schedule → Option VerifyFault → Stage ⊥
+abbrev pub explained_by : CheckedGrammar → NestingSchedule → Option VerifyFault → Stage ⊥
 explained_by c s None outcome = outcome ≡ ends accepted_answer
 explained_by c s (Some (verify.Unordered reader writer)) outcome =
     (text : List ℕ) × IsExplanation c s text × (outcome ≡ ends (answer 0 text))
@@ -158,8 +158,8 @@ explained_by c s (Some (verify.Missing a)) outcome = outcome ≡ ends (fault_ref
 explained_by c s (Some verify.OutOfMemory) outcome = outcome ≡ ends (fault_refused c verify.OutOfMemory)
 
 -- the schedule is explained
-abbrev pub explained_schedule : CheckedGrammar → Schedule → Stage ⊥
-explained_schedule c s = explained_by c s (first_fault (meant c) (stages_of s))
+abbrev pub explained_schedule : CheckedGrammar → NestingSchedule → Stage ⊥
+explained_schedule c s = explained_by c s (first_nest_fault (meant c) (nests_of s))
 
 -- the schedule of a text is explained; an automatic one is accepted
 abbrev pub explained : CheckedGrammar → (text : Option (List ℕ)) → Stage ⊥
@@ -177,7 +177,7 @@ abbrev pub obeyed : Command → (bytes : List ℕ) → Stage ⊥
 obeyed (command.Run how) bytes = solved bytes boxes_of
 obeyed command.Check bytes = with_rules rules_alone bytes (λ c s p. Is (ends accepted_answer))
 obeyed command.Schedule bytes =
-    with_rules rules_alone bytes (λ c s p. Is (ends (answer 0 (schedule_text (written_of c.grammar s)))))
+    with_rules rules_alone bytes (λ c s p. Is (ends (answer 0 (nesting_schedule_text (nest_written_of c.grammar s)))))
 obeyed command.Explain bytes = explained_page bytes
 obeyed command.Demand bytes = solved_by_demand bytes boxes_of
 obeyed (command.Edit how) bytes = solved_anew bytes

@@ -5,16 +5,17 @@ use Rattle.std.specs.List.{flat_map}
 use Rattle.ftl_deps.specs.reads.Meant.{meant}
 use Rattle.ftl_document.specs.faults.WrittenOf.{written_of}
 use Rattle.ftl_document_printing.specs.text.DocumentText.{document_text}
-use Rattle.ftl_example.specs.examples.Numbered.{IsFaultPair, IsNumberedExample}
 use Rattle.ftl_example.specs.shows.Examples.{AllAreLarger, NoneShows}
 use Rattle.ftl_grammar.specs.declared.syntax.rules.Grammar.{Grammar}
 use Rattle.ftl_meaning.specs.faults.Checked.{CheckedGrammar, attribute_at}
 use Rattle.ftl_model.specs.layout.Path.{number_of}
 use Rattle.ftl_model.specs.layout.Solves.{Instance}
 use Rattle.ftl_model.specs.layout.Tree.{Forest, size}
+use Rattle.ftl_nest_check.specs.stages.Nested.{nests_of}
+use Rattle.ftl_nest_check.specs.declared.stages.types.NestingSchedule.{NestingSchedule}
+use Rattle.ftl_nest_example.specs.examples.NestExamples.{IsNumberedNestExample}
+use Rattle.ftl_nest_example.specs.pairs.NestPair.{IsNestFaultPair}
 use Rattle.ftl_order.specs.orders.Pairs.{Pair}
-use Rattle.ftl_schedule.specs.declared.stages.types.Schedule.{Schedule}
-use Rattle.ftl_schedule.specs.stages.Stages.{stages_of}
 
 -- ---- texts
 
@@ -45,18 +46,18 @@ larger_trees_text = codes "each tree that shows the pair has more than 512 nodes
 -- ---- which texts explain
 
 -- the text of an example of the pair
-abbrev pub IsTextOfExample : CheckedGrammar → Schedule → Pair → (text : List ℕ) → Type 0
+abbrev pub IsTextOfExample : CheckedGrammar → NestingSchedule → Pair → (text : List ℕ) → Type 0
 IsTextOfExample c s pair text =
     (t : Forest) × (reader writer : ℕ) × (order : List ℕ)
-    × (e : IsNumberedExample (meant c) (stages_of s) pair t reader writer order) × (size t ≤ 512)
+    × (e : IsNumberedNestExample (meant c) (nests_of s) pair t reader writer order) × (size t ≤ 512)
     × (text ≡ example_text c.grammar t e.reading e.written e.steps)
 
 -- the text says what trees show the pair: none, only larger ones than an example may be, or an example
-abbrev pub Explains : CheckedGrammar → Schedule → Pair → (text : List ℕ) → Type 0
+abbrev pub Explains : CheckedGrammar → NestingSchedule → Pair → (text : List ℕ) → Type 0
 Explains c s pair text =
     (NoneShows (meant c) pair × (text ≡ no_tree_text))
     ⊎ ((AllAreLarger (meant c) pair 512 × (text ≡ larger_trees_text)) ⊎ IsTextOfExample c s pair text)
 
 -- the text explains the pair of the schedule's first fault
-abbrev pub IsExplanation : CheckedGrammar → Schedule → (text : List ℕ) → Type 0
-IsExplanation c s text = (pair : Pair) × IsFaultPair (meant c) (stages_of s) pair × Explains c s pair text
+abbrev pub IsExplanation : CheckedGrammar → NestingSchedule → (text : List ℕ) → Type 0
+IsExplanation c s text = (pair : Pair) × IsNestFaultPair (meant c) (nests_of s) pair × Explains c s pair text

@@ -19,11 +19,14 @@ use Rattle.ftl_grammar.specs.declared.reading.fault.SyntaxFault.TheVariants as s
 use Rattle.ftl_meaning.specs.faults.Checked.{CheckedGrammar}
 use Rattle.ftl_meaning.specs.faults.FirstFault as grammars
 use Rattle.ftl_deps.specs.reads.Meant.{meant}
-use Rattle.ftl_schedule.specs.stages.Stages.{stages_of}
-use Rattle.ftl_schedule.specs.declared.stages.types.Schedule.{Schedule}
+use Rattle.ftl_nest_check.specs.stages.Nested.{nests_of}
+use Rattle.ftl_nest_check.specs.declared.stages.types.NestingSchedule.{NestingSchedule}
 use Rattle.ftl_schedule.specs.declared.names.fault.ScheduleFault.TheVariants as schedules
-use Rattle.ftl_schedule.specs.reading.Read.{Answers}
-use Rattle.ftl_order.specs.faults.FirstFault as orders
+use Rattle.ftl_nest_text.specs.reading.NestReading.{NestAnswers}
+use Rattle.ftl_nest_check.specs.check.NestFault as orders
+use Rattle.ftl_nests.specs.Flat.{plain}
+use Rattle.ftl_nests.specs.Nests.{outer_schedule}
+use Rattle.ftl_order.specs.orders.Schedule as order
 use Rattle.ftl_order.specs.automatic.Automatic.{IsAutomatic, IsStuck}
 use Rattle.ftl_document.specs.declared.faults.fault.DocFault.TheVariants as document
 use Rattle.ftl_tree.specs.trees.CheckedTree.{CheckedTree}
@@ -105,24 +108,25 @@ noncircular_grammar c =
 
 -- ---- the schedule
 
--- the schedule that the tokens spell, by what its names stand for
-abbrev pub spelled_schedule : CheckedGrammar → Tokenized → Stage Schedule
+-- the schedule that the tokens spell, by what its names stand for; its passes may nest others
+abbrev pub spelled_schedule : CheckedGrammar → Tokenized → Stage NestingSchedule
 spelled_schedule c scanned =
-    ResultStage schedules.OutOfMemory (λ fault. refused 6 (schedule_line fault)) (Answers c.grammar scanned)
+    ResultStage schedules.OutOfMemory (λ fault. refused 6 (schedule_line fault)) (NestAnswers c scanned)
 
 -- it is ordered
-abbrev pub ordered_schedule : CheckedGrammar → Schedule → Stage Schedule
+abbrev pub ordered_schedule : CheckedGrammar → NestingSchedule → Stage NestingSchedule
 ordered_schedule c s =
-    Is (unless (λ fault. refused 6 (verify_line c.grammar fault)) (orders.first_fault (meant c) (stages_of s)) s)
+    Is (unless (λ fault. refused 6 (verify_line c.grammar fault)) (orders.first_nest_fault (meant c) (nests_of s)) s)
 
--- the automatic schedule, or the attributes that it leaves
-abbrev pub automatic_schedule : CheckedGrammar → Stage Schedule
-automatic_schedule c (hands_on s) = IsAutomatic (meant c) (stages_of s)
+-- the automatic schedule, which nests nothing, or the attributes that it leaves
+abbrev pub automatic_schedule : CheckedGrammar → Stage NestingSchedule
+automatic_schedule c (hands_on s) =
+    (flat : order.Schedule) × IsAutomatic (meant c) flat × (nests_of s ≡ plain flat)
 automatic_schedule c (ends a) =
     (left : List ℕ) × IsStuck (meant c) left × (a ≡ refused 6 (stuck_line c.grammar left))
 
 -- the schedule of a text, or the automatic one where there is none
-abbrev pub schedule : CheckedGrammar → (text : Option (List ℕ)) → Stage Schedule
+abbrev pub schedule : CheckedGrammar → (text : Option (List ℕ)) → Stage NestingSchedule
 schedule c None = automatic_schedule c
 schedule c (Some text) =
     Then (tokens section.Schedule 2147483647 text) (λ scanned. Then (spelled_schedule c scanned) (ordered_schedule c))
@@ -144,13 +148,13 @@ grown_tree c text =
     Then (tokens section.Document (greatest_of_width c.width) text)
     (λ scanned. Then (spelled_tree c (wide (greatest_of_width c.width) scanned)) (λ t. Is (hands_on t.tree)))
 
--- no stage reads too much
-abbrev pub planned_tree : CheckedGrammar → Schedule → Forest → Stage Forest
+-- no outer stage reads too much, with what its passes nest
+abbrev pub planned_tree : CheckedGrammar → NestingSchedule → Forest → Stage Forest
 planned_tree c s t =
-    Is (unless (λ fault. refused 7 (plan_line fault)) (plans.first_fault (meant c) (stages_of s) t) t)
+    Is (unless (λ fault. refused 7 (plan_line fault)) (plans.first_fault (meant c) (outer_schedule (nests_of s)) t) t)
 
 -- the tree of the document of a text, which the schedule can solve
-abbrev pub tree : CheckedGrammar → Schedule → (text : List ℕ) → Stage Forest
+abbrev pub tree : CheckedGrammar → NestingSchedule → (text : List ℕ) → Stage Forest
 tree c s text = Then (grown_tree c text) (planned_tree c s)
 
 -- ---- the edits

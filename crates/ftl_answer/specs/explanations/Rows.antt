@@ -4,13 +4,13 @@ use Rattle.std.specs.List.{flat_map}
 use Rattle.ftl_deps.specs.reads.Meant.{meant}
 use Rattle.ftl_document.specs.faults.WrittenOf.{written_of}
 use Rattle.ftl_document_printing.specs.text.DocumentText.{document_text}
-use Rattle.ftl_example.specs.examples.Numbered.{IsNumberedExample}
 use Rattle.ftl_model.specs.layout.AttributeGrammar.{attributes_of}
 use Rattle.ftl_model.specs.layout.Path.{class_at, node_at, number_of, top}
 use Rattle.ftl_model.specs.layout.Solves.{Instance, instance_of}
 use Rattle.ftl_model.specs.layout.Table.{instance_count, instances}
+use Rattle.ftl_nest_example.specs.examples.NestExamples.{IsNumberedNestExample}
+use Rattle.ftl_nests.specs.Nests.{NestingSchedule}
 use Rattle.ftl_order.specs.orders.Pairs.{Pair}
-use Rattle.ftl_order.specs.orders.Schedule as order
 use Rattle.ftl_tree.specs.trees.CheckedTree.{CheckedTree}
 use Rattle.ftl_answer.specs.answers.Explanations.{instance_line}
 use Rattle.ftl_answer.specs.declared.explanations.rows.InstanceRow.{InstanceRow}
@@ -58,5 +58,5 @@ abbrev pub AreNumbers : CheckedTree → List ℕ → Type 0
 AreNumbers t order = (n : ℕ) → Contains order n → IsNumber t n
 
 -- the tree is an example of the pair with instances of these numbers
-abbrev pub IsExampleOf : order.Schedule → Pair → CheckedTree → (reader writer : ℕ) → (order : List ℕ) → Type 0
-IsExampleOf s pair t reader writer order = IsNumberedExample (meant t.checked) s pair t.tree reader writer order
+abbrev pub IsExampleOf : NestingSchedule → Pair → CheckedTree → (reader writer : ℕ) → (order : List ℕ) → Type 0
+IsExampleOf s pair t reader writer order = IsNumberedNestExample (meant t.checked) s pair t.tree reader writer order

@@ -19,7 +19,7 @@ use Rattle.ftl_page.specs.declared.sections.page.Page.{Page}
 use Rattle.ftl_answer.specs.refusals.PageLines.{too_long_line}
 use Rattle.ftl_edits.specs.declared.meaning.types.Edit.{Edit}
 use Rattle.ftl_relayout.specs.relaid.Relaid.{edited_tree}
-use Rattle.ftl_schedule.specs.declared.stages.types.Schedule.{Schedule}
+use Rattle.ftl_nest_check.specs.declared.stages.types.NestingSchedule.{NestingSchedule}
 use Rattle.ftl_answer.specs.answers.Answer.{Answer, refused}
 use Rattle.ftl_answer.specs.answers.Answers.{IsAnswer, document_text, edited_page, edits_text, unscheduled_page}
 use Rattle.ftl_answer.specs.answers.Answers.{whole_page}
@@ -122,7 +122,7 @@ pub record IsAcceptedFor (need : Need) (bytes : List ℕ) (c : CheckedGrammar) (
   pub sections : Page
   pub read : page need bytes (hands_on sections)
   pub lawful : grammar sections.width sections.grammar (hands_on c)
-  pub order : Schedule
+  pub order : NestingSchedule
   pub ordered : schedule c sections.schedule (hands_on order)
   pub spelled : tree c order (document_text sections) (hands_on t)
 

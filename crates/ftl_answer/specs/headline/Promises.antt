@@ -17,7 +17,7 @@ use Rattle.ftl_model.specs.layout.Tree.{Forest}
 use Rattle.ftl_model.specs.layout.Values.{Value}
 use Rattle.ftl_order.specs.orders.OneTable.{ExactlyOneList}
 use Rattle.ftl_order.specs.declared.faults.fault.VerifyFault.TheVariants.{Unordered}
-use Rattle.ftl_order.specs.faults.FirstFault.{first_fault}
+use Rattle.ftl_nest_check.specs.check.NestFault.{first_nest_fault}
 use Rattle.ftl_page.specs.commands.Commands.{command_of}
 use Rattle.ftl_page.specs.declared.commands.command.Command.{Command}
 use Rattle.ftl_page.specs.declared.commands.command.Command.TheVariants as command
@@ -26,13 +26,13 @@ use Rattle.ftl_page.specs.declared.sections.page.Page.{Page}
 use Rattle.ftl_page.specs.declared.workers.solving.Solving.{Solving}
 use Rattle.ftl_edits.specs.declared.meaning.types.Edit.{Edit}
 use Rattle.ftl_relayout.specs.relaid.Relaid.{edited_tree}
-use Rattle.ftl_schedule.specs.declared.stages.types.Schedule.{Schedule}
-use Rattle.ftl_schedule.specs.printing.WrittenOf.{written_of}
-use Rattle.ftl_schedule.specs.text.ScheduleText.{schedule_text}
-use Rattle.ftl_schedule.specs.stages.Stages.{stages_of}
+use Rattle.ftl_nest_check.specs.declared.stages.types.NestingSchedule.{NestingSchedule}
+use Rattle.ftl_nest_check.specs.stages.Nested.{nests_of}
+use Rattle.ftl_nest_text.specs.printing.NestWritten.{nest_written_of}
+use Rattle.ftl_nest_text.specs.text.NestText.{nesting_schedule_text}
 use Rattle.ftl_tokens.specs.scanner.Tokenized.{Tokenized}
 use Rattle.ftl_answer.specs.answers.Answer.{Answer, answer, refused}
-use Rattle.ftl_answer.specs.answers.Answers.{IsAnswer, IsLaidOutAnew, boxes_and_touched, boxes_of, edited_answer}
+use Rattle.ftl_answer.specs.answers.Answers.{IsAnswer, IsLaidOutAnew, boxes_of, edited_answer}
 use Rattle.ftl_answer.specs.answers.Answers.{AskForNoExplanation, accepted_answer, rules_alone}
 use Rattle.ftl_answer.specs.answers.Answers.{shown_answer, summary_of}
 use Rattle.ftl_answer.specs.answers.Explanations.{IsExplanation}
@@ -50,14 +50,14 @@ use Rattle.ftl_answer.specs.refusals.PageLines.{too_long_line, words_line}
 -- ---- accepted pages, and refusals
 
 -- the grammar and the schedule of the page are accepted, with this grammar and this schedule
-pub record AreRulesAccepted (bytes : List ℕ) (c : CheckedGrammar) (s : Schedule) : Type 0 where
+pub record AreRulesAccepted (bytes : List ℕ) (c : CheckedGrammar) (s : NestingSchedule) : Type 0 where
   pub sections : Page
   pub read : page rules_alone bytes (hands_on sections)
   pub lawful : grammar sections.width sections.grammar (hands_on c)
   pub ordered : schedule c sections.schedule (hands_on s)
 
 -- the grammar of the page is accepted, and the first fault of its schedule, which is this one, is a pair
-pub record IsPairRefused (bytes : List ℕ) (c : CheckedGrammar) (s : Schedule) : Type 0 where
+pub record IsPairRefused (bytes : List ℕ) (c : CheckedGrammar) (s : NestingSchedule) : Type 0 where
   pub sections : Page
   pub read : page rules_alone bytes (hands_on sections)
   pub lawful : grammar sections.width sections.grammar (hands_on c)
@@ -68,7 +68,7 @@ pub record IsPairRefused (bytes : List ℕ) (c : CheckedGrammar) (s : Schedule) 
   pub spelled : spelled_schedule c scanned (hands_on s)
   pub reader : ℕ
   pub writer : ℕ
-  pub fault : first_fault (meant c) (stages_of s) ≡ Some (Unordered reader writer)
+  pub fault : first_nest_fault (meant c) (nests_of s) ≡ Some (Unordered reader writer)
 
 -- the page is accepted so, and the answer shows, by this text, a list that solves its tree
 abbrev pub IsTableShownWhere : Acceptance → (CheckedGrammar → Forest → List Value → List ℕ) → (bytes : List ℕ) → Answer
@@ -90,12 +90,12 @@ IsChangeShown bytes a =
 -- the grammar and the schedule of the page are accepted, and the answer says so
 abbrev pub IsAcceptanceShown : (bytes : List ℕ) → Answer → Type 0
 IsAcceptanceShown bytes a =
-    (c : CheckedGrammar) × (s : Schedule) × AreRulesAccepted bytes c s × (a ≡ accepted_answer)
+    (c : CheckedGrammar) × (s : NestingSchedule) × AreRulesAccepted bytes c s × (a ≡ accepted_answer)
 
 -- the schedule of the page is refused for a pair, and the answer explains it
 abbrev pub IsExplanationShown : (bytes : List ℕ) → Answer → Type 0
 IsExplanationShown bytes a =
-    (c : CheckedGrammar) × (s : Schedule) × (text : List ℕ) × IsPairRefused bytes c s × IsExplanation c s text
+    (c : CheckedGrammar) × (s : NestingSchedule) × (text : List ℕ) × IsPairRefused bytes c s × IsExplanation c s text
     × (a ≡ answer 0 text)
 
 -- What the command needs of the page is accepted, and this is what it shows of it. To explain a schedule that is refused
@@ -104,8 +104,8 @@ abbrev pub IsShown : Command → (bytes : List ℕ) → Answer → Type 0
 IsShown (command.Run how) bytes a = IsTableShown boxes_of bytes a
 IsShown command.Check bytes a = IsAcceptanceShown bytes a
 IsShown command.Schedule bytes a =
-    (c : CheckedGrammar) × (s : Schedule) × AreRulesAccepted bytes c s
-    × (a ≡ answer 0 (schedule_text (written_of c.grammar s)))
+    (c : CheckedGrammar) × (s : NestingSchedule) × AreRulesAccepted bytes c s
+    × (a ≡ answer 0 (nesting_schedule_text (nest_written_of c.grammar s)))
 IsShown command.Explain bytes a = IsAcceptanceShown bytes a ⊎ IsExplanationShown bytes a
 IsShown command.Demand bytes a = IsTableShownWhere IsAcceptedForDemand boxes_of bytes a
 IsShown (command.Edit how) bytes a = IsChangeShown bytes a
@@ -270,11 +270,11 @@ WritesTheChange =
 -- the first fault of the schedule is a pair, a text that explains the pair. Otherwise one line that refuses.
 abbrev pub WritesTheExplanationOf : Call → (bytes : List ℕ) → Type 0
 WritesTheExplanationOf k bytes =
-    ((c : CheckedGrammar) (s : Schedule) → AreRulesAccepted bytes c s → Writes k accepted_answer)
-    × ((c : CheckedGrammar) (s : Schedule) → IsPairRefused bytes c s
+    ((c : CheckedGrammar) (s : NestingSchedule) → AreRulesAccepted bytes c s → Writes k accepted_answer)
+    × ((c : CheckedGrammar) (s : NestingSchedule) → IsPairRefused bytes c s
     → (text : List ℕ) × IsExplanation c s text × Writes k (answer 0 text))
-    × (((c : CheckedGrammar) (s : Schedule) → AreRulesAccepted bytes c s → ⊥)
-    → ((c : CheckedGrammar) (s : Schedule) → IsPairRefused bytes c s → ⊥)
+    × (((c : CheckedGrammar) (s : NestingSchedule) → AreRulesAccepted bytes c s → ⊥)
+    → ((c : CheckedGrammar) (s : NestingSchedule) → IsPairRefused bytes c s → ⊥)
     → (a : Answer) × IsRefusal a × IsAnswer k.words bytes a × Writes k a)
 
 abbrev pub WritesTheExplanation : Type 0
@@ -385,14 +385,21 @@ in_memory words status source source_after sink sink_after =
     (λ (s : SourceState). s.fault_count) (λ (s : SinkState). Some s.written) (λ (s : SinkState). s.fault_count) words
     status source source_after sink sink_after
 
--- where a page in memory is accepted so, the boxes of the values that solve it are written; otherwise one line that
--- refuses
-abbrev pub AddsTheBoxesWhere : Acceptance → (status : ℕ) → SourceState → (sink sink_after : SinkState) → Type 0
-AddsTheBoxesWhere accepted status source sink sink_after =
-    ((c : CheckedGrammar) (t : Forest) → accepted source.left c t → (values : List Value)
-    → SolvesList (meant c) t values → sink_after.written ≡ sink.written ++ boxes_of c t values)
+-- the call ends with the status of the answer, and its text stands behind what the sink held
+abbrev pub Adds : Answer → (status : ℕ) → (sink sink_after : SinkState) → Type 0
+Adds a status sink sink_after = (status ≡ a.status) × (sink_after.written ≡ sink.written ++ a.text)
+
+-- where a page in memory is accepted so, exactly one table solves its tree, and that table's boxes are written; otherwise
+-- one line that refuses
+abbrev pub AddsTheBoxesWhere : Acceptance → (words : List (List ℕ)) → (status : ℕ) → SourceState
+    → (sink sink_after : SinkState) → Type 0
+AddsTheBoxesWhere accepted words status source sink sink_after =
+    ((c : CheckedGrammar) (t : Forest) → accepted source.left c t
+    → ExactlyOneList (meant c) t
+    × ((values : List Value) → SolvesList (meant c) t values
+    → Adds (shown_answer boxes_of c t values) status sink sink_after))
     × (((c : CheckedGrammar) (t : Forest) → accepted source.left c t → ⊥)
-    → (a : Answer) × IsRefusal a × (status ≡ a.status) × (sink_after.written ≡ sink.written ++ a.text))
+    → (a : Answer) × IsRefusal a × IsAnswer words source.left a × Adds a status sink sink_after)
 
 -- the headline of pages in memory, by what their source and their sink hold
 abbrev pub WritesTheBoxesInMemory : Type 0
@@ -400,7 +407,7 @@ WritesTheBoxesInMemory =
     (words : List (List ℕ)) (status : ℕ) (source source_after : SourceState) (sink sink_after : SinkState) (how : Solving)
     → KeepsPromises (in_memory words status source source_after sink sink_after)
     → HasNoFaultOrWant (in_memory words status source source_after sink sink_after)
-    → command_of words ≡ Some (command.Run how) → AddsTheBoxesWhere IsAccepted status source sink sink_after
+    → command_of words ≡ Some (command.Run how) → AddsTheBoxesWhere IsAccepted words status source sink sink_after
 
 -- and the same of `demand`
 abbrev pub WritesTheBoxesByDemandInMemory : Type 0
@@ -408,18 +415,18 @@ WritesTheBoxesByDemandInMemory =
     (words : List (List ℕ)) (status : ℕ) (source source_after : SourceState) (sink sink_after : SinkState)
     → KeepsPromises (in_memory words status source source_after sink sink_after)
     → HasNoFaultOrWant (in_memory words status source source_after sink sink_after)
-    → command_of words ≡ Some command.Demand → AddsTheBoxesWhere IsAcceptedForDemand status source sink sink_after
+    → command_of words ≡ Some command.Demand → AddsTheBoxesWhere IsAcceptedForDemand words status source sink sink_after
 
--- and of `edit`: where a page in memory is accepted with its edits, the boxes of the changed tree and the number of
--- touched instances are written; otherwise one line that refuses
-abbrev pub AddsTheChange : (status : ℕ) → SourceState → (sink sink_after : SinkState) → Type 0
-AddsTheChange status source sink sink_after =
+-- and of `edit`: where a page in memory is accepted with its edits, exactly one table solves its tree, and exactly one
+-- the changed tree, whose boxes are written with the number of touched instances; otherwise one line that refuses
+abbrev pub AddsTheChange : (words : List (List ℕ)) → (status : ℕ) → SourceState → (sink sink_after : SinkState) → Type 0
+AddsTheChange words status source sink sink_after =
     ((c : CheckedGrammar) (t : Forest) (es : List Edit) → AreEditsAccepted source.left c t es
-    → (values : List Value) (touched : List ℕ) → IsLaidOutAnew c t es values touched
-    → sink_after.written
-    ≡ sink.written ++ boxes_and_touched (length touched) c (edited_tree c t es) values)
+    → ExactlyOneList (meant c) t × ExactlyOneList (meant c) (edited_tree c t es)
+    × ((values : List Value) (touched : List ℕ) → IsLaidOutAnew c t es values touched
+    → Adds (edited_answer c t es values touched) status sink sink_after))
     × (((c : CheckedGrammar) (t : Forest) (es : List Edit) → AreEditsAccepted source.left c t es → ⊥)
-    → (a : Answer) × IsRefusal a × (status ≡ a.status) × (sink_after.written ≡ sink.written ++ a.text))
+    → (a : Answer) × IsRefusal a × IsAnswer words source.left a × Adds a status sink sink_after)
 
 abbrev pub WritesTheChangeInMemory : Type 0
 WritesTheChangeInMemory =
@@ -427,4 +434,4 @@ WritesTheChangeInMemory =
     (how : Solving)
     → KeepsPromises (in_memory words status source source_after sink sink_after)
     → HasNoFaultOrWant (in_memory words status source source_after sink sink_after)
-    → command_of words ≡ Some (command.Edit how) → AddsTheChange status source sink sink_after
+    → command_of words ≡ Some (command.Edit how) → AddsTheChange words status source sink sink_after

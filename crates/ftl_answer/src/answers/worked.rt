@@ -19,8 +19,9 @@ ghost use Rattle.ftl_edits.specs.declared.meaning.fault.EditFault.TheVariants as
 ghost use Rattle.ftl_edits.specs.syntax.Read.{IsNoEdits};
 ghost use Rattle.ftl_answer.specs.refusals.CircularLines.{circular_line};
 ghost use Rattle.ftl_answer.specs.refusals.EditLines.{edit_line};
-ghost use Rattle.ftl_schedule.specs.stages.Stages.{stages_of};
-ghost use Rattle.ftl_schedule.specs.declared.stages.types.Schedule.{Schedule};
+ghost use Rattle.ftl_nest_check.specs.declared.stages.types.NestingSchedule.{NestingSchedule};
+ghost use Rattle.ftl_nest_check.specs.stages.Nested.{nests_of};
+ghost use Rattle.ftl_nests.specs.Nests.{outer_schedule};
 ghost use Rattle.ftl_grammar.specs.declared.syntax.rules.Grammar.{Grammar};
 ghost use Rattle.ftl_tokens.specs.declared.scanner.fault.TokenFault.TheVariants as token;
 ghost use Rattle.ftl_tokens.specs.scanner.Tokenized.{WideTokenized};
@@ -66,8 +67,9 @@ pub fn worked_stages()
     ensures no_edits { (c : CheckedGrammar) (t : Forest) (scanned : WideTokenized) (at : ℕ)
         → IsNoEdits scanned.tokenized at
         → spelled_edits c t scanned (ends (refused 10 (edit_line (edit.Syntax at)))) }
-    ensures reads { (c : CheckedGrammar) (s : Schedule) (t : Forest)
-        → plans.first_fault (meant c) (stages_of s) t ≡ Some (plan.TooManyReads 2 67108865)
+    ensures reads { (c : CheckedGrammar) (s : NestingSchedule) (t : Forest)
+        → plans.first_fault (meant c) (outer_schedule (nests_of s)) t
+        ≡ Some (plan.TooManyReads 2 67108865)
         → planned_tree c s t (ends (refused 7
         (codes "refused document: too many reads in stage 2: 67108865"))) }
 {}

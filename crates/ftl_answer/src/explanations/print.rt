@@ -2,8 +2,8 @@
 
 ghost use Rattle.std.specs.Prelude.{◌≡◌, ◌++◌, IfOk, OnOk};
 ghost use Rattle.std.specs.List.{flat_map};
+ghost use Rattle.ftl_nests.specs.Nests.{NestingSchedule};
 ghost use Rattle.ftl_order.specs.orders.Pairs.{Pair};
-ghost use Rattle.ftl_order.specs.orders.Schedule.{Schedule};
 ghost use Rattle.ftl_answer.specs.answers.Explanations.{example_text};
 ghost use Rattle.ftl_answer.specs.explanations.Rows.{AreNumbers, IsExampleOf, IsNumber};
 ghost use Rattle.ftl_answer.specs.explanations.Rows.{instance_rows, numbered_line, numbered_text};
@@ -22,9 +22,9 @@ pub fn print_example(
     writer: u32,
     order: &[u32],
 ) -> Result<Vec<u8>, AllocError>
-    requires example { (s : Schedule) × (pair : Pair)
+    requires example { (s : NestingSchedule) × (pair : Pair)
         × IsExampleOf s pair tree.now reader writer order.now }
-    ensures text { (s : Schedule) (pair : Pair)
+    ensures text { (s : NestingSchedule) (pair : Pair)
         → (e : IsExampleOf s pair tree.now reader writer order.now)
         → IfOk result (λ v. v.items ≡ example_text tree.now.checked.grammar tree.now.tree
         e.reading e.written e.steps) }

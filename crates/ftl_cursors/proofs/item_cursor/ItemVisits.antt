@@ -1,24 +1,27 @@
 -- The pass of an item with its visits, its nodes, and what its steps compute.
-use Rattle.std.proofs.Common.{◌≡◌, ◌≢◌, ℕ, suc, ◌+◌, ◌<◌, ◌≤◌, Bool, true, false, if◌then◌else◌, refl, sym, ◌∙◌, ap, subst, arith, List, [], ◌∷◌, get_or, length, map, Contains}
+use Rattle.std.proofs.Common.{◌≡◌, ◌≢◌, ℕ, ◌+◌, ◌<◌, ◌≤◌, Bool, refl, sym, ◌∙◌, ap, subst, arith, List, [], get_or, length, map, Contains}
 use Rattle.std.specs.List.{range_with_len}
 use Rattle.std.proofs.lemmas.List.{get_or-map, get_or_default, length-map}
 use Rattle.std.proofs.lemmas.List.Elements.{Contains-get_or}
 use Rattle.ftl_model.proofs.lists.Elements.{in_flat_map, in_range_from}
 use Rattle.ftl_model.proofs.lists.Rising.{in_map}
 use Rattle.ftl_cursors.specs.items.RowsCut.{is_whole_in}
-use Rattle.ftl_cursors.specs.items.StageItems.{IsFound, item_in, items_in, pass_numbered, passes_in}
+use Rattle.ftl_cursors.specs.items.StageItems.{IsFound, cuts_in, item_in, items_in, pass_numbered, passes_in}
 use Rattle.ftl_cursors.specs.declared.items.view.FoundItem.{FoundItem}
-use Rattle.ftl_items.specs.stage_items.Cut.{nodes_by, nodes_of, subtree, tops}
-use Rattle.ftl_items.specs.stage_items.Items.{Item, item, items_of_pass, no_item, pass_in, passes_of, steps_by, steps_of_item}
+use Rattle.ftl_items.specs.stage_items.Cut.{nodes_by, starts}
+use Rattle.ftl_items.specs.stage_items.Items.{Item, form_steps, item, item_steps, items_of_cut, no_item, pass_in, pass_place, passes_of}
+use Rattle.ftl_items.specs.stage_items.Visits.{visit}
 use Rattle.ftl_items.proofs.stage_items.Reverses.{in_reverse}
 use Rattle.ftl_cursors.specs.inorder.InorderSteps.{StepsComputeTheSequence, inorder_steps}
 use Rattle.ftl_model.specs.layout.AttributeGrammar.{AttributeGrammar}
-use Rattle.ftl_model.specs.layout.Path.{Has, Path, at, node_at, number_of, size_at, top}
-use Rattle.ftl_model.specs.layout.Tree.{Forest, below_of, size}
-use Rattle.ftl_model.proofs.layout.Numbering.{has-node_at, length-nodes_below, number_of-node_at}
+use Rattle.ftl_model.specs.layout.Path.{Has, Path, node_at, number_of, top}
+use Rattle.ftl_model.specs.layout.Solves.{Instance}
+use Rattle.ftl_model.specs.layout.Tree.{Forest, size}
+use Rattle.ftl_model.proofs.layout.Numbering.{has-node_at, number_of-node_at}
 use Rattle.ftl_order.specs.orders.Lawful.{IsLawful}
 use Rattle.ftl_order.specs.orders.Schedule as order
-use Rattle.ftl_order.specs.orders.Schedule.{EachStandsOnce, Schedule, empty_pass, pass_at}
+use Rattle.ftl_order.specs.orders.Schedule.{EachStandsOnce, Schedule, empty_pass, pass_at, placing_of}
+use Rattle.ftl_order.specs.orders.Sequence.{sequence}
 use Rattle.ftl_order.proofs.orders.Kids.{root_there}
 use Rattle.ftl_schedule.specs.declared.syntax.kind.PassKind.{PassKind}
 use Rattle.ftl_schedule.specs.declared.syntax.kind.PassKind.TheVariants.{BottomUp, InOrder, TopDown}
@@ -29,15 +32,16 @@ use Rattle.ftl_schedule.specs.stages.Stages.{kind_of, pass_of}
 use Rattle.ftl_schedule.specs.declared.stages.types.Pass.{Pass}
 use Rattle.ftl_order.specs.steps.Steps.{target_of}
 use Rattle.ftl_tree.proofs.rows.Access.{size-one}
-use Rattle.ftl_cursors.specs.visits.ItemSteps.{node_count, node_count_by, targets_in}
+use Rattle.ftl_cursors.specs.visits.ItemSteps.{node_count_by, targets_by}
 use Rattle.ftl_cursors.specs.visits.NodeRanges.{nodes_in}
 use Rattle.ftl_cursors.specs.visits.VisitSteps.{steps_of_nodes}
 use Rattle.ftl_cursors.specs.declared.visits.nodes.NodeOrder.{NodeOrder}
 use Rattle.ftl_cursors.specs.declared.visits.nodes.NodeOrder.TheVariants.{Preorder, Reverse}
+use Rattle.ftl_cursors.proofs.items.RowFacts.{length-nodes_by}
 use Rattle.ftl_cursors.proofs.visits.ItemLemmas.{bottomup_targets, nodes_within, topdown_targets}
 use Rattle.ftl_visit.specs.declared.visits.visit_op.VisitOp.{VisitOp}
 use Rattle.ftl_visit.specs.passes.VisitRows.{visits_of}
-use Rattle.ftl_cursors.specs.item_cursor.ItemSteps.{AreItemTables, forest_in, grammar_in, order_of}
+use Rattle.ftl_cursors.specs.item_cursor.ItemSteps.{AreItemTables, forest_in, form_in, grammar_in, order_of}
 use Rattle.ftl_cursors.specs.declared.item_cursor.item.ItemTables.{ItemTables}
 
 abbrev pub no_pass : Pass
@@ -59,16 +63,6 @@ pub in_nodes : (o : NodeOrder) (first count n : ℕ) → Contains (nodes_in o fi
 in_nodes Preorder first count n h = (in_range_from first count n h).1
 in_nodes Reverse first count n h = (in_range_from first count n (in_reverse (range_with_len first count) n h)).1
 
--- how many nodes an item has
-count_of : (is_whole : Path → Bool) (t : Forest) (p : Path)
-    → length (nodes_by is_whole t p) ≡ node_count_by is_whole t p
-count_of is_whole t p =
-    elim (is_whole p) as
-    (λ b. length (if b then subtree t p else p ∷ []) ≡ (if b then size_at t p else 1)) [
-      | true ↦ ap suc (length-nodes_below p (λ c. 0) (below_of (at t p)))
-      | false ↦ refl
-    ]
-
 module _ (x : ItemTables) (i : ℕ) (found : FoundItem) (known : i < length (items_in x.items))
     (is : IsFound x.items i found) where
   abbrev this : Item
@@ -81,10 +75,10 @@ module _ (x : ItemTables) (i : ℕ) (found : FoundItem) (known : i < length (ite
   pass_below : this.pass < length (passes_in x.items)
   pass_below =
       let ps = passes_in x.items in
-      let from = in_flat_map (items_of_pass ps (forest_in x) x.items.rows.now.grain) (range_with_len 0 (length ps)) this
+      let from = in_flat_map (items_of_cut (cuts_in x.items) (forest_in x)) (range_with_len 0 (length ps)) this
       (Contains-get_or (items_in x.items) i no_item known) in
       let m = from.0 in
-      let here = in_map (item m) (tops (pass_in ps m).kind (forest_in x) x.items.rows.now.grain) this from.2 in
+      let here = in_map (item m) (starts (cuts_in x.items) (forest_in x) m) this from.2 in
       let same : m ≡ this.pass = ap (λ (y : Item). y.pass) here.is in
       let low = (in_range_from 0 (length ps) m from.1).1 in
       omega (arith, same, low)
@@ -152,16 +146,19 @@ module _ (x : ItemTables) (i : ℕ) (found : FoundItem) (known : i < length (ite
       (has-node_at (forest_in x) found.node (root_there (grammar_in x) (forest_in x) is.is_tree)
       (omega (arith, one, low)))
 
-  -- the nodes of the item
-  pub count_is : length (nodes_of (forest_in x) x.items.rows.now.grain (node_at (forest_in x) found.node))
-      ≡ node_count (forest_in x) x.items.rows.now.grain this.first
-  count_is =
-      ap (λ p. length (nodes_of (forest_in x) x.items.rows.now.grain p)) is.node_is
-      ∙ count_of (is_whole_in x.items.rows.now) (forest_in x) this.first
+  -- which trees are one item
+  abbrev whole : Path → Bool
+  whole = is_whole_in x.items.rows.now
 
-  pub within : found.node + node_count (forest_in x) x.items.rows.now.grain this.first ≤ size (forest_in x)
+  -- the nodes of the item
+  pub count_is : length (nodes_by whole (forest_in x) (node_at (forest_in x) found.node))
+      ≡ node_count_by whole (forest_in x) this.first
+  count_is =
+      ap (λ p. length (nodes_by whole (forest_in x) p)) is.node_is ∙ length-nodes_by whole (forest_in x) this.first
+
+  pub within : found.node + node_count_by whole (forest_in x) this.first ≤ size (forest_in x)
   within =
-      let all = nodes_within (grammar_in x) (forest_in x) is.is_tree (is_whole_in x.items.rows.now) this.first node_there in
+      let all = nodes_within (grammar_in x) (forest_in x) is.is_tree whole this.first node_there in
       let number = number_is in
       omega (arith, all, number)
 
@@ -172,49 +169,54 @@ module _ (x : ItemTables) (i : ℕ) (found : FoundItem) (known : i < length (ite
     abbrev t : Forest
     t = forest_in x
 
+    -- the steps of the item in a pass of this kind, with this list
+    abbrev steps_with : order.PassKind → List ℕ → List Instance
+    steps_with kind attributes =
+        form_steps kind
+        (record {
+          cut = record { kind = kind; is_whole = whole };
+          visit = visit g t attributes;
+          sequence = sequence g (placing_of s) (pass_place stage this.pass) t;
+        })
+        t this.first
+
     by_kind : (k : PassKind) → k ≢ InOrder
-        → targets_in g t x.items.rows.now.grain k pass.attrs (order_of k) this.first
-        ≡ steps_by g s stage t x.items.rows.now.grain (kind_of k) pass.attrs this
-    by_kind TopDown ne =
-        topdown_targets g t is.is_tree (is_whole_in x.items.rows.now) this.first node_there law pass.attrs
-    by_kind BottomUp ne =
-        bottomup_targets g t is.is_tree (is_whole_in x.items.rows.now) this.first node_there law pass.attrs
+        → targets_by g whole t k pass.attrs (order_of k) this.first ≡ steps_with (kind_of k) pass.attrs
+    by_kind TopDown ne = topdown_targets g t is.is_tree whole this.first node_there law pass.attrs
+    by_kind BottomUp ne = bottomup_targets g t is.is_tree whole this.first node_there law pass.attrs
     by_kind InOrder ne = absurd (ne refl)
+
+    -- what the item has, by its pass
+    has : steps_with (kind_of found.kind) pass.attrs ≡ item_steps (form_in x s stage) t this
+    has =
+        ap (λ k. steps_with (kind_of k) pass.attrs) kind_is
+        ∙ ap (λ (p : order.Pass). steps_with p.kind p.attributes) (sym pass_is)
+
+    -- what the steps of its visits compute is what the item has
+    pub targets_are : found.kind ≢ InOrder
+        → map (target_of g t)
+        (steps_of_nodes g t (visits_of g found.kind pass.attrs)
+        (nodes_in (order_of found.kind) found.node (node_count_by whole t this.first)))
+        ≡ item_steps (form_in x s stage) t this
+    targets_are other =
+        ap
+        (λ n. map (target_of g t)
+        (steps_of_nodes g t (visits_of g found.kind pass.attrs)
+        (nodes_in (order_of found.kind) n (node_count_by whole t this.first))))
+        (sym number_is)
+        ∙ by_kind found.kind other
+        ∙ has
 
     -- the pass in the schedule
     pass_there : passes_of s stage ≡ passes_in x.items → pass_of pass ≡ pass_at s stage this.pass
     pass_there passes = sym pass_is ∙ ap (λ (ps : List order.Pass). pass_in ps this.pass) (sym passes)
 
-    -- what the item has, by its pass
-    has : passes_of s stage ≡ passes_in x.items
-        → steps_by g s stage t x.items.rows.now.grain (kind_of found.kind) pass.attrs this
-        ≡ steps_of_item g s stage t x.items.rows.now.grain this
-    has passes =
-        ap (λ k. steps_by g s stage t x.items.rows.now.grain (kind_of k) pass.attrs this) kind_is
-        ∙ ap (λ (p : order.Pass). steps_by g s stage t x.items.rows.now.grain p.kind p.attributes this)
-        (pass_there passes)
-
-    -- what the steps of its visits compute is what the item has
-    pub targets_are : found.kind ≢ InOrder → passes_of s stage ≡ passes_in x.items
-        → map (target_of g t)
-        (steps_of_nodes g t (visits_of g found.kind pass.attrs)
-        (nodes_in (order_of found.kind) found.node (node_count t x.items.rows.now.grain this.first)))
-        ≡ steps_of_item g s stage t x.items.rows.now.grain this
-    targets_are other passes =
-        ap
-        (λ n. map (target_of g t)
-        (steps_of_nodes g t (visits_of g found.kind pass.attrs)
-        (nodes_in (order_of found.kind) n (node_count t x.items.rows.now.grain this.first))))
-        (sym number_is)
-        ∙ by_kind found.kind other
-        ∙ has passes
-
     -- and so is what the steps of an inorder pass compute
     pub sequence_is : StepsComputeTheSequence → found.kind ≡ InOrder → EachStandsOnce g s
         → passes_of s stage ≡ passes_in x.items
-        → map (target_of g t) (inorder_steps g t pass.attrs top) ≡ steps_of_item g s stage t x.items.rows.now.grain this
+        → map (target_of g t) (inorder_steps g t pass.attrs top) ≡ item_steps (form_in x s stage) t this
     sequence_is computes kind ordered passes =
         ap (λ (p : order.Pass). map (target_of g t) (inorder_steps g t p.attributes top)) (pass_there passes)
         ∙ computes g s t law ordered is.is_tree stage this.pass
-        ∙ ap (λ k. steps_by g s stage t x.items.rows.now.grain (kind_of k) pass.attrs this) (sym kind)
-        ∙ has passes
+        ∙ ap (λ k. steps_with (kind_of k) pass.attrs) (sym kind)
+        ∙ has

@@ -1,5 +1,5 @@
 -- The parent of a node, by numbers.
-use Rattle.std.proofs.Common.{◌≡◌, ℕ, ◌<◌, refl, ◌∙◌, ap, arith, Some, None}
+use Rattle.std.proofs.Common.{◌≡◌, ℕ, ◌<◌, refl, ◌∙◌, ap, arith, Some}
 use Rattle.std.specs.Option.{option_map}
 use Rattle.ftl_model.specs.layout.AttributeGrammar.{AttributeGrammar}
 use Rattle.ftl_model.specs.layout.Path.{Has, Path, down, node_at, number_of, parent_of, top}
@@ -8,12 +8,7 @@ use Rattle.ftl_model.specs.layout.TreeOf.{IsTreeOf}
 use Rattle.ftl_model.proofs.layout.Standing.{has_parent, node_at-number_of, number_of-lt}
 use Rattle.ftl_tree.proofs.rows.Access.{size-one}
 
--- the root has none
-pub no_parent : (t : Forest) (p : Path) → None ≡ option_map (number_of t) (parent_of p) → p ≡ top
-no_parent t top e = refl
-no_parent t (down c k p) e = absurd (let z : ⊥ = cc in z)
-
--- another node is a kid of its parent
+-- a node other than the root is a kid of its parent
 pub record ParentOf (t : Forest) (p : Path) (n : ℕ) : Type 0 where
   pub child : ℕ
   pub kid : ℕ

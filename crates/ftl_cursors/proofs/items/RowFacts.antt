@@ -1,5 +1,5 @@
 -- What the rows of a tree tell.
-use Rattle.std.proofs.Common.{◌≡◌, ℕ, suc, ◌-◌, ◌<◌, ◌≤◌, Bool, true, false, if◌then◌else◌, sym, ◌∙◌, ap, arith, List, [], ◌∷◌, get_or, length}
+use Rattle.std.proofs.Common.{◌≡◌, ℕ, suc, ◌-◌, ◌<◌, ◌≤◌, Bool, true, false, if◌then◌else◌, refl, sym, ◌∙◌, ap, arith, List, [], ◌∷◌, get_or, length}
 use Rattle.std.proofs.lemmas.List.{get_or-map, get_or-reverse, length-map, length-reverse}
 use Rattle.std.proofs.lemmas.List.FromFn.{get_or-map-range_with_len, length-map-range_with_len}
 use Rattle.ftl_model.specs.layout.AttributeGrammar.{AttributeGrammar}
@@ -14,18 +14,18 @@ use Rattle.ftl_items.specs.numbers.ItemNumbers.{first_nodes_by, items_before_by}
 use Rattle.ftl_items.proofs.numbers.Places.{before_within}
 use Rattle.ftl_tree.proofs.rows.Access.{has_at, number_at, size-one}
 use Rattle.ftl_cursors.specs.items.RowsFit.{AreItemRows}
+use Rattle.ftl_cursors.specs.visits.ItemSteps.{node_count_by}
 use Rattle.ftl_cursors.proofs.items.RowSteps.{few_firsts}
 
--- the length of an item's nodes
-pub nodes_whole : (is_whole : Path → Bool) (t : Forest) (p : Path) → is_whole p ≡ true
-    → size_at t p ≡ length (nodes_by is_whole t p)
-nodes_whole is_whole t p e =
-    sym (ap suc (length-nodes_below p (λ c. 0) (below_of (at t p))))
-    ∙ sym (ap (λ b. length (if b then subtree t p else p ∷ [])) e)
-
-pub nodes_alone : (is_whole : Path → Bool) (t : Forest) (p : Path) → is_whole p ≡ false
-    → 1 ≡ length (nodes_by is_whole t p)
-nodes_alone is_whole t p e = sym (ap (λ b. length (if b then subtree t p else p ∷ [])) e)
+-- how many nodes an item has
+pub length-nodes_by : (is_whole : Path → Bool) (t : Forest) (p : Path)
+    → length (nodes_by is_whole t p) ≡ node_count_by is_whole t p
+length-nodes_by is_whole t p =
+    elim (is_whole p) as
+    (λ b. length (if b then subtree t p else p ∷ []) ≡ (if b then size_at t p else 1)) [
+      | true ↦ ap suc (length-nodes_below p (λ c. 0) (below_of (at t p)))
+      | false ↦ refl
+    ]
 
 module _ (is_whole : Path → Bool) (t : Forest) (firsts before : List ℕ)
     (fit : AreItemRows is_whole t firsts before) where

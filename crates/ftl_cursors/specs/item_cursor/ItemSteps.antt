@@ -1,12 +1,14 @@
 -- The steps of an item of a stage: steps of the tree, which compute what the item has.
 use Rattle.std.specs.Prelude.{◌≡◌, ℕ, List, map, Contains}
 use Rattle.ftl_deps.specs.reads.Meant.{meant}
-use Rattle.ftl_cursors.specs.items.StageItems.{item_in, passes_in, tree_in}
-use Rattle.ftl_items.specs.stage_items.Items.{passes_of, steps_of_item}
+use Rattle.ftl_cursors.specs.items.StageItems.{cuts_in, item_in, pass_numbered, passes_in, tree_in}
+use Rattle.ftl_items.specs.stage_items.Items.{PassForm, item_steps, pass_place, passes_of}
+use Rattle.ftl_items.specs.stage_items.Visits.{visit}
 use Rattle.ftl_model.specs.layout.AttributeGrammar.{AttributeGrammar}
 use Rattle.ftl_model.specs.layout.Solves.{Instance}
 use Rattle.ftl_model.specs.layout.Tree.{Forest}
-use Rattle.ftl_order.specs.orders.Schedule.{EachStandsOnce, Schedule}
+use Rattle.ftl_order.specs.orders.Schedule.{EachStandsOnce, Schedule, placing_of}
+use Rattle.ftl_order.specs.orders.Sequence.{sequence}
 use Rattle.ftl_schedule.specs.declared.syntax.kind.PassKind.{PassKind}
 use Rattle.ftl_schedule.specs.declared.syntax.kind.PassKind.TheVariants.{BottomUp, InOrder, TopDown}
 use Rattle.ftl_cursors.specs.stages.StageRows.{pass_places, pass_visits}
@@ -55,10 +57,19 @@ order_of TopDown = Preorder
 order_of BottomUp = Reverse
 order_of InOrder = Preorder
 
+-- the form of the pass of a number in a stage of a schedule, cut as the rows cut it
+abbrev pub form_in : ItemTables → Schedule → (stage pass : ℕ) → PassForm
+form_in x s stage m =
+    record {
+      cut = cuts_in x.items m;
+      visit = visit (grammar_in x) (forest_in x) (pass_numbered x.items m).attributes;
+      sequence = sequence (grammar_in x) (placing_of s) (pass_place stage m) (forest_in x);
+    }
+
 -- what is left are the steps of the item of this number, in a stage of a schedule that has these passes and each
 -- computed attribute once
 abbrev pub IsCursorOf : ItemTables → (item : ℕ) → ItemCursor → Type 0
 IsCursorOf x i cursor =
     (s : Schedule) (stage : ℕ) → EachStandsOnce (grammar_in x) s → passes_of s stage ≡ passes_in x.items
     → AreStepsOf (grammar_in x) (forest_in x)
-    (steps_of_item (grammar_in x) s stage (forest_in x) x.items.rows.now.grain (item_in x.items i)) (steps_left cursor)
+    (item_steps (form_in x s stage) (forest_in x) (item_in x.items i)) (steps_left cursor)

@@ -1,5 +1,5 @@
 -- What rows of items and the items of a stage speak of.
-use Rattle.std.specs.Prelude.{◌≡◌, ℕ, ◌+◌, ◌<◌, ◌≤◌, List, length, map, slice_index_or}
+use Rattle.std.specs.Prelude.{◌≡◌, ℕ, ◌+◌, ◌<◌, ◌≤◌, List, length, map, slice_index_or, Option}
 use Rattle.ftl_model.specs.layout.Path.{Path, node_at, top}
 use Rattle.ftl_model.specs.layout.Tree.{Forest, size}
 use Rattle.ftl_model.specs.layout.TreeOf.{IsTreeOf}
@@ -54,10 +54,11 @@ pass_numbered s m = pass_in (passes_in s) m
 abbrev pub start_in : StageItems → (pass : ℕ) → ℕ
 start_in s m = start_by (cuts_in s) (tree_in s.rows.now) m
 
--- the rows are of this tree
-pub record IsMadeOf (t : CheckedTree) (grain : ℕ) (rows : ItemRows) : Type 0 where
+-- the rows are of this tree, with items of at most so many nodes but for the trees of these hosts
+pub record IsMadeOf (t : CheckedTree) (grain : ℕ) (host : Option ℕ) (rows : ItemRows) : Type 0 where
   pub tree : rows.tree.now ≡ t
   pub grain_is : rows.grain ≡ grain
+  pub host_is : rows.host ≡ host
 
 -- the stage has these passes
 pub record IsStageOf (rows : ItemRows) (passes : List Pass) (s : StageItems) : Type 0 where

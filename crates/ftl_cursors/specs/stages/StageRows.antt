@@ -1,9 +1,10 @@
 -- What the rows of a stage hold.
-use Rattle.std.specs.Prelude.{◌≡◌, ℕ, List, length, map}
+use Rattle.std.specs.Prelude.{◌≡◌, List, length, map}
+use Rattle.ftl_cursors.specs.items.RowsCut.{cut_in}
 use Rattle.ftl_cursors.specs.items.RowsFit.{AreStarts}
-use Rattle.ftl_items.specs.stage_items.Items.{cut_of}
+use Rattle.ftl_cursors.specs.items.StageItems.{tree_in}
+use Rattle.ftl_cursors.specs.declared.items.columns.ItemRows.{ItemRows}
 use Rattle.ftl_model.specs.layout.AttributeGrammar.{AttributeGrammar}
-use Rattle.ftl_model.specs.layout.Tree.{Forest}
 use Rattle.ftl_cursors.specs.sequence.BlockPlaces.{places_of}
 use Rattle.ftl_cursors.specs.declared.sequence.block_places.BlockPlaces.{BlockPlaces}
 use Rattle.ftl_schedule.specs.stages.Stages.{pass_of}
@@ -21,8 +22,8 @@ abbrev pub pass_places : AttributeGrammar → Pass → List (List BlockPlaces)
 pass_places g pass = places_of (pass_visits g pass)
 
 -- where the items of the passes begin, and of each pass the visits and where the blocks of children stand in them
-pub record AreStageRows (g : AttributeGrammar) (t : Forest) (grain : ℕ) (passes : List Pass) (rows : StageRows) :
-    Type 0 where
-  pub starts : AreStarts (length (map pass_of passes)) (cut_of (map pass_of passes) t grain) t rows.starts.items
+pub record AreStageRows (g : AttributeGrammar) (items : ItemRows) (passes : List Pass) (rows : StageRows) : Type 0 where
+  pub starts :
+      AreStarts (length (map pass_of passes)) (cut_in items (map pass_of passes)) (tree_in items) rows.starts.items
   pub visits : rows.visits.items ≡ map (pass_visits g) passes
   pub places : rows.places.items ≡ map (pass_places g) passes

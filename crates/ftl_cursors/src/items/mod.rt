@@ -1,15 +1,17 @@
-//! The items of a stage in flat rows. Goes in: a tree, how many nodes an item has at most, and the
-//! passes of a stage. Comes out: `ItemRows`, once for all passes, where items begin and how many
-//! before each node; `StageItems`, what each item of a stage hands on to, which is what the items
-//! of `ftl_items::stage_items` do. `specs/items/RowsFit.antt` says what the rows hold.
+//! The items of a stage in flat rows. Goes in: a tree, how many nodes an item has at most, of which
+//! class the nodes are whose trees are items of any size, and the passes of a stage. Comes out:
+//! `ItemRows`, once for all passes, where items begin and how many before each node; `StageItems`,
+//! what each item of a stage hands on to, which is what the items of `ftl_items::stage_items` do.
+//! `specs/items/RowsFit.antt` says what the rows hold, and `specs/items/WholeTrees.antt` which trees
+//! are one item.
 
-mod begins;
 mod columns;
 mod kids;
 mod next;
 mod rows;
 mod stage;
 mod view;
+mod whole;
 
 pub use columns::ItemRows;
 pub use stage::pass_starts;

@@ -72,7 +72,7 @@ fn count_below(rows: &ItemRows<'_>, node: u32) -> u32
     ensures count { result ≡ (if is_whole_in rows.now (node_at (tree_in rows.now) node) then 0
         else length (kids_of rows.now.tree.now node)) }
 {
-    if rows.tree.subtree_size(node) <= rows.grain {
+    if rows.is_whole(node) {
         0
     } else {
         kid_total(rows.tree, node)

@@ -8,28 +8,37 @@ ghost use Rattle.ftl_schedule.specs.stages.Stages.{kind_of};
 ghost use Rattle.ftl_cursors.specs.items.RowsCut.{is_whole_in};
 ghost use Rattle.ftl_cursors.specs.items.StageItems.{IsMadeOf, tops_of, tree_in};
 
-use crate::items::begins::is_first;
 use crate::items::columns::ItemRows;
+use crate::items::whole::{is_whole_tree, item_size};
 use ftl_schedule::PassKind;
 use ftl_tree::Tree;
 use std::alloc::{AllocError, Global};
 
 impl<'a> ItemRows<'a> {
-    /// The rows of a tree, with items of at most so many nodes.
-    pub fn new(alloc: Global, tree: &'a Tree<'a>, grain: u32) -> Result<ItemRows<'a>, AllocError>
-        ensures made { IfOk result (IsMadeOf tree.now grain) }
+    /// The rows of a tree, with items of at most so many nodes; but where passes nest a schedule in
+    /// nodes of a host class, with the trees of these as items too.
+    pub fn new(
+        alloc: Global,
+        tree: &'a Tree<'a>,
+        grain: u32,
+        host: Option<u32>,
+    ) -> Result<ItemRows<'a>, AllocError>
+        ensures made { IfOk result (IsMadeOf tree.now grain host) }
     {
         let mut firsts = Vec::new(alloc);
         let mut before = Vec::with_capacity(alloc, tree.node_count() as usize)?;
+        let mut end = 0;
         for node in 0..tree.node_count() {
             before.push(firsts.len() as u32)?;
-            if is_first(tree, node, grain) {
+            if end <= node {
                 firsts.push(node)?;
+                end = node + item_size(tree, grain, host, node);
             }
         }
         Ok(ItemRows {
             tree,
             grain,
+            host,
             firsts,
             before,
         })
@@ -66,8 +75,15 @@ impl<'a> ItemRows<'a> {
         ensures count { result ≡ length (nodes_by (is_whole_in self.now) (tree_in self.now)
             (node_at (tree_in self.now) first)) }
     {
-        let size = self.tree.subtree_size(first);
-        if size <= self.grain { size } else { 1 }
+        item_size(self.tree, self.grain, self.host, first)
+    }
+
+    /// Whether the tree at a node is one item: it is small, or a host's.
+    pub fn is_whole(&self, node: u32) -> bool
+        requires node { node < size (tree_in self.now) }
+        ensures whole { result ≡ is_whole_in self.now (node_at (tree_in self.now) node) }
+    {
+        is_whole_tree(self.tree, self.grain, self.host, node)
     }
 
     /// The place in a pass of the item that begins at this node.

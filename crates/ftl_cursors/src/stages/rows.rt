@@ -1,7 +1,6 @@
 //! The rows of a stage.
 ghost use Rattle.std.specs.Prelude.{◌≤◌, length, IfOk};
 ghost use Rattle.ftl_deps.specs.reads.Meant.{meant};
-ghost use Rattle.ftl_cursors.specs.items.StageItems.{tree_in};
 ghost use Rattle.ftl_cursors.specs.stages.StageRows.{AreStageRows};
 
 use crate::items::{ItemRows, pass_starts};
@@ -28,8 +27,7 @@ impl StageRows {
         passes: &[Pass],
     ) -> Result<StageRows, AllocError>
         requires few { length passes.now ≤ 2048 }
-        ensures rows { IfOk result (AreStageRows (meant index.now) (tree_in items.now)
-            items.now.grain passes.now) }
+        ensures rows { IfOk result (AreStageRows (meant index.now) items.now passes.now) }
     {
         let starts = pass_starts(alloc, items, passes)?;
         let mut visits = Vec::with_capacity(alloc, passes.len())?;

@@ -3,6 +3,7 @@ ghost use Rattle.std.specs.Prelude.{◌≡◌, ◌≤◌, length, IfOk};
 ghost use Rattle.std.specs.List.{range_with_len};
 ghost use Rattle.ftl_model.specs.lists.FirstAlong.{first_along};
 ghost use Rattle.ftl_deps.specs.reads.Meant.{meant};
+ghost use Rattle.ftl_schedule.specs.stages.PassLimits.{IsWithinPassLimits};
 ghost use Rattle.ftl_schedule.specs.stages.Stages.{stages_of};
 ghost use Rattle.ftl_limits.specs.reads.ReadTables.{AreTables};
 ghost use Rattle.ftl_limits.specs.faults.PlanFaults.{first_fault};
@@ -12,7 +13,7 @@ use crate::faults::bound::is_far_from_limits;
 use crate::faults::fault::PlanFault;
 use crate::faults::reads::{StageReads, stage_reads};
 use crate::reads::{ReadTables, is_sound};
-use ftl_schedule::Accepted;
+use ftl_schedule::places::Placed;
 use ftl_tree::Tree;
 use std::alloc::{AllocError, Global};
 
@@ -23,19 +24,19 @@ use std::alloc::{AllocError, Global};
 pub fn first_fault(
     alloc: Global,
     tables: &ReadTables,
-    accepted: &Accepted<'_>,
+    placed: &Placed,
     tree: &Tree<'_>,
 ) -> Result<Option<PlanFault>, AllocError>
     requires tables { AreTables (meant tree.now.checked) tables.now }
+    requires limits { IsWithinPassLimits (stages_of placed.now) }
     ensures fault { IfOk result (λ fault. fault ≡ first_fault (meant tree.now.checked)
-        (stages_of accepted.now.schedule) tree.now.tree) }
+        (stages_of placed.now) tree.now.tree) }
 {
     is_sound(tree.checked());
-    let _limits = accepted.schedule();
     if is_far_from_limits(tables, tree) {
         return Ok(None);
     }
-    let counts = stage_reads(alloc, tables, accepted, tree)?;
+    let counts = stage_reads(alloc, tables, placed, tree)?;
     match first_too_many(counts.as_slice()) {
         Some(fault) => Ok(Some(fault)),
         None => Ok(first_too_wide(counts.as_slice())),

@@ -11,7 +11,7 @@ ghost use Rattle.ftl_limits.specs.faults.StageReads.{HaveRoom, cells_before};
 ghost use Rattle.ftl_limits.specs.faults.StageReads.{no_reads, or_wide, with_step};
 
 use crate::reads::{ReadTables, instance_reads};
-use ftl_schedule::Accepted;
+use ftl_schedule::places::Placed;
 use ftl_tree::Tree;
 use std::alloc::{AllocError, Global};
 
@@ -27,23 +27,23 @@ pub(crate) struct StageReads {
 pub(crate) fn stage_reads(
     alloc: Global,
     tables: &ReadTables,
-    accepted: &Accepted<'_>,
+    placed: &Placed,
     tree: &Tree<'_>,
 ) -> Result<Vec<StageReads>, AllocError>
     requires sound { IsSound (meant tree.now.checked) }
     requires tables { AreTables (meant tree.now.checked) tables.now }
     ensures counts { IfOk result (λ v. AreCounts (meant tree.now.checked)
-        (stages_of accepted.now.schedule) tree.now.tree
+        (stages_of placed.now) tree.now.tree
         (instance_count (meant tree.now.checked) tree.now.tree) v.items) }
 {
-    let stages = accepted.schedule().stages.len();
+    let stages = placed.schedule().stages.len();
     let none = StageReads {
         total: 0,
         wide: None,
     };
     let mut counts = Vec::from_elem(alloc, none, stages)?;
     for node in 0..tree.node_count() {
-        add_node(tables, accepted, tree, node, counts.as_mut_slice());
+        add_node(tables, placed, tree, node, counts.as_mut_slice());
     }
     Ok(counts)
 }
@@ -51,7 +51,7 @@ pub(crate) fn stage_reads(
 /// Counts what the instances of a node read.
 fn add_node(
     tables: &ReadTables,
-    accepted: &Accepted<'_>,
+    placed: &Placed,
     tree: &Tree<'_>,
     node: u32,
     counts: &mut [StageReads],
@@ -59,10 +59,10 @@ fn add_node(
     requires sound { IsSound (meant tree.now.checked) }
     requires tables { AreTables (meant tree.now.checked) tables.now }
     requires node { node < size tree.now.tree }
-    requires so_far { AreCounts (meant tree.now.checked) (stages_of accepted.now.schedule)
+    requires so_far { AreCounts (meant tree.now.checked) (stages_of placed.now)
         tree.now.tree (cells_before (meant tree.now.checked) tree.now.tree node) counts.old }
     requires room { HaveRoom (cells_before (meant tree.now.checked) tree.now.tree node) counts.old }
-    ensures so_far { AreCounts (meant tree.now.checked) (stages_of accepted.now.schedule)
+    ensures so_far { AreCounts (meant tree.now.checked) (stages_of placed.now)
         tree.now.tree (cells_before (meant tree.now.checked) tree.now.tree (node + 1)) counts.new }
     ensures room { HaveRoom (cells_before (meant tree.now.checked) tree.now.tree (node + 1))
         counts.new }
@@ -72,14 +72,14 @@ fn add_node(
     let class = tree.class(node);
     let rows = tables.attributes.as_slice();
     for attr in rows[class as usize].as_slice() {
-        add_instance(tables, accepted, tree, node, *attr, counts);
+        add_instance(tables, placed, tree, node, *attr, counts);
     }
 }
 
 /// Counts what an instance reads, where a stage computes it; an input reads nothing.
 fn add_instance(
     tables: &ReadTables,
-    accepted: &Accepted<'_>,
+    placed: &Placed,
     tree: &Tree<'_>,
     node: u32,
     attr: u32,
@@ -90,11 +90,11 @@ fn add_instance(
     requires node { node < size tree.now.tree }
     requires attr { OfClass (meant tree.now.checked) (class_in tree.now node) attr }
     requires room { HaveRoom 33554432 counts.old }
-    ensures further { AreFurther (meant tree.now.checked) (stages_of accepted.now.schedule)
+    ensures further { AreFurther (meant tree.now.checked) (stages_of placed.now)
         tree.now.tree (instance_in tree.now node attr) counts.old counts.new }
     ensures little { AreLittleMore counts.old counts.new }
 {
-    let stage = accepted.schedule_place(attr).stage;
+    let stage = placed.schedule_place(attr).stage;
     if stage >= counts.len() {
         return;
     }

@@ -1,27 +1,33 @@
 -- The schedule without nests of an accepted one may be accepted.
-use Rattle.std.proofs.Common.{◌≡◌, ℕ, ◌+◌, ◌≤◌, refl, sym, subst, arith, List, [], ◌∷◌, ◌++◌, length, Contains}
+use Rattle.std.proofs.Common.{◌≡◌, ℕ, ◌+◌, ◌≤◌, refl, sym, ap, subst, arith, List, [], ◌∷◌, ◌++◌, length, Contains, Ok}
 use Rattle.std.specs.List.{All, sum_by}
 use Rattle.std.proofs.lemmas.List.Elements.{All-append, All-cons, All-nil}
 use Rattle.std.proofs.lemmas.List.Sums.{sum_by-append, sum_by-cons}
 use Rattle.ftl_model.proofs.lists.Listed.{counted_in, listed}
 use Rattle.ftl_model.specs.layout.AttributeGrammar.{AttributeGrammar}
 use Rattle.ftl_order.specs.faults.FaultLaws.{AreComputed}
+use Rattle.ftl_order.proofs.faults.Entries.{none_is_twice}
 use Rattle.ftl_order.specs.orders.Lawful.{IsLawful}
 use Rattle.ftl_order.specs.orders.Ordered.{IsOrdered}
 use Rattle.ftl_order.specs.orders.Schedule.{Pass, PassKind, Schedule, bottomup, entries, inorder, topdown}
 use Rattle.ftl_deps.specs.reads.Meant.{meant}
 use Rattle.ftl_meaning.specs.faults.Checked.{CheckedGrammar}
 use Rattle.ftl_schedule.specs.check.AcceptedSchedule.{IsAccepted}
+use Rattle.ftl_schedule.specs.places.Placed.{verdict, without_twice}
 use Rattle.ftl_schedule.specs.stages.PassLimits.{HasFewPasses, IsWithinPassLimits}
 use Rattle.ftl_schedule.specs.stages.Stages.{stages_of}
 use Rattle.ftl_schedule.specs.declared.stages.types.Schedule.{Schedule as FlatSchedule}
 use Rattle.ftl_nests.specs.Flat.{alone_stage, each_alone, flat_by, flat_pass, flat_schedule, flat_stage, own_stage}
-use Rattle.ftl_nests.specs.Nests.{NestingPass, NestingSchedule, inner_stages, outer_schedule}
+use Rattle.ftl_nests.specs.Nests.{IsNestOrdered, NestingPass, NestingSchedule, inner_stages, outer_schedule}
 use Rattle.ftl_nests.proofs.FlatCounts.{times_flat, times_listed}
 use Rattle.ftl_nests.proofs.FlatLaws.{flat_ordered}
+use Rattle.ftl_nests.proofs.Plain.{plain_ordered_back}
 use Rattle.ftl_nest_check.specs.check.NestAccepted.{IsNestAccepted}
+use Rattle.ftl_nest_check.specs.check.WithoutNests.{without_nests}
 use Rattle.ftl_nest_check.specs.stages.Nested.{IsWithinNestLimits, nests_of, passes_with}
 use Rattle.ftl_nest_check.specs.declared.stages.types.NestingSchedule.{NestingSchedule as Nesting}
+use Rattle.ftl_nest_check.proofs.check.NothingNested.{without}
+use Rattle.ftl_nest_check.proofs.check.OuterLimits.{outer_limits}
 
 -- ---- its entries are those of the other
 
@@ -124,14 +130,33 @@ flat_limits s within =
     let all = within.all in
     record { all = omega (arith, all, count_flat s); each = flat_few s }
 
--- ---- so it may be accepted
+-- ---- so the schedule without nests may be accepted
 
-pub flat_may : (c : CheckedGrammar) (s : Nesting) (flat : FlatSchedule) → IsLawful (meant c)
-    → IsNestAccepted c s → stages_of flat ≡ flat_schedule (nests_of s) → IsAccepted c flat
-flat_may c s flat law accepted is =
+module _ (g : AttributeGrammar) (s : NestingSchedule) where
+  pub computed_without : AreComputed g (outer_schedule s) → AreComputed g (without_nests s)
+  computed_without computed = without (AreComputed g) s (flat_computed g s computed) (λ plain. computed)
+
+  pub limits_without : IsWithinNestLimits s → IsWithinPassLimits (without_nests s)
+  limits_without within = without IsWithinPassLimits s (flat_limits s within) (λ plain. outer_limits s within)
+
+  pub ordered_without : IsLawful g → IsNestOrdered g s → IsOrdered g (without_nests s)
+  ordered_without law ordered =
+      without (IsOrdered g) s (flat_ordered g s law ordered)
+      (λ same. plain_ordered_back g (outer_schedule s) (subst (IsNestOrdered g) same ordered))
+
+pub accepted_without : (c : CheckedGrammar) (s : Nesting) (flat : FlatSchedule) → IsLawful (meant c)
+    → IsNestAccepted c s → stages_of flat ≡ without_nests (nests_of s) → IsAccepted c flat
+accepted_without c s flat law accepted is =
+    let g = meant c in
     record {
-      computed =
-          subst (AreComputed (meant c)) (sym is) (flat_computed (meant c) (nests_of s) accepted.may.computed);
-      limits = subst IsWithinPassLimits (sym is) (flat_limits (nests_of s) accepted.may.limits);
-      ordered = subst (IsOrdered (meant c)) (sym is) (flat_ordered (meant c) (nests_of s) law accepted.ordered);
+      computed = subst (AreComputed g) (sym is) (computed_without g (nests_of s) accepted.may.computed);
+      limits = subst IsWithinPassLimits (sym is) (limits_without g (nests_of s) accepted.may.limits);
+      ordered = subst (IsOrdered g) (sym is) (ordered_without g (nests_of s) law accepted.ordered);
     }
+
+-- ---- and no attribute has two entries in it
+
+pub once_without : (c : CheckedGrammar) (flat : FlatSchedule) → IsAccepted c flat → without_twice flat ≡ Ok flat
+once_without c flat accepted =
+    ap (λ o. verdict o flat)
+    (none_is_twice (meant c) (stages_of flat) accepted.computed accepted.ordered.once)

@@ -124,3 +124,9 @@ is_nest_accepted c s p placed may law none =
       may = subst (λ (x : Schedule). MayBeVerified (meant c) (nests_of x)) (same_schedule (meant c) s p placed) may;
       ordered = is_ordered (meant c) s p placed law may.kept none;
     }
+
+-- an accepted schedule has no attribute with two entries
+pub once_placed : (c : CheckedGrammar) (s : Schedule) → IsNestAccepted c s → without_twice s ≡ Ok s
+once_placed c s accepted =
+    ap (λ o. verdict_on o s)
+    (none_is_twice (meant c) (outer_schedule (nests_of s)) accepted.may.computed accepted.ordered.once)

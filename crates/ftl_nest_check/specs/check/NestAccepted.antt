@@ -9,10 +9,10 @@ use Rattle.ftl_order.specs.faults.FaultLaws.{AreComputed}
 use Rattle.ftl_order.specs.declared.faults.fault.VerifyFault.{VerifyFault}
 use Rattle.ftl_schedule.specs.check.AcceptedSchedule as flat
 use Rattle.ftl_schedule.specs.stages.Stages.{stages_of}
-use Rattle.ftl_nests.specs.Flat.{flat_schedule}
 use Rattle.ftl_nests.specs.Nests as nests
 use Rattle.ftl_nests.specs.Nests.{IsNestOrdered, outer_schedule}
 use Rattle.ftl_nest_check.specs.check.NestFault.{first_nest_fault}
+use Rattle.ftl_nest_check.specs.check.WithoutNests.{without_nests}
 use Rattle.ftl_nest_check.specs.places.NestPlaced.{verdict_on}
 use Rattle.ftl_nest_check.specs.stages.Nested.{AreNestsKept, IsWithinNestLimits, nests_of}
 use Rattle.ftl_nest_check.specs.declared.stages.types.NestingSchedule.{NestingSchedule}
@@ -43,7 +43,7 @@ pub record IsNestAccepted (c : CheckedGrammar) (s : NestingSchedule) : Type 0 wh
   pub may : MayBeVerified (meant c) (nests_of s)
   pub ordered : IsNestOrdered (meant c) (nests_of s)
 
--- this is the schedule without nests that has the passes of the other one by one, accepted as well
+-- this is the schedule without nests, accepted as well
 pub record IsFlatOf (accepted : flat.AcceptedSchedule) (c : CheckedGrammar) (s : NestingSchedule) : Type 0 where
   pub grammar : accepted.checked ≡ c
-  pub flat : stages_of accepted.schedule ≡ flat_schedule (nests_of s)
+  pub flat : stages_of accepted.schedule ≡ without_nests (nests_of s)

@@ -5,6 +5,7 @@ ghost use Rattle.ftl_deps.specs.reads.Meant.{meant};
 ghost use Rattle.ftl_schedule.specs.check.AcceptedSchedule.{AcceptedSchedule};
 ghost use Rattle.ftl_nests.specs.Nests.{IsNestOrdered};
 ghost use Rattle.ftl_nest_check.specs.check.NestAccepted.{IsFlatOf, IsNestAccepted, MayBeVerified};
+ghost use Rattle.ftl_nest_check.specs.stages.Known.{AreNestingStagesKnown};
 ghost use Rattle.ftl_nest_check.specs.stages.Nested.{nests_of};
 
 use crate::places::PlacedNests;
@@ -69,6 +70,8 @@ impl<'a> AcceptedNests<'a> {
         ensures schedule { result.now ≡ self.now.schedule }
         ensures asked { MayBeVerified (meant self.now.checked) (nests_of self.now.schedule) }
         ensures ordered { IsNestOrdered (meant self.now.checked) (nests_of self.now.schedule) }
+        // what its printing asks for
+        ensures known { AreNestingStagesKnown self.now.checked.grammar self.now.schedule.stages }
     {
         self.placed.schedule()
     }
@@ -80,8 +83,8 @@ impl<'a> AcceptedNests<'a> {
         &self.placed
     }
 
-    /// The schedule without nests: each pass as the only one of a stage, a nest's before a bottomup
-    /// pass and behind a topdown one.
+    /// The schedule without nests: the same stages where no pass nests a schedule; else each pass as
+    /// the only one of a stage, a nest's before a bottomup pass and behind a topdown one.
     pub fn flat(&self) -> &Accepted<'a>
         ensures flat { IsFlatOf result.now self.now.checked self.now.schedule }
     {

@@ -11,4 +11,5 @@ mod outer;
 mod placed;
 
 pub use inner::StageEntries;
+pub(crate) use outer::outer_of;
 pub use placed::PlacedNests;

@@ -21,7 +21,7 @@ use Rattle.ftl_nest_check.specs.stages.Nested.{AreNestsKept, IsWithinNestLimits,
 use Rattle.ftl_nest_text.specs.declared.syntax.types.WrittenNest.{WrittenNest}
 use Rattle.ftl_nest_text.specs.declared.syntax.types.WrittenNestingPass.{WrittenNestingPass}
 use Rattle.ftl_nest_text.specs.names.RegionTests.{region_tests}
-use Rattle.ftl_nest_text.specs.printing.NestWritten.{AreNestingStagesKnown, IsNestKnown, IsNestingPassKnown}
+use Rattle.ftl_nest_check.specs.stages.Known.{AreNestingStagesKnown, IsNestKnown, IsNestingPassKnown}
 use Rattle.ftl_nest_text.specs.reading.NestLimits.{pass_total, stage_sizes}
 use Rattle.ftl_nest_text.specs.reading.NestReading.{NestAnswers}
 use Rattle.ftl_nest_text.proofs.names.CheckedTests.{class_known, number_known, numbers_known, told}

@@ -37,7 +37,7 @@ abbrev pub beside_in : (stage : ℕ) → List ℕ → Option ScheduleFault
 beside_in n [] = None
 beside_in n (size ∷ more) = if nat_lt most_stage_passes size then Some (TooManyBeside n size) else beside_in (n + 1) more
 
--- too many passes in all stages, inner ones too, or else that stage
+-- too many passes in all stages, inner ones too, or else the first stage that has too many beside each other
 abbrev pub sizes_fault : List ℕ → Option ScheduleFault
 sizes_fault sizes = if nat_lt most_passes (pass_total sizes) then Some (TooManyPasses (pass_total sizes)) else beside_in 1 sizes
 

@@ -10,9 +10,9 @@ ghost use Rattle.ftl_nest_text.specs.text.NestText.{nesting_pass_written, nestin
 ghost use Rattle.ftl_nest_text.specs.text.NestText.{nesting_schedule_written};
 ghost use Rattle.ftl_nest_text.specs.text.NestText.{nesting_stage_written};
 ghost use Rattle.ftl_nest_text.specs.printing.NestWritten as by;
-ghost use Rattle.ftl_nest_text.specs.printing.NestWritten.{AreNestingPassesKnown, IsNestKnown};
-ghost use Rattle.ftl_nest_text.specs.printing.NestWritten.{AreNestingStagesKnown};
-ghost use Rattle.ftl_nest_text.specs.printing.NestWritten.{IsNestingPassKnown, nest_written_of};
+ghost use Rattle.ftl_nest_check.specs.stages.Known.{AreNestingPassesKnown, AreNestingStagesKnown};
+ghost use Rattle.ftl_nest_check.specs.stages.Known.{IsNestKnown, IsNestingPassKnown};
+ghost use Rattle.ftl_nest_text.specs.printing.NestWritten.{nest_written_of};
 
 use crate::text::write_nest_open;
 use ftl_checked::Checked;

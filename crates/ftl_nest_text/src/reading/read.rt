@@ -7,8 +7,8 @@ ghost use Rattle.ftl_deps.specs.reads.Meant.{meant};
 ghost use Rattle.ftl_order.specs.faults.FaultLaws.{AreComputed};
 ghost use Rattle.ftl_schedule.specs.declared.names.fault.ScheduleFault.TheVariants.{OutOfMemory};
 ghost use Rattle.ftl_nests.specs.Nests.{outer_schedule};
+ghost use Rattle.ftl_nest_check.specs.stages.Known.{AreNestingStagesKnown};
 ghost use Rattle.ftl_nest_check.specs.stages.Nested.{AreNestsKept, IsWithinNestLimits, nests_of};
-ghost use Rattle.ftl_nest_text.specs.printing.NestWritten.{AreNestingStagesKnown};
 ghost use Rattle.ftl_nest_text.specs.reading.NestLimits.{pass_total, stage_sizes};
 ghost use Rattle.ftl_nest_text.specs.reading.NestReading.{NestAnswers, nesting_schedule_of};
 

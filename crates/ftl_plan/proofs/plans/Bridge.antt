@@ -1,5 +1,5 @@
 -- What a work answers is what it means.
-use Rattle.std.proofs.Common.{◌≡◌, ℕ, ◌<◌, ◌≤◌, true, false, ltb, ltb-true, ltb-false, refl, sym, ◌∙◌, ap, subst, arith, List, [], ◌∷◌, get_or, length, map}
+use Rattle.std.proofs.Common.{◌≡◌, ℕ, ◌<◌, ◌≤◌, true, false, ltb, ltb-true, ltb-false, refl, sym, ◌∙◌, ap, subst, arith, List, [], ◌∷◌, Option, None, get_or, length, map}
 use Rattle.std.proofs.lemmas.List.{ext_get_or, get_or-map, get_or_past, length-map}
 use Rattle.std.proofs.lemmas.List.Elements.{Contains-get_or}
 use Rattle.std.proofs.lemmas.List.FromFn.{get_or-map-range_with_len, length-map-range_with_len}
@@ -10,17 +10,21 @@ use Rattle.ftl_cells.specs.shared.Work.{Meaning, IsStepOfItem, cell_total, item_
 use Rattle.ftl_cells.proofs.shared.Shapes.{cell_total-listed, has_step, item_below, item_total-listed, kind_at-listed, next_at-listed, next_total-listed, pred_total-listed, read_total-listed, reads_of_step-listed, solution_at-listed, step_total-listed, target_of-listed}
 use Rattle.ftl_deps.specs.reads.Meant.{meant}
 use Rattle.ftl_limits.specs.reads.ReadTables.{AreTables, IsSound}
-use Rattle.ftl_cursors.specs.item_cursor.ItemSteps.{AreStepsOf, IsCursorOf, no_step, steps_left}
+use Rattle.ftl_cursors.specs.item_cursor.ItemSteps.{AreStepsOf, IsCursorOf, form_in, no_step, steps_left}
 use Rattle.ftl_cursors.specs.declared.item_cursor.cursor.ItemCursor.{ItemCursor}
-use Rattle.ftl_cursors.specs.items.StageItems.{items_in, passes_in}
-use Rattle.ftl_items.specs.stage_items.Items.{items, nexts, no_item, passes_of, predecessors, steps_of_item}
+use Rattle.ftl_cursors.specs.items.StageItems.{item_in, items_in, passes_in}
+use Rattle.ftl_cursors.specs.items.WholeTrees.{is_whole_at}
+use Rattle.ftl_items.specs.stage_items.Items.{Item, item_steps, items, items_by, nexts, no_item, pass_in, pass_place, passes_of, predecessors}
 use Rattle.ftl_items.specs.stage_items.StageWork.{kind_of, no_instance, reads_at, stage_work}
+use Rattle.ftl_items.specs.stage_items.Visits.{visit}
 use Rattle.ftl_model.specs.layout.AttributeGrammar.{AttributeGrammar}
 use Rattle.ftl_model.specs.layout.Table.{SolvesList, instance_count, instance_number, instances, value_in}
 use Rattle.ftl_model.specs.layout.Tree.{Forest}
 use Rattle.ftl_model.specs.layout.Values.{overflow}
 use Rattle.ftl_order.specs.orders.Reads.{reads_of}
-use Rattle.ftl_order.specs.orders.Schedule.{Pass, Schedule}
+use Rattle.ftl_model.specs.layout.Solves.{Instance}
+use Rattle.ftl_order.specs.orders.Schedule.{Pass, Schedule, placing_of}
+use Rattle.ftl_order.specs.orders.Sequence.{sequence}
 use Rattle.ftl_items.specs.solution.Solution.{solution}
 use Rattle.ftl_step_value.specs.cells.ReadCells.{filled_cell, read_cells}
 use Rattle.ftl_step_value.proofs.cells.StepRules.{target_there}
@@ -100,8 +104,25 @@ module _ (w : StageParts) (fit : IsStage w) where
 
   -- ---- items and cells
 
+  -- the passes of the stage
+  abbrev these : List Pass
+  these = passes_in w.item_tables.items
+
+  -- its items, where trees of this host are items
+  abbrev with_host : Option ℕ → List Item
+  with_host host =
+      items_by (length these)
+      (λ k. record { kind = (pass_in these k).kind; is_whole = is_whole_at host t (grain_of w) }) t
+
+  -- they are those of small trees
+  small_items : items_in w.item_tables.items ≡ items these t (grain_of w)
+  small_items = ap with_host fit.no_host
+
   pub items_are : length (items_in w.item_tables.items) ≡ item_total m
-  items_are = ap (λ ps. length (items ps t (grain_of w))) (sym fit.passes) ∙ sym (item_total-listed (shape_of w))
+  items_are =
+      ap (λ (ys : List Item). length ys) small_items
+      ∙ ap (λ ps. length (items ps t (grain_of w))) (sym fit.passes)
+      ∙ sym (item_total-listed (shape_of w))
 
   pub item_known : (i : ℕ) → i < item_total m → i < length (items_in w.item_tables.items)
   item_known i below = subst (λ n. i < n) (sym items_are) below
@@ -119,13 +140,15 @@ module _ (w : StageParts) (fit : IsStage w) where
   pub preds_are : (i : ℕ) → i < item_total m
       → length (predecessors (passes_in w.item_tables.items) (items_in w.item_tables.items) i) ≡ pred_total m i
   preds_are i below =
-      ap (λ ps. length (predecessors ps (items ps t (grain_of w)) i)) (sym fit.passes)
+      ap (λ (ys : List Item). length (predecessors these ys i)) small_items
+      ∙ ap (λ ps. length (predecessors ps (items ps t (grain_of w)) i)) (sym fit.passes)
       ∙ sym (pred_total-listed (shape_of w) i (item_below (shape_of w) i below))
 
   pub nexts_are : (i : ℕ) → i < item_total m
       → length (nexts (passes_in w.item_tables.items) (items_in w.item_tables.items) i) ≡ next_total m i
   nexts_are i below =
-      ap (λ ps. length (nexts ps (items ps t (grain_of w)) i)) (sym fit.passes)
+      ap (λ (ys : List Item). length (nexts these ys i)) small_items
+      ∙ ap (λ ps. length (nexts ps (items ps t (grain_of w)) i)) (sym fit.passes)
       ∙ sym (next_total-listed (shape_of w) i (item_below (shape_of w) i below))
 
   pub place_known : (i k : ℕ) → i < item_total m → k < next_total m i
@@ -136,19 +159,34 @@ module _ (w : StageParts) (fit : IsStage w) where
       → get_or (nexts (passes_in w.item_tables.items) (items_in w.item_tables.items) i) k 0 ≡ next_at m i k
   next_is i k below place =
       let known = item_below (shape_of w) i below in
-      ap (λ ps. get_or (nexts ps (items ps t (grain_of w)) i) k 0) (sym fit.passes)
+      ap (λ (ys : List Item). get_or (nexts these ys i) k 0) small_items
+      ∙ ap (λ ps. get_or (nexts ps (items ps t (grain_of w)) i) k 0) (sym fit.passes)
       ∙ sym
       (next_at-listed (shape_of w) i k known (subst (λ n. k < n) (next_total-listed (shape_of w) i known) place))
 
   -- ---- steps
 
+  -- the steps of an item of a stage with these passes, where trees of this host are items
+  abbrev steps_with : Option ℕ → List Pass → Item → List Instance
+  steps_with host ps =
+      item_steps
+      (λ k. record {
+        cut = record { kind = (pass_in ps k).kind; is_whole = is_whole_at host t (grain_of w) };
+        visit = visit g t (pass_in ps k).attributes;
+        sequence = sequence g (placing_of s) (pass_place w.stage k) t;
+      })
+      t
+
+  -- what an item has, of small trees in the stage of the schedule
+  form_is : (i : ℕ) → item_steps (form_in w.item_tables s w.stage) t (item_in w.item_tables.items i) ≡ steps_of w i
+  form_is i =
+      ap (λ (host : Option ℕ). steps_with host these (get_or (with_host host) i no_item)) fit.no_host
+      ∙ ap (λ (ps : List Pass). steps_with None ps (get_or (items ps t (grain_of w)) i no_item)) (sym fit.passes)
+
   pub steps_are : (i : ℕ) (cursor : ItemCursor) → IsCursorOf w.item_tables i cursor
       → AreStepsOf g t (steps_of w i) (steps_left cursor)
   steps_are i cursor is =
-      subst
-      (λ (ps : List Pass). AreStepsOf g t (steps_of_item g s w.stage t (grain_of w) (get_or (items ps t (grain_of w)) i
-      no_item)) (steps_left cursor))
-      (sym fit.passes) (is s w.stage fit.can.ordered.once fit.passes)
+      subst (λ ys. AreStepsOf g t ys (steps_left cursor)) (form_is i) (is s w.stage fit.can.ordered.once fit.passes)
 
   pub count_is : (i : ℕ) (xs : List Step) → i < item_total m → AreStepsOf g t (steps_of w i) xs
       → length xs ≡ step_total m i

@@ -1,5 +1,5 @@
 -- A schedule within its limits has few passes in each stage.
-use Rattle.std.proofs.Common.{◌≤◌, ◌∙◌, ap, subst, [], length, get_or, map, arith}
+use Rattle.std.proofs.Common.{◌≤◌, ap, [], length, get_or, map, arith}
 use Rattle.std.proofs.lemmas.List.{get_or-map, length-map}
 use Rattle.std.proofs.lemmas.List.Elements.{All-from_get_or}
 use Rattle.ftl_plan.specs.plans.PlannedStages.{HaveFewPasses}

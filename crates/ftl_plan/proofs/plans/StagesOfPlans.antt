@@ -6,7 +6,6 @@ use Rattle.ftl_meaning.specs.faults.Checked.{CheckedGrammar}
 use Rattle.ftl_limits.specs.reads.ReadTables.{AreTables, IsSound}
 use Rattle.ftl_cursors.specs.item_cursor.ItemSteps.{forest_in}
 use Rattle.ftl_cursors.specs.declared.item_cursor.item.ItemTables.{ItemTables}
-use Rattle.ftl_cursors.specs.items.StageItems.{tree_in}
 use Rattle.ftl_cursors.specs.declared.items.columns.ItemRows.{ItemRows}
 use Rattle.ftl_items.specs.stage_items.Items.{passes_of}
 use Rattle.ftl_model.specs.layout.Table.{instance_count}
@@ -45,20 +44,20 @@ module _ (p : Inside) (is : IsPlan p) (n : ℕ) (known : n < length (stages_of p
 
   pub rows_known : n < length p.stages.items
   rows_known =
-      let long = zip_long (AreRowsOf (meant p.checked.now) (tree_in p.items) p.items.grain) stages p.stages.items is.rows in
+      let long = zip_long (AreRowsOf (meant p.checked.now) p.items) stages p.stages.items is.rows in
       let below = stage_known in
       omega (arith, long, below)
 
   -- the rows of the stage
   pub rows_are : (s : Stage) (r : StageRows) (passes : List Pass) → passes ≡ (get_or stages n s).passes
-      → r ≡ get_or p.stages.items n r → AreStageRows (meant p.checked.now) (tree_in p.items) p.items.grain passes r
+      → r ≡ get_or p.stages.items n r → AreStageRows (meant p.checked.now) p.items passes r
   rows_are s r passes passes_eq row =
-      subst (AreStageRows (meant p.checked.now) (tree_in p.items) p.items.grain passes) (sym row)
+      subst (AreStageRows (meant p.checked.now) p.items passes) (sym row)
       (subst
-      (λ (ps : List Pass). AreStageRows (meant p.checked.now) (tree_in p.items) p.items.grain ps
+      (λ (ps : List Pass). AreStageRows (meant p.checked.now) p.items ps
       (get_or p.stages.items n r))
       (sym passes_eq)
-      (zip_at (AreRowsOf (meant p.checked.now) (tree_in p.items) p.items.grain) stages p.stages.items n s r is.rows
+      (zip_at (AreRowsOf (meant p.checked.now) p.items) stages p.stages.items n s r is.rows
       stage_known))
 
   -- tables that are made of the fields are those of the stage
@@ -75,6 +74,7 @@ module _ (p : Inside) (is : IsPlan p) (n : ℕ) (known : n < length (stages_of p
         checked = grammar;
         tree = ap (λ (i : ItemRows). i.tree.now.tree) items ∙ ap (λ (t : CheckedTree). t.tree) is.items;
         grain = ap (λ (i : ItemRows). i.grain) items;
+        no_host = ap (λ (i : ItemRows). i.host) items ∙ is.no_host;
         passes = get_or-map passes_in_stage stages n s [] stage_known ∙ ap (map pass_of) (sym passes);
         tables = record {
           visits =
@@ -135,6 +135,7 @@ module _ (p : Inside) (is : IsPlan p) where
             }));
         passes = ap (λ (s : Schedule). passes_of (stages_of s) w.stage) accepted ∙ at.passes;
         items = at.tables;
+        no_host = at.no_host;
         copies =
             subst (λ (c : CheckedGrammar). AreCopies c w.copies.now) back
             (subst (AreCopies p.checked.now) (sym copies) is.copies);

@@ -2,6 +2,7 @@
 use Rattle.std.specs.Prelude.{◌≡◌, ℕ, ◌+◌, ◌*◌, ◌/◌, Bool, nat_le, if◌then◌else◌, List, flat_map, map, sum_by, take}
 use Rattle.std.specs.List.{range_with_len}
 use Rattle.ftl_deps.specs.reads.Meant.{meant}
+use Rattle.ftl_cursors.specs.items.RowsCut.{HasNoHost}
 use Rattle.ftl_cursors.specs.items.StageItems.{passes_in, tree_in}
 use Rattle.ftl_cursors.specs.declared.items.columns.ItemRows.{ItemRows}
 use Rattle.ftl_cursors.specs.declared.items.view.StageItems.{StageItems}
@@ -64,8 +65,9 @@ CanBeTaken g t grain kinds phases =
     (s : order.Schedule) (stage max_stack : ℕ) → CanBePlanned g s t → kinds_in (passes_of s stage) ≡ kinds
     → CanTake (stage_meaning g s t grain stage max_stack) phases
 
--- so can each stage that has such passes as these items
+-- so can each stage that has such passes as these items, where small trees alone are one item
 abbrev pub FitItems : StageItems → Phases → Type 0
 FitItems items phases =
-    CanBeTaken (grammar_in items.rows.now) (tree_in items.rows.now) items.rows.now.grain (kinds_in (passes_in items))
+    HasNoHost items.rows.now
+    → CanBeTaken (grammar_in items.rows.now) (tree_in items.rows.now) items.rows.now.grain (kinds_in (passes_in items))
     phases

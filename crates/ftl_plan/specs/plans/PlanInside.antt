@@ -2,7 +2,7 @@
 use Rattle.std.specs.Prelude.{◌≡◌, None, map}
 use Rattle.ftl_deps.specs.reads.Meant.{meant}
 use Rattle.ftl_limits.specs.reads.ReadTables.{AreTables, IsSound}
-use Rattle.ftl_cursors.specs.items.StageItems.{tree_in}
+use Rattle.ftl_cursors.specs.items.RowsCut.{HasNoHost}
 use Rattle.ftl_step_value.specs.neighbours.NeighbourParts.{AreNeighbourParts}
 use Rattle.ftl_schedule.specs.check.AcceptedSchedule.{IsAccepted}
 use Rattle.ftl_schedule.specs.stages.Stages.{stages_of}
@@ -31,8 +31,9 @@ pub record IsPlan (p : Inside) : Type 0 where
   pub sound : IsSound (meant p.checked.now)
   pub tables : AreTables (meant p.checked.now) p.tables
   pub items : p.items.tree.now ≡ p.tree.now
+  pub no_host : HasNoHost p.items
   pub targets : p.targets.items ≡ map target_of (meant p.checked.now).rules
   pub copies : AreCopies p.checked.now p.copies.items
   pub neighbours : AreNeighbourParts p.checked.now p.neighbours.items
-  pub rows : HaveRows (meant p.checked.now) (tree_in p.items) p.items.grain p.accepted.now.schedule.stages p.stages.items
+  pub rows : HaveRows (meant p.checked.now) p.items p.accepted.now.schedule.stages p.stages.items
   pub no_fault : first_fault (meant p.checked.now) (stages_of p.accepted.now.schedule) p.tree.now.tree ≡ None

@@ -1,10 +1,10 @@
 -- What a plan keeps for its stages.
-use Rattle.std.specs.Prelude.{ℕ, ◌≤◌, List, length}
+use Rattle.std.specs.Prelude.{◌≤◌, List, length}
 use Rattle.std.specs.List.{All, AllZip}
 use Rattle.ftl_model.specs.layout.Limits.{most_passes}
 use Rattle.ftl_model.specs.layout.AttributeGrammar.{AttributeGrammar}
-use Rattle.ftl_model.specs.layout.Tree.{Forest}
 use Rattle.ftl_cursors.specs.stages.StageRows.{AreStageRows}
+use Rattle.ftl_cursors.specs.declared.items.columns.ItemRows.{ItemRows}
 use Rattle.ftl_cursors.specs.declared.stages.rows.StageRows.{StageRows}
 use Rattle.ftl_schedule.specs.declared.stages.types.Stage.{Stage}
 
@@ -13,9 +13,9 @@ abbrev pub HaveFewPasses : List Stage → Type 0
 HaveFewPasses stages = All (λ (stage : Stage). length stage.passes ≤ most_passes) stages
 
 -- these are the rows of a stage
-abbrev pub AreRowsOf : AttributeGrammar → Forest → (grain : ℕ) → Stage → StageRows → Type 0
-AreRowsOf g t grain stage rows = AreStageRows g t grain stage.passes rows
+abbrev pub AreRowsOf : AttributeGrammar → ItemRows → Stage → StageRows → Type 0
+AreRowsOf g items stage rows = AreStageRows g items stage.passes rows
 
 -- each stage has its rows
-abbrev pub HaveRows : AttributeGrammar → Forest → (grain : ℕ) → List Stage → List StageRows → Type 0
-HaveRows g t grain stages rows = AllZip (AreRowsOf g t grain) stages rows
+abbrev pub HaveRows : AttributeGrammar → ItemRows → List Stage → List StageRows → Type 0
+HaveRows g items stages rows = AllZip (AreRowsOf g items) stages rows

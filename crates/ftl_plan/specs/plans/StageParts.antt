@@ -5,6 +5,7 @@ use Rattle.ftl_deps.specs.reads.Meant.{meant}
 use Rattle.ftl_meaning.specs.faults.Checked.{CheckedGrammar}
 use Rattle.ftl_limits.specs.reads.ReadTables.{AreTables, IsSound}
 use Rattle.ftl_cursors.specs.item_cursor.ItemSteps.{AreItemTables, forest_in, grammar_in}
+use Rattle.ftl_cursors.specs.items.RowsCut.{HasNoHost}
 use Rattle.ftl_cursors.specs.items.StageItems.{passes_in}
 use Rattle.ftl_items.specs.stage_items.Items.{passes_of}
 use Rattle.ftl_items.specs.stage_items.StageWork.{step_at, steps_in}
@@ -47,6 +48,7 @@ pub record IsStage (w : StageParts) : Type 0 where
   pub code : IsCodeFor w.item_tables.items.rows.now.tree.now.checked w.programs.now
   pub passes : passes_of (schedule_of w) w.stage ≡ passes_in w.item_tables.items
   pub items : AreItemTables w.item_tables
+  pub no_host : HasNoHost w.item_tables.items.rows.now
   pub copies : AreCopies w.item_tables.items.rows.now.tree.now.checked w.copies.now
   pub neighbours : AreNeighbourParts w.item_tables.items.rows.now.tree.now.checked w.neighbours.now
 

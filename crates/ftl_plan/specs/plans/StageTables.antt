@@ -2,6 +2,7 @@
 use Rattle.std.specs.Prelude.{◌≡◌, ℕ}
 use Rattle.ftl_cursors.specs.item_cursor.ItemSteps.{AreItemTables, forest_in}
 use Rattle.ftl_cursors.specs.declared.item_cursor.item.ItemTables.{ItemTables}
+use Rattle.ftl_cursors.specs.items.RowsCut.{HasNoHost}
 use Rattle.ftl_cursors.specs.items.StageItems.{passes_in}
 use Rattle.ftl_items.specs.stage_items.Items.{passes_of}
 use Rattle.ftl_plan.specs.plans.StageParts.{StageView}
@@ -25,5 +26,6 @@ pub record AreTablesOf (p : PlanMeaning) (stage : ℕ) (x : ItemTables) : Type 0
   pub checked : x.items.rows.now.tree.now.checked ≡ p.checked
   pub tree : forest_in x ≡ p.tree
   pub grain : x.items.rows.now.grain ≡ p.grain
+  pub no_host : HasNoHost x.items.rows.now
   pub passes : passes_of (stages_of p.schedule) stage ≡ passes_in x.items
   pub tables : AreItemTables x

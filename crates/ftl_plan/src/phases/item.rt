@@ -29,7 +29,7 @@ pub(crate) fn phase_of(rows: &ItemRows<'_>, kind: PassKind, node: u32, size: u32
     }
 }
 
-/// The phase of a small tree by its cells, or that of a node alone.
+/// The phase of a tree that is one item by its cells, or that of a node alone.
 fn tree_phase(rows: &ItemRows<'_>, node: u32, size: u32, alone: Phase) -> Phase
     requires node { node < node_total (tree_in rows.now) }
     requires some { 0 < size }
@@ -37,7 +37,7 @@ fn tree_phase(rows: &ItemRows<'_>, node: u32, size: u32, alone: Phase) -> Phase
     ensures phase { result ≡ tree_phase (grammar_in rows.now) (is_whole_in rows.now) (tree_in rows.now)
         size alone (node_at (tree_in rows.now) node) }
 {
-    if rows.tree.subtree_size(node) <= rows.grain {
+    if rows.is_whole(node) {
         range_phase(rows.tree, node, size)
     } else {
         alone

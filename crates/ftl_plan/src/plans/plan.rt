@@ -89,10 +89,11 @@ impl<'a> Plan<'a> {
     {
         is_sound(checked);
         let tables = ReadTables::new(alloc, checked)?;
-        if let Some(fault) = first_fault(alloc, &tables, accepted, tree)? {
+        let _limits = accepted.schedule();
+        if let Some(fault) = first_fault(alloc, &tables, accepted.placed(), tree)? {
             return Err(fault);
         }
-        let items = ItemRows::new(alloc, tree, grain)?;
+        let items = ItemRows::new(alloc, tree, grain, None)?;
         let targets = rule_targets(alloc, checked)?;
         let copies = rule_copies(alloc, programs, &tables, checked)?;
         let neighbours = neighbour_parts(alloc, &tables, checked)?;

@@ -1,7 +1,6 @@
 //! What a plan keeps for its stages.
 ghost use Rattle.std.specs.Prelude.{IfOk};
 ghost use Rattle.ftl_deps.specs.reads.Meant.{meant};
-ghost use Rattle.ftl_cursors.specs.items.StageItems.{tree_in};
 ghost use Rattle.ftl_plan.specs.plans.PlannedStages.{HaveFewPasses, HaveRows};
 
 use ftl_checked::Checked;
@@ -18,8 +17,8 @@ pub(crate) fn rows_of_stages(
     stages: &[Stage],
 ) -> Result<Vec<StageRows>, AllocError>
     requires few { HaveFewPasses stages.now }
-    ensures rows { IfOk result (λ v. HaveRows (meant checked.now) (tree_in items.now)
-        items.now.grain stages.now v.items) }
+    ensures rows { IfOk result (λ v. HaveRows (meant checked.now) items.now stages.now
+        v.items) }
 {
     let index = RuleIndex::new(alloc, checked)?;
     let mut rows = Vec::with_capacity(alloc, stages.len())?;

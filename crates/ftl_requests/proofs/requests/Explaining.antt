@@ -1,22 +1,23 @@
 -- How a page is answered whose schedule is explained.
 use Rattle.std.proofs.Common.{◌≡◌, ◌≢◌, ◌≤◌, ap, inl, inr, refl, subst, sym, ℕ, List, Option, Some, None, Result, Ok, Err, IfOk}
 use Rattle.ftl_deps.specs.reads.Meant.{meant}
-use Rattle.ftl_example.specs.examples.Numbered.{IsFaultPair, IsNumberedExample}
 use Rattle.ftl_example.specs.shows.Examples.{AllAreLarger, NoneShows}
 use Rattle.ftl_meaning.specs.faults.Checked.{CheckedGrammar}
 use Rattle.ftl_model.specs.layout.Tree.{Forest, size}
 use Rattle.ftl_order.specs.declared.faults.fault.VerifyFault.{VerifyFault}
 use Rattle.ftl_order.specs.declared.faults.fault.VerifyFault.TheVariants as verify
-use Rattle.ftl_order.specs.faults.FirstFault.{first_fault}
 use Rattle.ftl_order.specs.orders.Pairs.{Pair}
-use Rattle.ftl_order.specs.orders.Schedule as orders
-use Rattle.ftl_schedule.proofs.reading.AnswerLemmas.{one_schedule}
+use Rattle.ftl_nest_check.specs.check.NestFault.{first_nest_fault}
+use Rattle.ftl_nest_check.specs.declared.stages.types.NestingSchedule.{NestingSchedule}
+use Rattle.ftl_nest_check.specs.places.NestPlaced.{verdict_on}
+use Rattle.ftl_nest_check.specs.stages.Nested.{nests_of}
+use Rattle.ftl_nest_example.specs.examples.NestExamples.{IsNumberedNestExample}
+use Rattle.ftl_nest_example.specs.pairs.NestPair.{IsNestFaultPair}
+use Rattle.ftl_nest_text.proofs.reading.NestAnswerLemmas.{one_schedule}
+use Rattle.ftl_nest_text.specs.reading.NestReading.{NestAnswers}
+use Rattle.ftl_nests.specs.Nests as nests
 use Rattle.ftl_schedule.specs.declared.names.fault.ScheduleFault.{ScheduleFault}
 use Rattle.ftl_schedule.specs.declared.names.fault.ScheduleFault.TheVariants as schedules
-use Rattle.ftl_schedule.specs.reading.Read.{Answers}
-use Rattle.ftl_schedule.specs.declared.stages.types.Schedule.{Schedule}
-use Rattle.ftl_schedule.specs.places.Placed.{verdict}
-use Rattle.ftl_schedule.specs.stages.Stages.{stages_of}
 use Rattle.ftl_tokens.specs.scanner.Tokenized.{Tokenized}
 use Rattle.ftl_answer.specs.answers.Answer.{Answer, answer, refused}
 use Rattle.ftl_answer.specs.answers.Answers.{accepted_answer, explained_by, explained_schedule, fault_refused}
@@ -46,7 +47,7 @@ ended X a = ends a
 -- ---- ends
 
 -- where the first of two stages hands on a schedule that is accepted
-pub accepted_ends : (first : Stage Schedule) (s : Schedule) (d : Decided) → first (hands_on s)
+pub accepted_ends : (first : Stage NestingSchedule) (s : NestingSchedule) (d : Decided) → first (hands_on s)
     → answer_of d ≡ accepted_answer → Then {Y = ⊥} first (λ s. Is (ends accepted_answer)) (ends (answer_of d))
 accepted_ends first s d found is = inr (s, found, ap (ended ⊥) is)
 
@@ -60,7 +61,7 @@ refused_first first second memory tell fault OutOfMemory is may = tt
 
 -- a schedule that was not read is refused
 pub unread_ends : (c : CheckedGrammar) (scanned : Tokenized) (fault : ScheduleFault) (u : Undecided)
-    → Answers c.grammar scanned (Err fault) → IsRefusalOf schedules.OutOfMemory (λ f. refused 6 (schedule_line f)) fault u
+    → NestAnswers c scanned (Err fault) → IsRefusalOf schedules.OutOfMemory (λ f. refused 6 (schedule_line f)) fault u
     → EndsIn (spelled_explained c scanned) (Err u)
 unread_ends c scanned fault u answers is =
     refused_first (spelled_schedule c scanned) (explained_schedule c) schedules.OutOfMemory
@@ -69,19 +70,21 @@ unread_ends c scanned fault u answers is =
 -- ---- first faults
 
 -- what a schedule without a fault comes to
-pub accepted_by : (c : CheckedGrammar) (s t : Schedule) (o : Option VerifyFault) (d : Decided) → verdict o s ≡ Ok t
-    → answer_of d ≡ accepted_answer → explained_by c s o (ends (answer_of d))
+pub accepted_by : (c : CheckedGrammar) (s t : NestingSchedule) (o : Option VerifyFault) (d : Decided)
+    → verdict_on o s ≡ Ok t → answer_of d ≡ accepted_answer → explained_by c s o (ends (answer_of d))
 accepted_by c s t None d e is = ap (ended ⊥) is
 accepted_by c s t (Some fault) d e is = absurd cc
 
 -- so is one that was spelled and verified
-pub accepted_schedule : (c : CheckedGrammar) (scanned : Tokenized) (s t : Schedule) (d : Decided)
-    → spelled_schedule c scanned (hands_on s) → verdict (first_fault (meant c) (stages_of s)) s ≡ Ok t
+pub accepted_schedule : (c : CheckedGrammar) (scanned : Tokenized) (s t : NestingSchedule) (d : Decided)
+    → spelled_schedule c scanned (hands_on s) → verdict_on (first_nest_fault (meant c) (nests_of s)) s ≡ Ok t
     → answer_of d ≡ accepted_answer → spelled_explained c scanned (ends (answer_of d))
-accepted_schedule c scanned s t d p e is = inr (s, p, accepted_by c s t (first_fault (meant c) (stages_of s)) d e is)
+accepted_schedule c scanned s t d p e is =
+    inr (s, p, accepted_by c s t (first_nest_fault (meant c) (nests_of s)) d e is)
 
 -- the fault that was told is the first
-pub fault_is : (o : Option VerifyFault) (s : Schedule) (fault : VerifyFault) → verdict o s ≡ Err fault → o ≡ Some fault
+pub fault_is : (o : Option VerifyFault) (s : NestingSchedule) (fault : VerifyFault) → verdict_on o s ≡ Err fault
+    → o ≡ Some fault
 fault_is None s fault e = absurd cc
 fault_is (Some other) s fault e = cc
 
@@ -90,7 +93,7 @@ abbrev pub IsNoPair : VerifyFault → Type 0
 IsNoPair fault = (reader writer : ℕ) → fault ≡ verify.Unordered reader writer → ⊥
 
 -- so it is refused
-refused_by : (c : CheckedGrammar) (s : Schedule) (fault : VerifyFault) → IsNoPair fault
+refused_by : (c : CheckedGrammar) (s : NestingSchedule) (fault : VerifyFault) → IsNoPair fault
     → explained_by c s (Some fault) (ends (fault_refused c fault))
 refused_by c s (verify.Unordered reader writer) none = absurd (none reader writer refl)
 refused_by c s (verify.Twice a) none = refl
@@ -125,12 +128,12 @@ missing_ends c scanned fault u a is spells told =
     refused_ends c scanned fault u (λ reader writer e. absurd cc) (λ e. absurd cc) spells told
 
 -- what was verified has this fault
-pub spells_fault : (c : CheckedGrammar) (scanned : Tokenized) (s : Schedule) (fault : VerifyFault)
+pub spells_fault : (c : CheckedGrammar) (scanned : Tokenized) (s : NestingSchedule) (fault : VerifyFault)
     → spelled_schedule c scanned (hands_on s)
-    → (fault ≢ verify.OutOfMemory → verdict (first_fault (meant c) (stages_of s)) s ≡ Err fault)
+    → (fault ≢ verify.OutOfMemory → verdict_on (first_nest_fault (meant c) (nests_of s)) s ≡ Err fault)
     → SpellsFault c scanned fault
 spells_fault c scanned s fault p exact =
-    (s, p, λ other. fault_is (first_fault (meant c) (stages_of s)) s fault (exact other))
+    (s, p, λ other. fault_is (first_nest_fault (meant c) (nests_of s)) s fault (exact other))
 
 -- where it is a pair
 spells_pair : (c : CheckedGrammar) (scanned : Tokenized) (reader writer : ℕ)
@@ -143,7 +146,7 @@ fault_pair c scanned fault reader writer is spells =
     spells_pair c scanned reader writer (subst (SpellsFault c scanned) is spells)
 
 -- a pair is explained
-pub pair_ends : (c : CheckedGrammar) (s : Schedule) (text : List ℕ) → HasFaultPair c s → IsExplanation c s text
+pub pair_ends : (c : CheckedGrammar) (s : NestingSchedule) (text : List ℕ) → HasFaultPair c s → IsExplanation c s text
     → explained_schedule c s (ends (answer 0 text))
 pair_ends c s text (reader, writer, e) explains =
     subst (λ f. explained_by c s f (ends (answer 0 text))) (sym e) (text, explains, refl)
@@ -151,51 +154,51 @@ pair_ends c s text (reader, writer, e) explains =
 -- ---- the schedule that is read again
 
 -- it is the same
-pub same_read : (c : CheckedGrammar) (scanned : Tokenized) (s t : Schedule) → spelled_schedule c scanned (hands_on s)
-    → spelled_schedule c scanned (hands_on t) → s ≡ t
+pub same_read : (c : CheckedGrammar) (scanned : Tokenized) (s t : NestingSchedule)
+    → spelled_schedule c scanned (hands_on s) → spelled_schedule c scanned (hands_on t) → s ≡ t
 same_read c scanned s t p q =
-    let same : Ok s ≡ Ok t = one_schedule c.grammar scanned (Ok s) (Ok t) (λ e. absurd cc) (λ e. absurd cc) p q in cc
+    let same : Ok s ≡ Ok t = one_schedule c scanned (Ok s) (Ok t) (λ e. absurd cc) (λ e. absurd cc) p q in cc
 
-pub pair_again : (c : CheckedGrammar) (scanned : Tokenized) (t : Schedule) → SpellsFaultPair c scanned
+pub pair_again : (c : CheckedGrammar) (scanned : Tokenized) (t : NestingSchedule) → SpellsFaultPair c scanned
     → spelled_schedule c scanned (hands_on t) → HasFaultPair c t
 pair_again c scanned t (s, p, pair) q = subst (HasFaultPair c) (same_read c scanned s t p q) pair
 
 -- ---- texts that explain
 
 -- no tree shows the pair
-pub none_explains : {V E : Type 0} (c : CheckedGrammar) (s : Schedule) (items : V → List ℕ) (r : Result V E)
-    → ((pair : Pair) × IsFaultPair (meant c) (stages_of s) pair × NoneShows (meant c) pair)
+pub none_explains : {V E : Type 0} (c : CheckedGrammar) (s : NestingSchedule) (items : V → List ℕ) (r : Result V E)
+    → ((pair : Pair) × IsNestFaultPair (meant c) (nests_of s) pair × NoneShows (meant c) pair)
     → IfOk r (λ v. items v ≡ no_tree_text) → IfOk r (λ v. IsExplanation c s (items v))
 none_explains c s items r (pair, is, none) told = if_ok r (λ v same. (pair, is, inl (none, same))) told
 
 -- each that does is larger than an example may be
-pub larger_explains : {V E : Type 0} (c : CheckedGrammar) (s : Schedule) (items : V → List ℕ) (r : Result V E)
-    → ((pair : Pair) × IsFaultPair (meant c) (stages_of s) pair × AllAreLarger (meant c) pair 512)
+pub larger_explains : {V E : Type 0} (c : CheckedGrammar) (s : NestingSchedule) (items : V → List ℕ) (r : Result V E)
+    → ((pair : Pair) × IsNestFaultPair (meant c) (nests_of s) pair × AllAreLarger (meant c) pair 512)
     → IfOk r (λ v. items v ≡ larger_trees_text) → IfOk r (λ v. IsExplanation c s (items v))
 larger_explains c s items r (pair, is, larger) told = if_ok r (λ v same. (pair, is, inr (inl (larger, same)))) told
 
 -- the tree with these numbers is an example of the pair of the schedule's first fault
-abbrev pub IsFaultExample : CheckedGrammar → Schedule → Forest → (reader writer : ℕ) → (order : List ℕ) → Type 0
+abbrev pub IsFaultExample : CheckedGrammar → NestingSchedule → Forest → (reader writer : ℕ) → (order : List ℕ) → Type 0
 IsFaultExample c s t reader writer order =
-    (pair : Pair) × IsFaultPair (meant c) (stages_of s) pair
-    × IsNumberedExample (meant c) (stages_of s) pair t reader writer order
+    (pair : Pair) × IsNestFaultPair (meant c) (nests_of s) pair
+    × IsNumberedNestExample (meant c) (nests_of s) pair t reader writer order
 
 -- the tree has its grammar
-pub own_example : (c : CheckedGrammar) (s : Schedule) (t : CheckedTree) (reader writer : ℕ) (order : List ℕ)
+pub own_example : (c : CheckedGrammar) (s : NestingSchedule) (t : CheckedTree) (reader writer : ℕ) (order : List ℕ)
     → t.checked ≡ c → IsFaultExample c s t.tree reader writer order
     → IsFaultExample t.checked s t.tree reader writer order
 own_example c s t reader writer order same shown =
     subst (λ k. IsFaultExample k s t.tree reader writer order) (sym same) shown
 
 -- it can be printed
-printable : (s : Schedule) (t : CheckedTree) (reader writer : ℕ) (order : List ℕ)
+printable : (s : NestingSchedule) (t : CheckedTree) (reader writer : ℕ) (order : List ℕ)
     → IsFaultExample t.checked s t.tree reader writer order
-    → (p : orders.Schedule) × (pair : Pair) × IsExampleOf p pair t reader writer order
-printable s t reader writer order (pair, is, e) = (stages_of s, pair, e)
+    → (p : nests.NestingSchedule) × (pair : Pair) × IsExampleOf p pair t reader writer order
+printable s t reader writer order (pair, is, e) = (nests_of s, pair, e)
 
-pub is_printable : (c : CheckedGrammar) (s : Schedule) (t : CheckedTree) (reader writer : ℕ) (order told : List ℕ)
-    → t.checked ≡ c → told ≡ order → IsFaultExample c s t.tree reader writer order
-    → (p : orders.Schedule) × (pair : Pair) × IsExampleOf p pair t reader writer told
+pub is_printable : (c : CheckedGrammar) (s : NestingSchedule) (t : CheckedTree) (reader writer : ℕ)
+    (order told : List ℕ) → t.checked ≡ c → told ≡ order → IsFaultExample c s t.tree reader writer order
+    → (p : nests.NestingSchedule) × (pair : Pair) × IsExampleOf p pair t reader writer told
 is_printable c s t reader writer order told same is shown =
     printable s t reader writer told
     (own_example c s t reader writer told same
@@ -205,17 +208,17 @@ is_printable c s t reader writer order told same is shown =
 abbrev pub TextOfExample : {V E : Type 0} → (V → List ℕ) → CheckedTree → (reader writer : ℕ) → (order : List ℕ)
     → Result V E → Type 0
 TextOfExample items t reader writer order r =
-    (p : orders.Schedule) (pair : Pair) → (e : IsExampleOf p pair t reader writer order)
+    (p : nests.NestingSchedule) (pair : Pair) → (e : IsExampleOf p pair t reader writer order)
     → IfOk r (λ v. items v ≡ example_text t.checked.grammar t.tree e.reading e.written e.steps)
 
-own_explains : {V E : Type 0} (s : Schedule) (items : V → List ℕ) (t : CheckedTree) (reader writer : ℕ) (order : List ℕ)
-    (r : Result V E) → size t.tree ≤ 512 → IsFaultExample t.checked s t.tree reader writer order
+own_explains : {V E : Type 0} (s : NestingSchedule) (items : V → List ℕ) (t : CheckedTree) (reader writer : ℕ)
+    (order : List ℕ) (r : Result V E) → size t.tree ≤ 512 → IsFaultExample t.checked s t.tree reader writer order
     → TextOfExample items t reader writer order r → IfOk r (λ v. IsExplanation t.checked s (items v))
 own_explains s items t reader writer order r few (pair, is, e) text =
-    if_ok r (λ v same. (pair, is, inr (inr (t.tree, reader, writer, order, e, few, same)))) (text (stages_of s) pair e)
+    if_ok r (λ v same. (pair, is, inr (inr (t.tree, reader, writer, order, e, few, same)))) (text (nests_of s) pair e)
 
 -- it explains the pair
-pub example_explains : {V E : Type 0} (c : CheckedGrammar) (s : Schedule) (items : V → List ℕ) (t : CheckedTree)
+pub example_explains : {V E : Type 0} (c : CheckedGrammar) (s : NestingSchedule) (items : V → List ℕ) (t : CheckedTree)
     (reader writer : ℕ) (order told : List ℕ) (r : Result V E) → t.checked ≡ c → told ≡ order → size t.tree ≤ 512
     → IsFaultExample c s t.tree reader writer order → TextOfExample items t reader writer told r
     → IfOk r (λ v. IsExplanation c s (items v))

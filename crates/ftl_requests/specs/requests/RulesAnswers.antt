@@ -2,9 +2,9 @@
 use Rattle.std.specs.Prelude.{◌≡◌, ℕ, List, codes, Result, Ok, Err, IsErr}
 use Rattle.ftl_meaning.specs.faults.Checked.{CheckedGrammar}
 use Rattle.ftl_page.specs.declared.sections.page.Page.{Page}
-use Rattle.ftl_schedule.specs.declared.stages.types.Schedule.{Schedule}
-use Rattle.ftl_schedule.specs.text.ScheduleText.{schedule_text}
-use Rattle.ftl_schedule.specs.printing.WrittenOf.{written_of}
+use Rattle.ftl_nest_check.specs.declared.stages.types.NestingSchedule.{NestingSchedule}
+use Rattle.ftl_nest_text.specs.text.NestText.{nesting_schedule_text}
+use Rattle.ftl_nest_text.specs.printing.NestWritten.{nest_written_of}
 use Rattle.ftl_answer.specs.answers.Answer.{answer}
 use Rattle.ftl_answer.specs.answers.Stages.{Is, Stage, Then, ends}
 use Rattle.ftl_answer.specs.answers.Texts.{grammar, schedule}
@@ -28,12 +28,12 @@ IsEndOf (Err (Refused d)) result = result ≡ Ok d
 IsEndOf (Err OutOfMemory) result = IsErr result
 
 -- the text that answers what is asked of a grammar and a schedule
-abbrev pub output_text : RulesOutput → CheckedGrammar → Schedule → List ℕ
+abbrev pub output_text : RulesOutput → CheckedGrammar → NestingSchedule → List ℕ
 output_text output.Verdict c s = codes "accepted\n"
-output_text output.Text c s = schedule_text (written_of c.grammar s)
+output_text output.Text c s = nesting_schedule_text (nest_written_of c.grammar s)
 
 -- the stage that ends with it
-abbrev pub rules_answer : RulesOutput → CheckedGrammar → Schedule → Stage ⊥
+abbrev pub rules_answer : RulesOutput → CheckedGrammar → NestingSchedule → Stage ⊥
 rules_answer what c s = Is (ends (answer 0 (output_text what c s)))
 
 -- the schedule of a grammar, and what is asked of both

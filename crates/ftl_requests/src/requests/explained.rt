@@ -2,7 +2,7 @@
 //! an example, or refused for another fault.
 
 ghost use Rattle.std.specs.Prelude.{◌≡◌, ◌≤◌, length, None, Some, string_bytes, string_len, IfOk};
-ghost use Rattle.std.specs.Prelude.{IfSome};
+ghost use Rattle.std.specs.Prelude.{IfErr, IfSome};
 ghost use Rattle.ftl_model.specs.layout.Limits.{most_page_bytes};
 ghost use Rattle.ftl_answer.specs.answers.Answers.{accepted_answer, explained, explained_page};
 ghost use Rattle.ftl_answer.specs.answers.Answers.{explained_schedule, rules_alone};
@@ -10,10 +10,10 @@ ghost use Rattle.ftl_answer.specs.answers.Stages.{Then, ends, hands_on};
 ghost use Rattle.ftl_answer.specs.answers.Texts.{page, spelled_schedule};
 ghost use Rattle.ftl_deps.specs.reads.DepRows.{dep_rows};
 ghost use Rattle.ftl_deps.specs.reads.Meant.{meant};
-ghost use Rattle.ftl_order.specs.faults.FaultLaws.{AreComputed};
+ghost use Rattle.ftl_nest_check.specs.check.NestAccepted.{MayBeVerified};
+ghost use Rattle.ftl_nest_check.specs.stages.Nested.{nests_of};
+ghost use Rattle.ftl_order.specs.declared.faults.fault.VerifyFault.TheVariants.{OutOfMemory};
 ghost use Rattle.ftl_page.specs.sections.Texts.{HasTextsUpTo};
-ghost use Rattle.ftl_schedule.specs.stages.PassLimits.{IsWithinPassLimits};
-ghost use Rattle.ftl_schedule.specs.stages.Stages.{stages_of};
 ghost use Rattle.ftl_requests.specs.sections.Outcomes.{answer_of};
 ghost use Rattle.ftl_requests.specs.requests.Explained.{HasFaultPair, SpellsFault};
 ghost use Rattle.ftl_requests.specs.requests.Explained.{SpellsFaultPair, rules_explained};
@@ -29,8 +29,10 @@ use crate::sections::{
 };
 use ftl_checked::Checked;
 use ftl_deps::{DepTable, dep_table};
+use ftl_nest_check::{NestingSchedule, PlacedNests, verify_nests};
+use ftl_nest_text::read_schedule;
 use ftl_page::{Page, Section, Text};
-use ftl_schedule::{Schedule, VerifyFault, read_schedule, verify};
+use ftl_schedule::{VerifyFault, attribute_count};
 use ftl_tokens::Scanned;
 use std::alloc::{AllocError, Global};
 
@@ -120,16 +122,15 @@ fn verified_or_explained(
     alloc: Global,
     checked: &Checked,
     scanned: &Scanned,
-    schedule: Schedule,
+    schedule: NestingSchedule,
 ) -> Result<Decided, Undecided>
     requires short { length scanned.now.text ≤ most_page_bytes }
     requires spelled { spelled_schedule checked.now scanned.now (hands_on schedule) }
-    requires computed { AreComputed (meant checked.now) (stages_of schedule) }
-    requires limits { IsWithinPassLimits (stages_of schedule) }
+    requires may { MayBeVerified (meant checked.now) (nests_of schedule) }
     ensures outcome { EndsIn (spelled_explained checked.now scanned.now) result }
 {
     let deps = dep_table(alloc, checked)?;
-    match verify(alloc, checked, &deps, schedule) {
+    match verify_nests(alloc, checked, &deps, schedule) {
         Ok(_) => Ok(accepted(alloc)?),
         Err(fault) => fault_explained(alloc, checked, &deps, scanned, fault),
     }
@@ -170,7 +171,7 @@ fn explained_again(
     ensures outcome { EndsIn (spelled_explained checked.now scanned.now) result }
 {
     match read_schedule(alloc, checked, scanned) {
-        Ok(schedule) => pair_explained(alloc, checked, deps, &schedule),
+        Ok(schedule) => pair_explained(alloc, checked, deps, schedule),
         Err(fault) => Err(schedule_refused(alloc, &fault)),
     }
 }
@@ -179,17 +180,48 @@ fn pair_explained(
     alloc: Global,
     checked: &Checked,
     deps: &DepTable,
-    schedule: &Schedule,
+    schedule: NestingSchedule,
 ) -> Result<Decided, Undecided>
     requires table { deps.now ≡ dep_rows (meant checked.now) }
-    requires computed { AreComputed (meant checked.now) (stages_of schedule.now) }
-    requires limits { IsWithinPassLimits (stages_of schedule.now) }
-    requires pair { HasFaultPair checked.now schedule.now }
-    ensures outcome { EndsIn (explained_schedule checked.now schedule.now) result }
+    requires may { MayBeVerified (meant checked.now) (nests_of schedule) }
+    requires pair { HasFaultPair checked.now schedule }
+    ensures outcome { EndsIn (explained_schedule checked.now schedule) result }
+{
+    match placed_pair(alloc, checked, schedule) {
+        Ok(placed) => placed_explained(alloc, checked, deps, &placed),
+        Err(_) => Err(Undecided::OutOfMemory),
+    }
+}
+
+/// The schedule with the places of its attributes. Its first fault is a pair, so that no attribute
+/// has two entries, and memory alone can be lacking.
+fn placed_pair(
+    alloc: Global,
+    checked: &Checked,
+    schedule: NestingSchedule,
+) -> Result<PlacedNests, VerifyFault>
+    requires may { MayBeVerified (meant checked.now) (nests_of schedule) }
+    requires pair { HasFaultPair checked.now schedule }
+    ensures schedule { IfOk result (λ p. p ≡ schedule) }
+    ensures memory { IfErr result (λ e. e ≡ OutOfMemory) }
+{
+    PlacedNests::new(alloc, attribute_count(checked), schedule)
+}
+
+fn placed_explained(
+    alloc: Global,
+    checked: &Checked,
+    deps: &DepTable,
+    placed: &PlacedNests,
+) -> Result<Decided, Undecided>
+    requires table { deps.now ≡ dep_rows (meant checked.now) }
+    requires may { MayBeVerified (meant checked.now) (nests_of placed.now) }
+    requires pair { HasFaultPair checked.now placed.now }
+    ensures outcome { EndsIn (explained_schedule checked.now placed.now) result }
 {
     Ok(Decided {
         status: Status::DONE,
-        text: explanation(alloc, checked, deps, schedule)?,
+        text: explanation(alloc, checked, deps, placed)?,
     })
 }
 

@@ -4,17 +4,16 @@ ghost use Rattle.std.specs.Prelude.{◌≡◌, IfOk};
 ghost use Rattle.ftl_answer.specs.answers.Explanations.{IsExplanation};
 ghost use Rattle.ftl_deps.specs.reads.DepRows.{dep_rows};
 ghost use Rattle.ftl_deps.specs.reads.Meant.{meant};
-ghost use Rattle.ftl_order.specs.faults.FaultLaws.{AreComputed};
-ghost use Rattle.ftl_schedule.specs.stages.PassLimits.{IsWithinPassLimits};
-ghost use Rattle.ftl_schedule.specs.stages.Stages.{stages_of};
+ghost use Rattle.ftl_nest_check.specs.check.NestAccepted.{MayBeVerified};
+ghost use Rattle.ftl_nest_check.specs.stages.Nested.{nests_of};
 ghost use Rattle.ftl_requests.specs.requests.Explained.{HasFaultPair};
 
 use ftl_answer::print_example;
 use ftl_checked::Checked;
 use ftl_deps::DepTable;
-use ftl_example::examples::example;
 use ftl_example::trees::ExampleFault;
-use ftl_schedule::Schedule;
+use ftl_nest_check::PlacedNests;
+use ftl_nest_example::examples::nest_example;
 use std::alloc::{AllocError, Global};
 
 /// The text of an example; or that no tree shows the pair, or that those that do are too large.
@@ -22,15 +21,14 @@ pub(crate) fn explanation(
     alloc: Global,
     checked: &Checked,
     deps: &DepTable,
-    schedule: &Schedule,
+    placed: &PlacedNests,
 ) -> Result<Vec<u8>, AllocError>
     requires table { deps.now ≡ dep_rows (meant checked.now) }
-    requires computed { AreComputed (meant checked.now) (stages_of schedule.now) }
-    requires limits { IsWithinPassLimits (stages_of schedule.now) }
-    requires pair { HasFaultPair checked.now schedule.now }
-    ensures text { IfOk result (λ v. IsExplanation checked.now schedule.now v.items) }
+    requires may { MayBeVerified (meant checked.now) (nests_of placed.now) }
+    requires pair { HasFaultPair checked.now placed.now }
+    ensures text { IfOk result (λ v. IsExplanation checked.now placed.now v.items) }
 {
-    match example(alloc, checked, deps, schedule) {
+    match nest_example(alloc, checked, deps, placed) {
         Ok(found) => print_example(
             alloc,
             &found.tree,

@@ -6,7 +6,7 @@ ghost use Rattle.ftl_answer.specs.answers.Answers.{rules_alone};
 ghost use Rattle.ftl_answer.specs.answers.Stages.{Then, ends};
 ghost use Rattle.ftl_answer.specs.answers.Texts.{page, schedule};
 ghost use Rattle.ftl_page.specs.sections.Texts.{HasTextsUpTo};
-ghost use Rattle.ftl_schedule.specs.printing.WrittenOf.{AreStagesKnown};
+ghost use Rattle.ftl_nest_check.specs.stages.Known.{AreNestingStagesKnown};
 ghost use Rattle.ftl_requests.specs.sections.Outcomes.{answer_of};
 ghost use Rattle.ftl_requests.specs.requests.RulesAnswers.{EndsIn, output_text, rules_answer};
 ghost use Rattle.ftl_requests.specs.requests.RulesAnswers.{answer_of_page};
@@ -14,8 +14,9 @@ ghost use Rattle.ftl_requests.specs.requests.RulesAnswers.{answer_of_page};
 use crate::requests::ending::ended;
 use crate::sections::{Decided, Status, Undecided, grammar_of, read_page, schedule_of};
 use ftl_checked::Checked;
+use ftl_nest_check::NestingSchedule;
+use ftl_nest_text::print_schedule;
 use ftl_page::{Need, Page, Text};
-use ftl_schedule::{Schedule, print_schedule};
 use std::alloc::{AllocError, Global};
 
 /// What is asked of a grammar and a schedule.
@@ -92,9 +93,9 @@ fn answer_of_rules(
     alloc: Global,
     output: RulesOutput,
     checked: &Checked,
-    schedule: &Schedule,
+    schedule: &NestingSchedule,
 ) -> Result<Decided, Undecided>
-    requires known { AreStagesKnown checked.now.grammar schedule.now.stages }
+    requires known { AreNestingStagesKnown checked.now.grammar schedule.now.stages }
     ensures outcome { EndsIn (rules_answer output checked.now schedule.now) result }
 {
     Ok(Decided {
@@ -107,9 +108,9 @@ fn output_text(
     alloc: Global,
     output: RulesOutput,
     checked: &Checked,
-    schedule: &Schedule,
+    schedule: &NestingSchedule,
 ) -> Result<Vec<u8>, AllocError>
-    requires known { AreStagesKnown checked.now.grammar schedule.now.stages }
+    requires known { AreNestingStagesKnown checked.now.grammar schedule.now.stages }
     ensures text { IfOk result (λ v. v.items ≡ output_text output checked.now schedule.now) }
 {
     match output {

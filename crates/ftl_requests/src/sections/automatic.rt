@@ -11,7 +11,8 @@ use crate::sections::status::Status;
 use ftl_answer::write_stuck;
 use ftl_checked::Checked;
 use ftl_deps::dep_table;
-use ftl_schedule::Accepted;
+use ftl_nest_check::AcceptedNests;
+use ftl_nest_check::check::accepted_plain;
 use ftl_scheduler::{FindFault, find_schedule};
 use std::alloc::Global;
 
@@ -19,13 +20,13 @@ use std::alloc::Global;
 pub(crate) fn automatic_schedule<'a>(
     alloc: Global,
     checked: &'a Checked,
-) -> Result<Accepted<'a>, Undecided>
+) -> Result<AcceptedNests<'a>, Undecided>
     ensures outcome { IsOutcome (automatic_schedule checked.now) (λ s. s.schedule) result }
     ensures grammar { IfOk result (λ s. s.checked ≡ checked.now) }
 {
     let deps = dep_table(alloc, checked)?;
     match find_schedule(alloc, checked, &deps) {
-        Ok(accepted) => Ok(accepted),
+        Ok(accepted) => Ok(accepted_plain(alloc, checked, &accepted)?),
         Err(FindFault::Stuck { attrs }) => Err(stuck(alloc, checked, attrs.as_slice())),
         Err(FindFault::OutOfMemory) => Err(Undecided::OutOfMemory),
     }

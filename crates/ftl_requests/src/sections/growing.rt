@@ -12,7 +12,8 @@ ghost use Rattle.ftl_deps.specs.reads.Meant.{meant};
 ghost use Rattle.ftl_document.specs.declared.faults.fault.DocFault.TheVariants as faults;
 ghost use Rattle.ftl_limits.specs.faults.PlanFaults.{first_fault};
 ghost use Rattle.ftl_answer.specs.refusals.DocumentLines.{document_line};
-ghost use Rattle.ftl_schedule.specs.stages.Stages.{stages_of};
+ghost use Rattle.ftl_nest_check.specs.check.WithoutNests.{without_nests};
+ghost use Rattle.ftl_nest_check.specs.stages.Nested.{nests_of};
 
 use crate::sections::decision::{Undecided, refused};
 use crate::sections::limits::within_limits;
@@ -21,27 +22,28 @@ use crate::sections::status::Status;
 use ftl_answer::write_document_fault;
 use ftl_checked::Checked;
 use ftl_document::{DocFault, read_document};
+use ftl_nest_check::AcceptedNests;
 use ftl_page::Section;
-use ftl_schedule::Accepted;
 use ftl_tokens::WideScanned;
 use ftl_tree::Tree;
 use std::alloc::Global;
 
-/// The tree that the text spells, where no stage of the schedule reads too much.
+/// The tree that the text spells, where no outer stage of the schedule reads too much.
 #[inline(never)]
 pub fn tree_of<'a>(
     alloc: Global,
     checked: &'a Checked,
-    accepted: &Accepted<'_>,
+    accepted: &AcceptedNests<'_>,
     text: String,
 ) -> Result<Tree<'a>, Undecided>
+    requires accepted { accepted.now.checked ≡ checked.now }
     requires short { string_len text ≤ most_page_bytes }
     ensures outcome { IsOutcome (tree checked.now accepted.now.schedule (string_bytes text))
         (λ t. t.tree) result }
     ensures grammar { IfOk result (λ t. t.checked ≡ checked.now) }
     // what a plan of it asks for
     ensures fits { IfOk result (λ t. first_fault (meant checked.now)
-        (stages_of accepted.now.schedule) t.tree ≡ None) }
+        (without_nests (nests_of accepted.now.schedule)) t.tree ≡ None) }
 {
     match grown_tree_of(alloc, checked, text) {
         Ok(tree) => within_limits(alloc, checked, accepted, tree),

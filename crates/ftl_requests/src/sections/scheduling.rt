@@ -9,8 +9,8 @@ use crate::sections::automatic::automatic_schedule;
 use crate::sections::decision::Undecided;
 use crate::sections::written::written_schedule;
 use ftl_checked::Checked;
+use ftl_nest_check::AcceptedNests;
 use ftl_page::Text;
-use ftl_schedule::Accepted;
 use std::alloc::Global;
 
 /// The schedule that the text spells, or the automatic one where there is none.
@@ -19,7 +19,7 @@ pub fn schedule_of<'a>(
     alloc: Global,
     checked: &'a Checked,
     text: Option<Text>,
-) -> Result<Accepted<'a>, Undecided>
+) -> Result<AcceptedNests<'a>, Undecided>
     requires short { IfSome text (λ t. length t ≤ most_page_bytes) }
     ensures outcome { IsOutcome (schedule checked.now text) (λ s. s.schedule) result }
     ensures grammar { IfOk result (λ s. s.checked ≡ checked.now) }

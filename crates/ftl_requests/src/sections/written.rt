@@ -8,13 +8,12 @@ ghost use Rattle.ftl_answer.specs.answers.Stages.{Then};
 ghost use Rattle.ftl_answer.specs.answers.Texts.{ordered_schedule, spelled_schedule};
 ghost use Rattle.ftl_answer.specs.answers.Texts as texts;
 ghost use Rattle.ftl_requests.specs.sections.Outcomes.{Ends, IsOutcome};
-ghost use Rattle.ftl_schedule.specs.stages.PassLimits.{IsWithinPassLimits};
 ghost use Rattle.ftl_requests.specs.sections.RefusalOf.{IsRefusalOf};
 ghost use Rattle.ftl_deps.specs.reads.Meant.{meant};
 ghost use Rattle.ftl_answer.specs.refusals.ScheduleLines.{schedule_line, verify_line};
-ghost use Rattle.ftl_order.specs.faults.FaultLaws.{AreComputed};
+ghost use Rattle.ftl_nest_check.specs.check.NestAccepted.{MayBeVerified};
+ghost use Rattle.ftl_nest_check.specs.stages.Nested.{nests_of};
 ghost use Rattle.ftl_schedule.specs.declared.names.fault.ScheduleFault.TheVariants as faults;
-ghost use Rattle.ftl_schedule.specs.stages.Stages.{stages_of};
 
 use crate::sections::decision::{Undecided, refused};
 use crate::sections::read::section_tokens;
@@ -22,8 +21,10 @@ use crate::sections::status::Status;
 use ftl_answer::{write_schedule_fault, write_verify_fault};
 use ftl_checked::Checked;
 use ftl_deps::dep_table;
+use ftl_nest_check::{AcceptedNests, NestingSchedule, verify_nests};
+use ftl_nest_text::read_schedule;
 use ftl_page::Section;
-use ftl_schedule::{Accepted, Schedule, ScheduleFault, VerifyFault, read_schedule, verify};
+use ftl_schedule::{ScheduleFault, VerifyFault};
 use ftl_tokens::Scanned;
 use std::alloc::Global;
 
@@ -32,7 +33,7 @@ pub(crate) fn written_schedule<'a>(
     alloc: Global,
     checked: &'a Checked,
     text: String,
-) -> Result<Accepted<'a>, Undecided>
+) -> Result<AcceptedNests<'a>, Undecided>
     requires short { string_len text ≤ most_page_bytes }
     ensures outcome { IsOutcome (texts.schedule checked.now (Some (string_bytes text)))
         (λ s. s.schedule) result }
@@ -50,7 +51,7 @@ fn schedule_of_tokens<'a>(
     alloc: Global,
     checked: &'a Checked,
     scanned: &Scanned,
-) -> Result<Accepted<'a>, Undecided>
+) -> Result<AcceptedNests<'a>, Undecided>
     requires short { length scanned.now.text ≤ most_page_bytes }
     ensures outcome { IsOutcome (Then (spelled_schedule checked.now scanned.now)
         (ordered_schedule checked.now)) (λ s. s.schedule) result }
@@ -67,15 +68,14 @@ fn schedule_of_tokens<'a>(
 fn verified<'a>(
     alloc: Global,
     checked: &'a Checked,
-    schedule: Schedule,
-) -> Result<Accepted<'a>, Undecided>
-    requires computed { AreComputed (meant checked.now) (stages_of schedule) }
-    requires limits { IsWithinPassLimits (stages_of schedule) }
+    schedule: NestingSchedule,
+) -> Result<AcceptedNests<'a>, Undecided>
+    requires may { MayBeVerified (meant checked.now) (nests_of schedule) }
     ensures outcome { IsOutcome (ordered_schedule checked.now schedule) (λ s. s.schedule) result }
     ensures grammar { IfOk result (λ s. s.checked ≡ checked.now) }
 {
     let deps = dep_table(alloc, checked)?;
-    match verify(alloc, checked, &deps, schedule) {
+    match verify_nests(alloc, checked, &deps, schedule) {
         Ok(accepted) => Ok(accepted),
         Err(VerifyFault::OutOfMemory) => Err(Undecided::OutOfMemory),
         Err(fault) => Err(verify_refused(alloc, checked, fault)),

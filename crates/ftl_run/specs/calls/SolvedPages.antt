@@ -5,7 +5,7 @@ use Rattle.ftl_meaning.specs.faults.Checked.{CheckedGrammar}
 use Rattle.ftl_model.specs.layout.Tree.{Forest}
 use Rattle.ftl_model.specs.layout.Values.{Value}
 use Rattle.ftl_page.specs.declared.sections.page.Need.{Need}
-use Rattle.ftl_schedule.specs.declared.stages.types.Schedule.{Schedule}
+use Rattle.ftl_nest_check.specs.declared.stages.types.NestingSchedule.{NestingSchedule}
 use Rattle.ftl_answer.specs.answers.Answers.{document_text, edited_by, shown_by, text_or_none, with_rules}
 use Rattle.ftl_answer.specs.answers.Stages.{Outcome, Stage, Then, ends}
 use Rattle.ftl_answer.specs.answers.Texts.{edits, schedule, tree}
@@ -47,7 +47,7 @@ task_stage (Show shown) c t = shown_by (text_shown shown) c t
 task_stage (Edit text) c t = Then (edits c t (text_or_none text)) (edited_by c t)
 
 -- the tree of a document, and what becomes of it
-abbrev pub document_stage : CheckedGrammar → Schedule → (document : List ℕ) → Task → Stage ⊥
+abbrev pub document_stage : CheckedGrammar → NestingSchedule → (document : List ℕ) → Task → Stage ⊥
 document_stage c s document task = Then (tree c s document) (task_stage task c)
 
 -- the schedule of a page, and the same of its document

@@ -27,6 +27,7 @@ use crate::calls::solving::{
 use crate::calls::task::Task;
 use ftl_checked::Checked;
 use ftl_edits::EditList;
+use ftl_nest_check::AcceptedNests;
 use ftl_page::Text;
 use ftl_plan::solve_alone;
 use ftl_requests::{
@@ -121,7 +122,7 @@ fn solved_document(
     task: Task,
     grain: u32,
     checked: &Checked,
-    accepted: &Accepted<'_>,
+    accepted: &AcceptedNests<'_>,
     document: String,
 ) -> Result<Decided, Undecided>
     requires accepted { accepted.now.checked ≡ checked.now }
@@ -131,7 +132,7 @@ fn solved_document(
         (string_bytes document) task) result }
 {
     match tree_of(alloc, checked, accepted, document) {
-        Ok(tree) => solved_tree(alloc, task, grain, checked, accepted, tree),
+        Ok(tree) => solved_tree(alloc, task, grain, checked, accepted.flat(), tree),
         Err(end) => Err(end),
     }
 }

@@ -29,6 +29,7 @@ use crate::solve::solve;
 use ftl_checked::Checked;
 use ftl_edge::Gate;
 use ftl_edits::EditList;
+use ftl_nest_check::AcceptedNests;
 use ftl_page::{Solving, Text};
 use ftl_requests::{
     Decided, EditedPage, Evaluation, Problem, Request, Shown, Undecided, Undone, edits_of, ended,
@@ -148,7 +149,7 @@ fn solved_document<R: Threads + Wait + Sync, G: Gate>(
     task: Task,
     how: Solving,
     checked: &Checked,
-    accepted: &Accepted<'_>,
+    accepted: &AcceptedNests<'_>,
     document: String,
     gate: &G,
 ) -> Result<Decided, Undecided>
@@ -159,7 +160,7 @@ fn solved_document<R: Threads + Wait + Sync, G: Gate>(
         (string_bytes document) task) result }
 {
     match tree_of(alloc, checked, accepted, document) {
-        Ok(tree) => solved_tree(rt, alloc, task, how, checked, accepted, tree, gate),
+        Ok(tree) => solved_tree(rt, alloc, task, how, checked, accepted.flat(), tree, gate),
         Err(end) => Err(end),
     }
 }

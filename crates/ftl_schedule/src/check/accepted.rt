@@ -67,6 +67,13 @@ impl<'a> Accepted<'a> {
         self.placed.schedule()
     }
 
+    /// The schedule with the places of its attributes.
+    pub fn placed(&self) -> &Placed
+        ensures schedule { result.now ≡ self.now.schedule }
+    {
+        &self.placed
+    }
+
     /// Where the attribute stands. An input stands in a stage past the last.
     pub fn schedule_place(&self, attr: u32) -> SchedulePlace
         ensures schedule_place { schedule_place_meant result

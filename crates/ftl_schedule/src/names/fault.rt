@@ -11,9 +11,10 @@ use std::alloc::AllocError;
 pub enum ScheduleFault {
     /// The tokens before `at` begin some schedule; with the next one they don't, or there is none.
     Syntax { at: u32 },
-    /// There are more passes than 2048.
+    /// There are more passes than 2048, inner ones counted too.
     TooManyPasses { count: u32 },
-    /// A stage, counted from 1, has more passes than 4.
+    /// A stage has more passes than 4; stages, inner ones too, are counted from 1 in the order in
+    /// which their first passes begin.
     TooManyBeside { stage: u32, count: u32 },
     /// The names are those of no computed attribute.
     UnknownAttribute { owner: Name, attr: Name },

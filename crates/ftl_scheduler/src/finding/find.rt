@@ -1,7 +1,7 @@
 //! The automatic schedule of a checked grammar.
 
 ghost use Rattle.std.specs.Prelude.{◌≡◌, IfErr, IfOk};
-ghost use Rattle.ftl_order.specs.automatic.Automatic.{IsAutomatic, SomeScheduleIsOrdered};
+ghost use Rattle.ftl_order.specs.automatic.Automatic.{IsAutomatic};
 ghost use Rattle.ftl_order.specs.faults.FaultLaws.{AreComputed};
 ghost use Rattle.ftl_order.specs.orders.Ordered.{IsOrdered};
 ghost use Rattle.ftl_schedule.specs.stages.PassLimits.{IsWithinPassLimits};
@@ -10,7 +10,7 @@ ghost use Rattle.ftl_deps.specs.reads.DepRows.{dep_rows};
 ghost use Rattle.ftl_deps.specs.reads.Meant.{meant};
 ghost use Rattle.ftl_order.specs.declared.faults.fault.VerifyFault.TheVariants as verify;
 ghost use Rattle.ftl_scheduler.specs.outcomes.Outcomes.{IsOutcome};
-ghost use Rattle.ftl_scheduler.specs.finding.Finds.{IsStuckBy, NoneIsOrderedBy};
+ghost use Rattle.ftl_scheduler.specs.finding.Finds.{IsStuckBy, NoneIsOrderedBy, SomeIsOrdered};
 ghost use Rattle.ftl_scheduler.specs.declared.finding.fault.FindFault.TheVariants.{OutOfMemory};
 
 use crate::finding::fault::FindFault;
@@ -19,6 +19,7 @@ use crate::outcomes::{Outcome, find_outcome};
 use ftl_checked::Checked;
 use ftl_deps::DepTable;
 use ftl_meaning::faultless_grammars_are_small;
+use ftl_nests::flat_schedules;
 use ftl_order::faultless_is_ordered;
 use ftl_schedule::{Accepted, VerifyFault, attribute_count, verify};
 use std::alloc::{AllocError, Global};
@@ -36,7 +37,7 @@ pub fn find_schedule<'a>(
     ensures ordered { IfOk result (λ a. IsOrdered (meant checked.now) (stages_of a.schedule)) }
     ensures computed { IfOk result (λ a. AreComputed (meant checked.now) (stages_of a.schedule)) }
     ensures limits { IfOk result (λ a. IsWithinPassLimits (stages_of a.schedule)) }
-    ensures exists { IfOk result (λ a. SomeScheduleIsOrdered (meant checked.now)) }
+    ensures exists { IfOk result (λ a. SomeIsOrdered (meant checked.now)) }
     // where there is none
     ensures stuck { IfErr result (IsStuckBy (meant checked.now)) }
     ensures none { IfErr result (NoneIsOrderedBy (meant checked.now)) }
@@ -44,6 +45,7 @@ pub fn find_schedule<'a>(
     let _ = checked.grammar();
     faultless_is_ordered();
     faultless_grammars_are_small();
+    flat_schedules();
     let outcome = outcome_of(alloc, checked, deps)?;
     match outcome {
         Outcome::Stuck(attrs) => Err(FindFault::Stuck { attrs }),

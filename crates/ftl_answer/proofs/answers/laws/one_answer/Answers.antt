@@ -5,5 +5,5 @@ pub returns : goal.returns
 returns c = record {
   one =
       has_one_answer c.circles_are_decided.ensures.decided c.one_list_where_noncircular.ensures.one_list
-      c.examples.ensures.by_size c.first_pairs.ensures.pairs;
+      c.nest_examples_by_size.ensures.by_size c.first_nest_pairs.ensures.pairs;
 }

@@ -73,6 +73,6 @@ returns c =
             (λ n. map (target_of g t)
             (steps_of_nodes g t (visits_of g found.kind these) (nodes_in (order_of found.kind) found.node n)))
             count
-            ∙ targets_are x c.args.item found c.requires.item is c.requires.law s stage c.requires.kind passes;
+            ∙ targets_are x c.args.item found c.requires.item is c.requires.law s stage c.requires.kind;
       };
     }

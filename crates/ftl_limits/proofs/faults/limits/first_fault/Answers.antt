@@ -12,7 +12,7 @@ pub returns-in-Some : goal.returns-in-Some
 returns-in-Some c =
     let t = c.args.tree.now in
     let g = meant t.checked in
-    let s = stages_of c.args.accepted.now.schedule in
+    let s = stages_of c.args.placed.now in
     let are : AreCounts g s t.tree (instance_count g t.tree) c.as_slice.result.now =
     subst (AreCounts g s t.tree (instance_count g t.tree)) (sym c.as_slice.ensures.value)
     c.in_ok-counts.ensures.counts in
@@ -24,7 +24,7 @@ pub returns : goal.returns
 returns c =
     let t = c.args.tree.now in
     let g = meant t.checked in
-    let s = stages_of c.args.accepted.now.schedule in
+    let s = stages_of c.args.placed.now in
     let are : AreCounts g s t.tree (instance_count g t.tree) c.as_slice.result.now =
     subst (AreCounts g s t.tree (instance_count g t.tree)) (sym c.as_slice.ensures.value)
     c.in_ok-counts.ensures.counts in

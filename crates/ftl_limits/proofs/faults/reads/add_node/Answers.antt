@@ -55,8 +55,8 @@ loop-attr-preserved c =
     let next : before + place + 1 ≡ before + (place + 1) = omega arith in
     record {
       so_far =
-          subst (λ n. AreCounts g (stages_of c.args.accepted.now.schedule) t.tree n c.add_instance.new.counts) next
-          (counts_further g t.tree (stages_of c.args.accepted.now.schedule) (before + place) i c.loop-attr.counts
+          subst (λ n. AreCounts g (stages_of c.args.placed.now) t.tree n c.add_instance.new.counts) next
+          (counts_further g t.tree (stages_of c.args.placed.now) (before + place) i c.loop-attr.counts
           c.add_instance.new.counts c.loop-attr.invariant.so_far cell.below (cell.here i)
           c.add_instance.ensures.further);
       room =
@@ -78,7 +78,7 @@ returns c =
     c.requires.node row c.loop-attr-test.false c.loop-attr.auto.attr-index-end in
     record {
       so_far =
-          subst (λ n. AreCounts g (stages_of c.args.accepted.now.schedule) t.tree n c.loop-attr.counts) next
+          subst (λ n. AreCounts g (stages_of c.args.placed.now) t.tree n c.loop-attr.counts) next
           c.loop-attr.invariant.so_far;
       room = subst (λ n. HaveRoom n c.loop-attr.counts) next c.loop-attr.invariant.room;
     }

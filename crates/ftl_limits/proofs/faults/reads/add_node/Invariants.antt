@@ -6,7 +6,7 @@ use Rattle.ftl_limits.proofs.faults.reads.add_node.Given as goal
 
 abbrev pub invariant-loop-attr : goal.invariant-loop-attr
 invariant-loop-attr l = record {
-  so_far : AreCounts (meant l.tree.checked) (stages_of l.accepted.schedule) l.tree.tree
+  so_far : AreCounts (meant l.tree.checked) (stages_of l.placed) l.tree.tree
       (cells_before (meant l.tree.checked) l.tree.tree l.node + l.attr-index) l.counts;
   room : HaveRoom (cells_before (meant l.tree.checked) l.tree.tree l.node + l.attr-index) l.counts;
 }

@@ -17,6 +17,6 @@ returns c =
     let all : c.loop-node.node ≡ size t.tree = omega (arith, count, past, most) in
     record {
       counts =
-          subst (λ n. AreCounts g (stages_of c.args.accepted.now.schedule) t.tree n c.loop-node.counts.items)
+          subst (λ n. AreCounts g (stages_of c.args.placed.now) t.tree n c.loop-node.counts.items)
           (ap (cells_before g t.tree) all ∙ cells_end g c.requires.sound.law t.tree fits) c.loop-node.invariant.so_far;
     }

@@ -5,7 +5,7 @@ use Rattle.ftl_limits.proofs.faults.reads.stage_reads.Given as goal
 
 abbrev pub invariant-loop-node : goal.invariant-loop-node
 invariant-loop-node l = record {
-  so_far : AreCounts (meant l.tree.checked) (stages_of l.accepted.schedule) l.tree.tree
+  so_far : AreCounts (meant l.tree.checked) (stages_of l.placed) l.tree.tree
       (cells_before (meant l.tree.checked) l.tree.tree l.node) l.counts.items;
   room : HaveRoom (cells_before (meant l.tree.checked) l.tree.tree l.node) l.counts.items;
 }

@@ -4,7 +4,7 @@ use Rattle.ftl_deps.specs.reads.Meant.{meant}
 use Rattle.ftl_order.specs.faults.FaultLaws.{AreComputed}
 use Rattle.ftl_nests.specs.Nests.{outer_schedule}
 use Rattle.ftl_nest_check.specs.stages.Nested.{AreNestsKept, IsWithinNestLimits, nests_of}
-use Rattle.ftl_nest_text.specs.printing.NestWritten.{AreNestingStagesKnown}
+use Rattle.ftl_nest_check.specs.stages.Known.{AreNestingStagesKnown}
 use Rattle.ftl_nest_text.proofs.reading.NestCounted.{schedule_few}
 use Rattle.ftl_nest_text.proofs.reading.NestReadFrom.{if_read}
 use Rattle.ftl_nest_text.proofs.reading.NestRead.{read_computed, read_kept, read_known, read_limits}

@@ -4,6 +4,10 @@ use Rattle.ftl_requests.proofs.requests.Endings.{end_second}
 use Rattle.ftl_requests.proofs.requests.Explaining.{pair_again, unread_ends}
 use Rattle.ftl_requests.proofs.requests.explained.explained_again.Goals as goal
 
+pub pair_explained-requires-clause-may : goal.pair_explained-requires-clause-may
+pair_explained-requires-clause-may c =
+    let read = c.in-Ok.ensures in record { computed = read.computed; limits = read.limits; kept = read.kept }
+
 pub pair_explained-requires-clause-pair : goal.pair_explained-requires-clause-pair
 pair_explained-requires-clause-pair c =
     pair_again c.args.checked.now c.args.scanned.now c.in-Ok.schedule c.requires.pair c.in-Ok.ensures.answer

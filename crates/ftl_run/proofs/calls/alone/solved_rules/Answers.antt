@@ -1,7 +1,7 @@
 use Rattle.std.proofs.Common.{subst, ℕ, List}
 use Rattle.ftl_answer.specs.answers.Answers.{text_or_none}
 use Rattle.ftl_answer.specs.answers.Texts.{schedule}
-use Rattle.ftl_schedule.specs.check.AcceptedSchedule.{AcceptedSchedule}
+use Rattle.ftl_nest_check.specs.check.NestAccepted.{AcceptedNestingSchedule}
 use Rattle.ftl_requests.specs.requests.RulesAnswers.{EndsIn}
 use Rattle.ftl_requests.proofs.requests.Endings.{end_first, end_second}
 use Rattle.ftl_run.specs.calls.SolvedPages.{document_stage}
@@ -27,6 +27,6 @@ returns-in-Err c =
     record {
       outcome =
           end_first (schedule r.checked r.schedule)
-          (λ s. document_stage r.checked s (text_or_none r.document) c.args.task) (λ (a : AcceptedSchedule). a.schedule)
+          (λ s. document_stage r.checked s (text_or_none r.document) c.args.task) (λ (a : AcceptedNestingSchedule). a.schedule)
           c.in-Err.end c.in-Err.ensures.outcome;
     }

@@ -19,8 +19,11 @@ returns-in-Stuck-clause-stuck c = subst (IsOutcome (meant c.args.checked.now)) c
 
 pub returns-in-Stuck-clause-none : goal.returns-in-Stuck-clause-none
 returns-in-Stuck-clause-none c =
-    none_where_stuck (meant c.args.checked.now) (lawful c.args.checked.now c.grammar.ensures.lawful c.grammar.ensures.kinds)
-    (c.in-Stuck.attrs, subst (IsOutcome (meant c.args.checked.now)) c.in-Stuck.is c.in_ok-outcome.ensures.outcome)
+    let g = meant c.args.checked.now in
+    let law = lawful c.args.checked.now c.grammar.ensures.lawful c.grammar.ensures.kinds in
+    λ some.
+    none_where_stuck g law (c.in-Stuck.attrs, subst (IsOutcome g) c.in-Stuck.is c.in_ok-outcome.ensures.outcome)
+    ((c.flat_schedules.ensures.nothing_added g law).0 some)
 
 pub verify-requires-clause-computed : goal.verify-requires-clause-computed
 verify-requires-clause-computed c =
@@ -85,6 +88,7 @@ returns-in-Ok-clause-exists c =
     let law = lawful c.args.checked.now c.grammar.ensures.lawful c.grammar.ensures.kinds in
     let is : IsAutomatic g (stages_of c.in-Found.schedule) =
     subst (IsOutcome g) c.in-Found.is c.in_ok-outcome.ensures.outcome in
+    (c.flat_schedules.ensures.nothing_added g law).1
     (stages_of c.in-Found.schedule, is_ordered g law c.in-Found.schedule is)
 
 -- an ordered schedule has no fault

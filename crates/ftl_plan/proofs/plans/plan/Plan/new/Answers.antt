@@ -24,6 +24,7 @@ returns-in-Some c =
     sym
     (sym c.in-Some.is
     ∙ c.in_ok-fault.ensures.fault
+    ∙ ap (λ (s : Schedule). first_fault (meant c.args.tree.now.checked) (stages_of s) c.args.tree.now.tree) c.placed.ensures.schedule
     ∙ ap (λ (x : CheckedGrammar). first_fault (meant x) (stages_of p.schedule) p.tree) c.requires.tree) in
     record { exact = λ other. ap (λ (o : Option PlanFault). unless_fault o p) found }
 
@@ -64,6 +65,7 @@ invariant_of-result c =
       sound = c.is_sound.ensures.sound;
       tables = c.in_ok-tables.ensures.tables;
       items = made.tree;
+      no_host = made.host_is;
       targets = c.in_ok-targets.ensures.targets;
       copies = c.in_ok-copies.ensures.copies;
       neighbours = c.in_ok-neighbours.ensures.parts;
@@ -73,7 +75,8 @@ invariant_of-result c =
           (sym c.requires.tree)
           ∙ sym
           (sym (none_is c.in_ok-fault.field-0 c.in_default.not-Some)
-          ∙ c.in_ok-fault.ensures.fault);
+          ∙ c.in_ok-fault.ensures.fault
+          ∙ ap (λ (s : Schedule). first_fault (meant c.args.tree.now.checked) (stages_of s) c.args.tree.now.tree) c.placed.ensures.schedule);
     }
 
 pub returns : goal.returns
@@ -89,6 +92,7 @@ returns c =
     sym
     (sym (none_is c.in_ok-fault.field-0 c.in_default.not-Some)
     ∙ c.in_ok-fault.ensures.fault
+    ∙ ap (λ (s : Schedule). first_fault (meant c.args.tree.now.checked) (stages_of s) c.args.tree.now.tree) c.placed.ensures.schedule
     ∙ ap (λ (x : CheckedGrammar). first_fault (meant x) (stages_of p.schedule) p.tree) c.requires.tree) in
     record {
       exact =

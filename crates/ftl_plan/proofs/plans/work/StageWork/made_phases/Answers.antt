@@ -19,7 +19,7 @@ returns-clause-fit c =
     λ t is.
     subst (λ (v : StageView). CanBeTaken (meant v.checked) v.tree v.grain (map kind_of kinds) t) c.self.view_is
     (subst (λ (ks : List order.PassKind). CanBeTaken (grammar_in rows) (tree_in rows) rows.grain ks t) (sym are)
-    (c.in_ok-phases.ensures.phases t is))
+    (c.in_ok-phases.ensures.phases t is c.self.invariant.no_host))
 
 pub returns-clause-kinds : goal.returns-clause-kinds
 returns-clause-kinds c =
