@@ -6,23 +6,32 @@ allowed, and the boxes that `plain_layout.py` finds.
 usage: bench/nests.py random [COUNT [SEED [PROGRAM]]]   tells where they differ on so many random pages, 1000 if left out
        bench/nests.py limits [PROGRAM]                   processor time of `check` of a schedule of 2,048 passes, flat and
                                                          with half of them in a nest, less that of the grammar alone
+       bench/nests.py times [PROGRAM]                    milliseconds of processor time that planning and solving take,
+                                                         and all up to the boxes, of samples of `table` by the schedule
+                                                         found and by that of pages/table_nest.page
 PROGRAM is the proved one, which ./prove builds, if left out.
 
 Of each page are looked at: what `check` tells; of a pair that is not ordered the example that `explain` prints; and of an
 accepted schedule its canonical text, which is read as the same again, and the boxes by several workers and grains.
 """
 import collections
+import contextlib
 import itertools
 import random
+import os
 import re
 import subprocess
 import sys
+import tempfile
 
 from demand import Drawn
 from explain import (Orders, Place, Rule, Trees, as_node, attribute_of, computed, computed_at, instance_at, is_above, is_of,
                      is_ordered, key, places_of, preorder, reads_of, rule_of, rules_of, shown_by, text_of, writers_of, MOST)
-from plain_layout import OVERFLOW, Grammar, Solver, Tokens, document, shown
-from program import program_at
+from part_times import times_of
+from parts import PARTS, SIZES
+from plain_layout import OVERFLOW, Grammar, Solver, Tokens, document, sample, shown
+from program import TOP, program_at
+from stops import addresses
 from timing import processor_seconds
 
 Nest = collections.namedtuple("Nest", "host stages")  # the stages are lists of passes, each a kind and a list
@@ -449,9 +458,42 @@ def limits(program):
         print(f"{name}: {told}, {1e3 * (processor_seconds([program, 'check'], page, (0, 6), 9) - grammar):.1f} ms")
 
 
+# ---- how long plans with and without nests take
+
+
+def nested_table(page):
+    """A sample of `table` by the schedule of the example page."""
+    with open(os.path.join(TOP, "pages/table_nest.page")) as example:
+        nested = example.read().split("%schedule")[1].split("%document")[0]
+    return page.replace("%schedule auto\n", "%schedule" + nested, 1)
+
+
+def least_times(program, functions, pages):
+    """Of each page the milliseconds of each part: the least of several runs, which are made in turns."""
+    with contextlib.ExitStack() as open_files:
+        files = [open_files.enter_context(tempfile.NamedTemporaryFile("w")) for _ in pages]
+        for file, page in zip(files, pages):
+            file.write(page)
+            file.flush()
+        turns = [[times_of(program, file.name, functions) for file in files] for _ in range(15)]
+    return [{part: min(run[part] for run in runs) for part in runs[0]} for runs in zip(*turns)]
+
+
+def times(program):
+    functions = addresses(program, PARTS)
+    print(f"{'pieces':>7} {'part':6} {'flat':>8} {'nested':>8} {'ratio':>6}")
+    for size in SIZES:
+        page = sample("table", size)
+        flat, nested = least_times(program, functions, [page, nested_table(page)])
+        for part in ("plan", "solve", "whole"):
+            print(f"{size:7} {part:6} {flat[part]:8.2f} {nested[part]:8.2f} {nested[part] / flat[part]:6.2f}", flush=True)
+
+
 def main():
     words = sys.argv[1:]
-    if words[:1] == ["limits"]:
+    if words[:1] == ["times"]:
+        times(program_at(2))
+    elif words[:1] == ["limits"]:
         limits(program_at(2))
     elif words[:1] == ["random"]:
         compare(int((words[1:2] or ["1000"])[0]), (words[2:3] or ["0"])[0], program_at(4))

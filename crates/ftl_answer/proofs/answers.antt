@@ -5,8 +5,6 @@ pub mod NestsBack
 pub mod PlainFaults
 pub mod PlainTexts
 pub mod PlainExamples
-pub mod FlatParts
-pub mod FlatFaults
 pub mod Rules
 pub mod TreesRead
 pub mod Circles

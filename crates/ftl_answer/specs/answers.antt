@@ -2,7 +2,6 @@ pub mod Stages
 pub mod Answer
 pub mod Texts
 pub mod Plain
-pub mod FlatLimits
 pub mod Summary
 pub mod Explanations
 pub mod Answers

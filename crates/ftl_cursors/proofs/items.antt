@@ -3,6 +3,7 @@ pub mod AllKids
 pub mod RowSteps
 pub mod RowFacts
 pub mod FirstNodes
+pub mod RowsByHost
 pub mod Starts
 pub mod StageFacts
 pub mod Found

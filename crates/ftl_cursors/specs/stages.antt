@@ -1,1 +1,2 @@
+pub mod PassTables
 pub mod StageRows

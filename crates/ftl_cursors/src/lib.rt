@@ -4,7 +4,7 @@
 //!
 //! - `visit_steps`: the visits of `ftl_visit` are those of `ftl_items`
 //! - `inorder`: what in-order visits run is the sequence of the pass
-//! - `items`: `ItemRows`, `StageItems`: the items of a stage in flat rows
+//! - `items`: `ItemRows`, `TreeRows`, `StageItems`: the items of a stage in flat rows
 //! - `sequence`: `SequenceCursor`: the steps of an in-order pass
 //! - `stages`: `StageRows`: what a plan keeps for a stage, once for all nodes
 //! - `visits`: `VisitCursor`: the steps of the visits of a range of nodes
@@ -19,6 +19,6 @@ pub mod stages;
 pub mod visit_steps;
 pub mod visits;
 
-pub use item_cursor::{ItemCursor, ItemTables, item_steps, step_at, step_count};
-pub use items::{ItemRows, StageItems};
-pub use stages::StageRows;
+pub use item_cursor::{ItemCursor, ItemTables, found_steps};
+pub use items::{ItemRows, StageItems, TreeRows};
+pub use stages::{PassTables, StageRows};

@@ -4,3 +4,6 @@ pub mod NodeLemmas
 pub mod NestLists
 pub mod HostTargets
 pub mod ItemTargets
+pub mod StageCuts
+pub mod KeptNests
+pub mod StageItems

@@ -9,7 +9,7 @@ use Rattle.ftl_schedule.specs.declared.syntax.kind.PassKind.TheVariants.{InOrder
 use Rattle.ftl_visit.specs.passes.VisitRows.{target_of}
 use Rattle.ftl_cursors.specs.declared.item_cursor.cursor.ItemCursor.{ItemCursor}
 use Rattle.ftl_cursors.specs.item_cursor.ItemSteps.{steps_left}
-use Rattle.ftl_cursors.specs.stages.StageRows.{pass_places, pass_visits}
+use Rattle.ftl_cursors.specs.stages.PassTables.{pass_places, pass_visits}
 use Rattle.ftl_cursors.specs.visits.NodeRanges.{nodes_in}
 use Rattle.ftl_host_cursors.specs.HostSteps.{host_steps, hosted_steps, inner_steps, own_steps, passes_at}
 use Rattle.ftl_host_cursors.specs.declared.nodes.NodesLeft.{NodesLeft}

@@ -11,7 +11,7 @@ use Rattle.ftl_schedule.specs.declared.syntax.kind.PassKind.TheVariants.{BottomU
 use Rattle.ftl_visit.specs.passes.VisitRows.{visits_of}
 use Rattle.ftl_cursors.specs.declared.visits.nodes.NodeOrder.TheVariants.{Preorder, Reverse}
 use Rattle.ftl_cursors.specs.inorder.InorderSteps.{inorder_steps}
-use Rattle.ftl_cursors.specs.stages.StageRows.{pass_visits}
+use Rattle.ftl_cursors.specs.stages.PassTables.{pass_visits}
 use Rattle.ftl_cursors.specs.visits.NodeRanges.{nodes_in}
 use Rattle.ftl_cursors.specs.visits.VisitSteps.{steps_of_nodes}
 

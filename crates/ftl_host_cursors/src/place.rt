@@ -2,7 +2,7 @@
 ghost use Rattle.std.specs.Prelude.{◌≡◌, ◌≢◌, ◌+◌, ◌++◌, ◌<◌, true, false, [], ◌∷◌, length};
 ghost use Rattle.std.specs.Prelude.{MatchOption};
 ghost use Rattle.ftl_cursors.specs.item_cursor.ItemSteps.{steps_left};
-ghost use Rattle.ftl_cursors.specs.stages.StageRows.{pass_places, pass_visits};
+ghost use Rattle.ftl_cursors.specs.stages.PassTables.{pass_places, pass_visits};
 ghost use Rattle.ftl_model.specs.layout.Tree.{size};
 ghost use Rattle.ftl_schedule.specs.declared.syntax.kind.PassKind.TheVariants.{InOrder};
 ghost use Rattle.ftl_host_cursors.specs.HostPlaces.{AreHostTables, IsHostPlace, left, left_at};

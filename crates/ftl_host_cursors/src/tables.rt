@@ -1,5 +1,7 @@
 //! What cursors go by.
 
+use crate::nest_rows::NestRows;
+use ftl_cursors::ItemTables;
 use ftl_cursors::sequence::SequencePlaces;
 use ftl_schedule::Pass;
 use ftl_tree::Tree;
@@ -18,4 +20,12 @@ pub struct HostTables<'a> {
     pub inner: &'a [Pass],
     pub inner_visits: &'a [PassVisits],
     pub inner_places: &'a [SequencePlaces],
+}
+
+/// What the steps of the items of a stage are told by: the own lists of its passes, and what each
+/// nests.
+#[derive(Clone, Copy)]
+pub struct NestTables<'a> {
+    pub own: ItemTables<'a>,
+    pub nests: &'a [Option<NestRows>],
 }

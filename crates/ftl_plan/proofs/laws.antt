@@ -1,2 +1,3 @@
-pub mod Narrow
 pub mod InRange
+pub mod EndWords
+pub mod Narrow

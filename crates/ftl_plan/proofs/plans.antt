@@ -1,5 +1,6 @@
 pub mod Bridge
 mod FewPasses
+mod HostNumbers
 mod KeptKinds
 pub mod Driven
 pub mod Inputs

@@ -1,4 +1,5 @@
 pub mod Depending
+pub mod LaterRows
 pub mod Queues
 pub mod Running
 pub mod Trails

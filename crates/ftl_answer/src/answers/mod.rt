@@ -3,12 +3,10 @@
 //! value on: words, page, tokens, grammar, schedule, document, reads, edits, and the text of the
 //! command.
 
-mod flat;
 mod laws;
 mod plain;
 mod worked;
 
-pub use flat::flat_limits;
 pub use laws::one_answer;
 pub use plain::plain_schedules;
 pub use worked::{worked_refusals, worked_stages, worked_summaries};

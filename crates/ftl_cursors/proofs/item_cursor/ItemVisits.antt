@@ -2,14 +2,14 @@
 use Rattle.std.proofs.Common.{◌≡◌, ◌≢◌, ℕ, ◌+◌, ◌<◌, ◌≤◌, Bool, refl, sym, ◌∙◌, ap, subst, arith, List, [], get_or, length, map, Contains}
 use Rattle.std.specs.List.{range_with_len}
 use Rattle.std.proofs.lemmas.List.{get_or-map, get_or_default, length-map}
-use Rattle.std.proofs.lemmas.List.Elements.{Contains-get_or}
-use Rattle.ftl_model.proofs.lists.Elements.{in_flat_map, in_range_from}
-use Rattle.ftl_model.proofs.lists.Rising.{in_map}
+use Rattle.ftl_model.proofs.lists.Elements.{in_range_from}
+use Rattle.ftl_cursors.specs.items.HostRows.{AreCutAs}
 use Rattle.ftl_cursors.specs.items.RowsCut.{is_whole_in}
-use Rattle.ftl_cursors.specs.items.StageItems.{IsFound, cuts_in, item_in, items_in, pass_numbered, passes_in}
+use Rattle.ftl_cursors.specs.items.StageItems.{IsFound, cuts_in, item_in, pass_numbered, passes_in, tree_in}
+use Rattle.ftl_cursors.specs.declared.items.columns.ItemRows.{ItemRows}
 use Rattle.ftl_cursors.specs.declared.items.view.FoundItem.{FoundItem}
-use Rattle.ftl_items.specs.stage_items.Cut.{nodes_by, starts}
-use Rattle.ftl_items.specs.stage_items.Items.{Item, form_steps, item, item_steps, items_of_cut, no_item, pass_in, pass_place, passes_of}
+use Rattle.ftl_items.specs.stage_items.Cut.{nodes_by}
+use Rattle.ftl_items.specs.stage_items.Items.{Item, form_steps, item_steps, pass_place}
 use Rattle.ftl_items.specs.stage_items.Visits.{visit}
 use Rattle.ftl_items.proofs.stage_items.Reverses.{in_reverse}
 use Rattle.ftl_cursors.specs.inorder.InorderSteps.{StepsComputeTheSequence, inorder_steps}
@@ -27,7 +27,7 @@ use Rattle.ftl_schedule.specs.declared.syntax.kind.PassKind.{PassKind}
 use Rattle.ftl_schedule.specs.declared.syntax.kind.PassKind.TheVariants.{BottomUp, InOrder, TopDown}
 use Rattle.ftl_cursors.specs.sequence.BlockPlaces.{places_of}
 use Rattle.ftl_cursors.specs.declared.sequence.block_places.BlockPlaces.{BlockPlaces}
-use Rattle.ftl_cursors.specs.stages.StageRows.{pass_places, pass_visits}
+use Rattle.ftl_cursors.specs.stages.PassTables.{pass_places, pass_visits}
 use Rattle.ftl_schedule.specs.stages.Stages.{kind_of, pass_of}
 use Rattle.ftl_schedule.specs.declared.stages.types.Pass.{Pass}
 use Rattle.ftl_order.specs.steps.Steps.{target_of}
@@ -37,6 +37,7 @@ use Rattle.ftl_cursors.specs.visits.NodeRanges.{nodes_in}
 use Rattle.ftl_cursors.specs.visits.VisitSteps.{steps_of_nodes}
 use Rattle.ftl_cursors.specs.declared.visits.nodes.NodeOrder.{NodeOrder}
 use Rattle.ftl_cursors.specs.declared.visits.nodes.NodeOrder.TheVariants.{Preorder, Reverse}
+use Rattle.ftl_cursors.proofs.items.Found.{told}
 use Rattle.ftl_cursors.proofs.items.RowFacts.{length-nodes_by}
 use Rattle.ftl_cursors.proofs.visits.ItemLemmas.{bottomup_targets, nodes_within, topdown_targets}
 use Rattle.ftl_visit.specs.declared.visits.visit_op.VisitOp.{VisitOp}
@@ -63,8 +64,7 @@ pub in_nodes : (o : NodeOrder) (first count n : ℕ) → Contains (nodes_in o fi
 in_nodes Preorder first count n h = (in_range_from first count n h).1
 in_nodes Reverse first count n h = (in_range_from first count n (in_reverse (range_with_len first count) n h)).1
 
-module _ (x : ItemTables) (i : ℕ) (found : FoundItem) (known : i < length (items_in x.items))
-    (is : IsFound x.items i found) where
+module _ (x : ItemTables) (i : ℕ) (found : FoundItem) (is : IsFound x.items i found) where
   abbrev this : Item
   this = item_in x.items i
 
@@ -72,28 +72,10 @@ module _ (x : ItemTables) (i : ℕ) (found : FoundItem) (known : i < length (ite
   abbrev pub pass : Pass
   pass = get_or x.items.passes.now found.pass no_pass
 
-  pass_below : this.pass < length (passes_in x.items)
-  pass_below =
-      let ps = passes_in x.items in
-      let from = in_flat_map (items_of_cut (cuts_in x.items) (forest_in x)) (range_with_len 0 (length ps)) this
-      (Contains-get_or (items_in x.items) i no_item known) in
-      let m = from.0 in
-      let here = in_map (item m) (starts (cuts_in x.items) (forest_in x) m) this from.2 in
-      let same : m ≡ this.pass = ap (λ (y : Item). y.pass) here.is in
-      let low = (in_range_from 0 (length ps) m from.1).1 in
-      omega (arith, same, low)
-
-  pub pass_known : found.pass < length x.items.passes.now
-  pass_known =
-      let long = length-map x.items.passes.now pass_of in
-      let below = pass_below in
-      let same = is.pass_is in
-      omega (arith, long, below, same)
-
-  pass_is : pass_numbered x.items this.pass ≡ pass_of pass
+  pub pass_is : pass_numbered x.items this.pass ≡ pass_of pass
   pass_is =
       ap (λ m. get_or (passes_in x.items) m empty_pass) (sym is.pass_is)
-      ∙ get_or-map pass_of x.items.passes.now found.pass no_pass empty_pass pass_known
+      ∙ get_or-map pass_of x.items.passes.now found.pass no_pass empty_pass is.pass_known
 
   pub kind_is : found.kind ≡ pass.kind
   kind_is = same_kind found.kind pass.kind (is.kind_is ∙ ap (λ (p : order.Pass). p.kind) pass_is)
@@ -102,16 +84,16 @@ module _ (x : ItemTables) (i : ℕ) (found : FoundItem) (known : i < length (ite
   by_pass : {X : Type 0} (f : Pass → X) (xs : List X) (d : X) → xs ≡ map f x.items.passes.now
       → get_or xs found.pass d ≡ f pass
   by_pass f xs d are =
-      ap (λ ys. get_or ys found.pass d) are ∙ get_or-map f x.items.passes.now found.pass no_pass d pass_known
+      ap (λ ys. get_or ys found.pass d) are ∙ get_or-map f x.items.passes.now found.pass no_pass d is.pass_known
 
   table_known : {X : Type 0} (f : Pass → X) (xs : List X) → xs ≡ map f x.items.passes.now → found.pass < length xs
   table_known f xs are =
       let long = ap length are ∙ length-map x.items.passes.now f in
-      let below = pass_known in
+      let below = is.pass_known in
       omega (arith, long, below)
 
   pub pass_listed : (d : Pass) → get_or x.items.passes.now found.pass d ≡ pass
-  pass_listed d = get_or_default x.items.passes.now found.pass d no_pass pass_known
+  pass_listed d = get_or_default x.items.passes.now found.pass d no_pass is.pass_known
 
   pub visits_are : AreItemTables x → (d : List (List VisitOp))
       → get_or x.visits.now found.pass d ≡ visits_of (grammar_in x) found.kind pass.attrs
@@ -131,14 +113,14 @@ module _ (x : ItemTables) (i : ℕ) (found : FoundItem) (known : i < length (ite
   pub places_known : AreItemTables x → found.pass < length x.places.now
   places_known tables = table_known (pass_places (grammar_in x)) x.places.now tables.places
 
-  number_is : number_of (forest_in x) this.first ≡ found.node
+  pub number_is : number_of (forest_in x) this.first ≡ found.node
   number_is =
       let one = size-one (grammar_in x) (forest_in x) is.is_tree in
       let low = is.known in
       ap (number_of (forest_in x)) (sym is.node_is)
       ∙ number_of-node_at (forest_in x) found.node (omega (arith, one, low))
 
-  node_there : Has (forest_in x) this.first
+  pub node_there : Has (forest_in x) this.first
   node_there =
       let one = size-one (grammar_in x) (forest_in x) is.is_tree in
       let low = is.known in
@@ -147,14 +129,17 @@ module _ (x : ItemTables) (i : ℕ) (found : FoundItem) (known : i < length (ite
       (omega (arith, one, low)))
 
   -- which trees are one item
-  abbrev whole : Path → Bool
-  whole = is_whole_in x.items.rows.now
+  abbrev pub whole : Path → Bool
+  whole = (cuts_in x.items this.pass).is_whole
 
-  -- the nodes of the item
-  pub count_is : length (nodes_by whole (forest_in x) (node_at (forest_in x) found.node))
+  -- the nodes of the item, by the rows of its pass
+  pub count_is : (rows : ItemRows) → AreCutAs x.items.rows.now (cuts_in x.items found.pass) rows
+      → length (nodes_by (is_whole_in rows) (tree_in rows) (node_at (tree_in rows) found.node))
       ≡ node_count_by whole (forest_in x) this.first
-  count_is =
-      ap (λ p. length (nodes_by whole (forest_in x) p)) is.node_is ∙ length-nodes_by whole (forest_in x) this.first
+  count_is rows cut =
+      told x.items i found is rows cut (λ w t. length (nodes_by w t.tree (node_at t.tree found.node)))
+      ∙ ap (λ p. length (nodes_by whole (forest_in x) p)) is.node_is
+      ∙ length-nodes_by whole (forest_in x) this.first
 
   pub within : found.node + node_count_by whole (forest_in x) this.first ≤ size (forest_in x)
   within =
@@ -208,15 +193,15 @@ module _ (x : ItemTables) (i : ℕ) (found : FoundItem) (known : i < length (ite
         ∙ has
 
     -- the pass in the schedule
-    pass_there : passes_of s stage ≡ passes_in x.items → pass_of pass ≡ pass_at s stage this.pass
-    pass_there passes = sym pass_is ∙ ap (λ (ps : List order.Pass). pass_in ps this.pass) (sym passes)
+    pass_there : pass_at s stage this.pass ≡ pass_numbered x.items this.pass → pass_of pass ≡ pass_at s stage this.pass
+    pass_there there = sym pass_is ∙ sym there
 
     -- and so is what the steps of an inorder pass compute
     pub sequence_is : StepsComputeTheSequence → found.kind ≡ InOrder → EachStandsOnce g s
-        → passes_of s stage ≡ passes_in x.items
+        → pass_at s stage this.pass ≡ pass_numbered x.items this.pass
         → map (target_of g t) (inorder_steps g t pass.attrs top) ≡ item_steps (form_in x s stage) t this
-    sequence_is computes kind ordered passes =
-        ap (λ (p : order.Pass). map (target_of g t) (inorder_steps g t p.attributes top)) (pass_there passes)
+    sequence_is computes kind ordered there =
+        ap (λ (p : order.Pass). map (target_of g t) (inorder_steps g t p.attributes top)) (pass_there there)
         ∙ computes g s t law ordered is.is_tree stage this.pass
         ∙ ap (λ k. steps_with (kind_of k) pass.attrs) (sym kind)
         ∙ has

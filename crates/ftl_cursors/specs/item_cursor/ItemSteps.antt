@@ -1,17 +1,17 @@
 -- The steps of an item of a stage: steps of the tree, which compute what the item has.
 use Rattle.std.specs.Prelude.{◌≡◌, ℕ, List, map, Contains}
 use Rattle.ftl_deps.specs.reads.Meant.{meant}
-use Rattle.ftl_cursors.specs.items.StageItems.{cuts_in, item_in, pass_numbered, passes_in, tree_in}
-use Rattle.ftl_items.specs.stage_items.Items.{PassForm, item_steps, pass_place, passes_of}
+use Rattle.ftl_cursors.specs.items.StageItems.{cuts_in, item_in, pass_numbered, tree_of}
+use Rattle.ftl_items.specs.stage_items.Items.{PassForm, item_steps, pass_place}
 use Rattle.ftl_items.specs.stage_items.Visits.{visit}
 use Rattle.ftl_model.specs.layout.AttributeGrammar.{AttributeGrammar}
 use Rattle.ftl_model.specs.layout.Solves.{Instance}
 use Rattle.ftl_model.specs.layout.Tree.{Forest}
-use Rattle.ftl_order.specs.orders.Schedule.{EachStandsOnce, Schedule, placing_of}
+use Rattle.ftl_order.specs.orders.Schedule.{EachStandsOnce, Schedule, pass_at, placing_of}
 use Rattle.ftl_order.specs.orders.Sequence.{sequence}
 use Rattle.ftl_schedule.specs.declared.syntax.kind.PassKind.{PassKind}
 use Rattle.ftl_schedule.specs.declared.syntax.kind.PassKind.TheVariants.{BottomUp, InOrder, TopDown}
-use Rattle.ftl_cursors.specs.stages.StageRows.{pass_places, pass_visits}
+use Rattle.ftl_cursors.specs.stages.PassTables.{pass_places, pass_visits}
 use Rattle.ftl_order.specs.steps.Steps.{IsStepOf, target_of}
 use Rattle.ftl_order.specs.declared.steps.step.Step.{Step}
 use Rattle.ftl_cursors.specs.declared.visits.nodes.NodeOrder.{NodeOrder}
@@ -43,7 +43,7 @@ grammar_in x = meant x.items.rows.now.tree.now.checked
 
 -- the tree
 abbrev pub forest_in : ItemTables → Forest
-forest_in x = tree_in x.items.rows.now
+forest_in x = tree_of x.items
 
 -- the visits are those of the passes, with the places of their blocks, and the targets those of the rules
 pub record AreItemTables (x : ItemTables) : Type 0 where
@@ -66,10 +66,11 @@ form_in x s stage m =
       sequence = sequence (grammar_in x) (placing_of s) (pass_place stage m) (forest_in x);
     }
 
--- what is left are the steps of the item of this number, in a stage of a schedule that has these passes and each
+-- what is left are the steps of the item of this number, in a stage of a schedule that has the item's pass and each
 -- computed attribute once
 abbrev pub IsCursorOf : ItemTables → (item : ℕ) → ItemCursor → Type 0
 IsCursorOf x i cursor =
-    (s : Schedule) (stage : ℕ) → EachStandsOnce (grammar_in x) s → passes_of s stage ≡ passes_in x.items
+    (s : Schedule) (stage : ℕ) → EachStandsOnce (grammar_in x) s
+    → pass_at s stage (item_in x.items i).pass ≡ pass_numbered x.items (item_in x.items i).pass
     → AreStepsOf (grammar_in x) (forest_in x)
     (item_steps (form_in x s stage) (forest_in x) (item_in x.items i)) (steps_left cursor)

@@ -26,14 +26,14 @@ pub struct ItemTables<'a> {
     pub targets: &'a [RuleTarget],
 }
 
-/// The steps of an item.
-pub fn item_steps<'a>(tables: ItemTables<'a>, item: u32) -> ItemCursor<'a>
+/// The steps of an item that was found.
+pub fn found_steps<'a>(tables: ItemTables<'a>, item: u32, found: FoundItem) -> ItemCursor<'a>
     requires law { IsLawful (grammar_in tables) }
     requires tables { AreItemTables tables }
     requires item { item < length (items_in tables.items) }
+    requires found { IsFound tables.items item found }
     ensures steps { IsCursorOf tables.entry item result }
 {
-    let found = tables.items.find(item);
     match found.kind {
         PassKind::InOrder => ItemCursor::Sequence(sequence_steps(tables, item, found)),
         _ => ItemCursor::Visits(visit_steps(tables, item, found)),
@@ -51,12 +51,12 @@ fn visit_steps<'a>(tables: ItemTables<'a>, item: u32, found: FoundItem) -> Visit
 {
     visits_make_steps();
     items_by_ranges();
-    let rows = tables.items.rows;
-    let _nodes = rows.tree.node_count();
-    let count = rows.node_count(found.node);
+    let tree = tables.items.rows.tree;
+    let _nodes = tree.node_count();
+    let count = tables.items.rows_of(found.pass).node_count(found.node);
     let visits = &tables.visits[found.pass as usize];
     let order = node_order(found.kind);
-    VisitCursor::new(rows.tree, visits, tables.targets, order, found.node, count)
+    VisitCursor::new(tree, visits, tables.targets, order, found.node, count)
 }
 
 /// The steps of the item of an inorder pass: all of the pass.

@@ -25,7 +25,7 @@ impl<'a> StageItems<'a> {
         let found = self.find(item);
         match found.kind {
             PassKind::TopDown => count_above(found.node),
-            PassKind::BottomUp => count_below(self.rows, found.node),
+            PassKind::BottomUp => count_below(self.rows_of(found.pass), found.node),
             PassKind::InOrder => 0,
         }
     }
@@ -37,7 +37,7 @@ impl<'a> StageItems<'a> {
     {
         let found = self.find(item);
         match found.kind {
-            PassKind::TopDown => count_below(self.rows, found.node),
+            PassKind::TopDown => count_below(self.rows_of(found.pass), found.node),
             PassKind::BottomUp => count_above(found.node),
             PassKind::InOrder => 0,
         }
@@ -52,8 +52,12 @@ impl<'a> StageItems<'a> {
     {
         let found = self.find(item);
         match found.kind {
-            PassKind::TopDown => found.start + kid_item(self.rows, found.node, place),
-            PassKind::BottomUp => found.start + parent_item(self.rows, found.node),
+            PassKind::TopDown => {
+                found.start + kid_item(self.rows_of(found.pass), found.node, place)
+            }
+            PassKind::BottomUp => {
+                found.start + parent_item(self.rows_of(found.pass), found.node)
+            }
             PassKind::InOrder => unreachable!(),
         }
     }

@@ -1,48 +1,76 @@
 //! The items of a stage, by number.
-ghost use Rattle.std.specs.Prelude.{◌≡◌, ◌<◌, ◌≤◌, length, map, IfOk};
+ghost use Rattle.std.specs.Prelude.{◌≡◌, ◌<◌, ◌≤◌, length, map, slice_index_or, IfOk, None};
 ghost use Rattle.ftl_schedule.specs.stages.Stages.{pass_of};
-ghost use Rattle.ftl_cursors.specs.items.RowsCut.{cut_in};
+ghost use Rattle.ftl_cursors.specs.items.HostRows.{AreCutAs, AreNumbers, cut_in};
 ghost use Rattle.ftl_cursors.specs.items.RowsFit.{AreStarts};
-ghost use Rattle.ftl_cursors.specs.items.StageItems.{IsFound, IsItemPlace, IsStageOf, items_in};
-ghost use Rattle.ftl_cursors.specs.items.StageItems.{tree_in};
+ghost use Rattle.ftl_cursors.specs.items.StageItems.{IsFound, IsItemPlace, IsStageOf, cuts_in};
+ghost use Rattle.ftl_cursors.specs.items.StageItems.{hosts_in, items_in};
 
+use crate::items::by_host::TreeRows;
 use crate::items::columns::ItemRows;
 use crate::items::view::{FoundItem, ItemPlace, StageItems};
 use ftl_schedule::Pass;
 use std::alloc::{AllocError, Global};
 
-/// How many items come before each pass of a stage, and how many there are in all.
+/// How many items come before each pass of a stage, and how many there are in all, where each pass
+/// has rows of its number.
 pub fn pass_starts(
     alloc: Global,
-    rows: &ItemRows<'_>,
+    rows: &TreeRows<'_>,
     passes: &[Pass],
+    cuts: &[usize],
 ) -> Result<Vec<u32>, AllocError>
     requires few { length passes.now ≤ 2048 }
+    requires numbers { AreNumbers rows.now (length passes.now) cuts.now }
     ensures starts { IfOk result (λ v. AreStarts (length (map pass_of passes.now))
-        (cut_in rows.now (map pass_of passes.now)) (tree_in rows.now) v.items) }
+        (cut_in rows.now (map pass_of passes.now) cuts.now) rows.now.tree.now.tree v.items) }
 {
     let mut starts = Vec::with_capacity(alloc, passes.len() + 1)?;
     let mut start = 0;
-    for pass in passes {
+    for number in 0..passes.len() {
         starts.push(start)?;
-        start += rows.count(pass.kind);
+        let of_pass = rows.numbered(cuts[number]);
+        start += of_pass.count(passes[number].kind);
     }
     starts.push(start)?;
     Ok(starts)
 }
 
 impl<'a> StageItems<'a> {
-    /// The items of these passes.
-    pub fn new(rows: &'a ItemRows<'a>, passes: &'a [Pass], starts: &'a [u32]) -> StageItems<'a>
+    /// The items of these passes, with rows of these numbers.
+    pub fn new(
+        rows: &'a TreeRows<'a>,
+        passes: &'a [Pass],
+        cuts: &'a [usize],
+        starts: &'a [u32],
+    ) -> StageItems<'a>
+        requires numbers { AreNumbers rows.now (length passes.now) cuts.now }
         requires starts { AreStarts (length (map pass_of passes.now))
-            (cut_in rows.now (map pass_of passes.now)) (tree_in rows.now) starts.now }
-        ensures made { IsStageOf rows.now passes.now result }
+            (cut_in rows.now (map pass_of passes.now) cuts.now) rows.now.tree.now.tree starts.now }
+        ensures made { IsStageOf rows.now passes.now cuts.now result }
     {
         StageItems {
             rows,
             passes,
+            cuts,
             starts,
         }
+    }
+
+    /// The rows that tell the items of a pass.
+    pub fn rows_of(&self, pass: u32) -> &'a ItemRows<'a>
+        requires known { pass < length self.now.passes.now }
+        ensures rows { AreCutAs self.now.rows.now (cuts_in self.now pass) result.now }
+    {
+        self.rows.numbered(self.cuts[pass as usize])
+    }
+
+    /// The host class of a pass, where it has one.
+    pub fn host(&self, pass: u32) -> Option<u32>
+        requires known { pass < length self.now.passes.now }
+        ensures host { result ≡ slice_index_or (hosts_in self.now) pass None }
+    {
+        self.rows.numbered(self.cuts[pass as usize]).host
     }
 
     /// How many items there are.
@@ -88,7 +116,7 @@ impl<'a> StageItems<'a> {
             pass: place.pass,
             kind,
             start: self.starts[place.pass as usize],
-            node: self.rows.first(kind, place.item),
+            node: self.rows_of(place.pass).first(kind, place.item),
         }
     }
 }

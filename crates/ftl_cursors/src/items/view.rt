@@ -1,20 +1,22 @@
 //! The items of a stage, as a view.
 ghost use Rattle.std.specs.Prelude.{length, map};
 ghost use Rattle.ftl_schedule.specs.stages.Stages.{pass_of};
-ghost use Rattle.ftl_cursors.specs.items.RowsCut.{cut_in};
+ghost use Rattle.ftl_cursors.specs.items.HostRows.{AreNumbers, cut_in};
 ghost use Rattle.ftl_cursors.specs.items.RowsFit.{AreStarts};
 
-use crate::items::columns::ItemRows;
+use crate::items::by_host::TreeRows;
 use ftl_schedule::{Pass, PassKind};
 
-/// The items of a stage: a view of what others keep.
+/// The items of a stage: a view of what others keep, the number of the rows of each pass among it.
 #[derive(Clone, Copy)]
 pub struct StageItems<'a> {
-    pub rows: &'a ItemRows<'a>,
+    pub rows: &'a TreeRows<'a>,
     pub passes: &'a [Pass],
+    pub cuts: &'a [usize],
     pub starts: &'a [u32],
+    pub ghost numbers: { AreNumbers rows.now (length passes.now) cuts.now },
     pub ghost fit: { AreStarts (length (map pass_of passes.now))
-        (cut_in rows.now (map pass_of passes.now)) rows.now.tree.now.tree starts.now },
+        (cut_in rows.now (map pass_of passes.now) cuts.now) rows.now.tree.now.tree starts.now },
 }
 
 /// An item by its pass, and by its number among the items of that.

@@ -1,46 +1,47 @@
 //! The rows of a stage.
-ghost use Rattle.std.specs.Prelude.{◌≤◌, length, IfOk};
+ghost use Rattle.std.specs.Prelude.{◌≡◌, ◌≤◌, length, Contains, IfOk};
+ghost use Rattle.std.specs.List.{All};
 ghost use Rattle.ftl_deps.specs.reads.Meant.{meant};
+ghost use Rattle.ftl_cursors.specs.items.HostRows.{hosts_of};
 ghost use Rattle.ftl_cursors.specs.stages.StageRows.{AreStageRows};
 
-use crate::items::{ItemRows, pass_starts};
-use crate::sequence::SequencePlaces;
+use crate::items::{TreeRows, pass_starts};
+use crate::stages::tables::PassTables;
 use ftl_schedule::Pass;
-use ftl_visit::{PassVisits, RuleIndex};
+use ftl_visit::RuleIndex;
 use std::alloc::{AllocError, Global};
 
-/// How many items come before each pass of a stage, the visits of each pass, and the places of
-/// blocks in them, of which only inorder passes have any.
+/// The number of the rows of each pass of a stage, how many items come before each, and the visits
+/// of each.
 #[derive(Drop)]
 pub struct StageRows {
+    pub cuts: Vec<usize>,
     pub starts: Vec<u32>,
-    pub visits: Vec<PassVisits>,
-    pub places: Vec<SequencePlaces>,
+    pub tables: PassTables,
 }
 
 impl StageRows {
-    /// The rows of the stage with these passes.
+    /// The rows of the stage with these passes, which have these host classes.
     pub fn new(
         alloc: Global,
         index: &RuleIndex<'_>,
-        items: &ItemRows<'_>,
+        items: &TreeRows<'_>,
         passes: &[Pass],
+        hosts: &[Option<u32>],
     ) -> Result<StageRows, AllocError>
         requires few { length passes.now ≤ 2048 }
-        ensures rows { IfOk result (AreStageRows (meant index.now) items.now passes.now) }
+        requires count { length hosts.now ≡ length passes.now }
+        requires hosts { All (Contains (hosts_of items.now)) hosts.now }
+        ensures rows { IfOk result
+            (AreStageRows (meant index.now) items.now passes.now hosts.now) }
     {
-        let starts = pass_starts(alloc, items, passes)?;
-        let mut visits = Vec::with_capacity(alloc, passes.len())?;
-        let mut places = Vec::with_capacity(alloc, passes.len())?;
-        for pass in passes {
-            let of_pass = PassVisits::new(alloc, index, pass.kind, pass.attrs.as_slice())?;
-            places.push(SequencePlaces::new(alloc, &of_pass, index.checked())?)?;
-            visits.push(of_pass)?;
-        }
+        let cuts = items.numbers_for(alloc, hosts)?;
+        let starts = pass_starts(alloc, items, passes, cuts.as_slice())?;
+        let tables = PassTables::new(alloc, index, passes)?;
         Ok(StageRows {
+            cuts,
             starts,
-            visits,
-            places,
+            tables,
         })
     }
 }

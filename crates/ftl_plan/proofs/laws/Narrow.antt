@@ -1,21 +1,18 @@
 -- A plan without a fault has no step that reads too much.
-use Rattle.std.proofs.Common.{◌≡◌, ◌≢◌, ℕ, ◌<◌, ◌≤◌, ◌&&◌, not, Bool, true, false, cond, ltb, ltb-true, ltb-false, refl, sym, ◌∙◌, ap, ap₂, subst, ⊎_elim, eq-eqb, arith, List, [], ◌∷◌, length, Contains, Option, Some, None}
+use Rattle.std.proofs.Common.{◌≡◌, ◌≢◌, ℕ, ◌<◌, ◌≤◌, ◌&&◌, not, Bool, true, false, cond, ltb, ltb-false, refl, sym, ◌∙◌, ap, ap₂, ⊎_elim, eq-eqb, arith, List, [], ◌∷◌, length, Contains, Option, Some, None}
 use Rattle.std.specs.List.{find, range_with_len}
 use Rattle.std.specs.Option.{option_map}
-use Rattle.std.proofs.lemmas.List.{get_or_past}
 use Rattle.std.proofs.lemmas.Option.{none-some}
 use Rattle.ftl_model.proofs.lists.FirstAlong.{neither, none_along}
 use Rattle.ftl_model.proofs.lists.Elements.{filter_has, in_cases, nothing_in, range_has}
-use Rattle.ftl_items.specs.stage_items.Items.{items}
 use Rattle.ftl_items.specs.stage_items.Limits.{first_wide_step, is_of_stage, read_count, steps_of_stage}
-use Rattle.ftl_items.specs.stage_items.StepLaws.{EachStepInOneItem}
 use Rattle.ftl_model.specs.layout.AttributeGrammar.{AttributeGrammar, Sort, inherited, input, is_input, local, synthesized}
 use Rattle.ftl_model.specs.layout.Solves.{Instance}
 use Rattle.ftl_model.specs.layout.Table.{instances}
 use Rattle.ftl_model.specs.layout.Tree.{Forest}
 use Rattle.ftl_order.specs.orders.LegalOrder.{IsStep}
 use Rattle.ftl_order.specs.orders.Reads.{reads_of}
-use Rattle.ftl_order.specs.orders.Schedule.{Pass, Schedule, placing_of}
+use Rattle.ftl_order.specs.orders.Schedule.{Schedule, placing_of}
 use Rattle.ftl_order.proofs.orders.Instances.{is_listed_instance}
 use Rattle.ftl_limits.specs.faults.PlanFaults.{first_fault, first_of_stages, step_too_wide, too_many_reads}
 use Rattle.ftl_limits.specs.declared.faults.fault.PlanFault.{PlanFault}
@@ -64,17 +61,6 @@ module _ (g : AttributeGrammar) (s : Schedule) (t : Forest) (none : first_fault 
       (none_found (λ x. ltb 1048576 (read_count g t x)) (steps_of_stage g t s k) i (not_wide k known) there)
 
   -- and there is no other
-  pub narrow : ((stage : ℕ) → EachStepInOneItem g s t 1 stage) → (i : Instance) → IsStep g t i
-      → length (reads_of g t i) ≤ 1048576
-  narrow each i step =
-      let k = (placing_of s i.attribute).stage in
-      elim (ltb k (length s)) as (λ b. (ltb k (length s) ≡ b) → length (reads_of g t i) ≤ 1048576) [
-        | true ↦ λ e. narrow_in i step (ltb-true k (length s) e)
-        | false ↦ λ e.
-            let past = ltb-false k (length s) e in
-            let here = each k i step refl in
-            absurd
-            (nothing_in here.0
-            (subst (λ (ps : List Pass). Contains (items ps t 1) here.0) (get_or_past s k [] past) here.1.0))
-      ]
-      refl
+  pub narrow : ((i : Instance) → IsStep g t i → (placing_of s i.attribute).stage < length s)
+      → (i : Instance) → IsStep g t i → length (reads_of g t i) ≤ 1048576
+  narrow stands i step = narrow_in i step (stands i step)

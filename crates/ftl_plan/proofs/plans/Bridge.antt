@@ -1,5 +1,5 @@
 -- What a work answers is what it means.
-use Rattle.std.proofs.Common.{◌≡◌, ℕ, ◌<◌, ◌≤◌, true, false, ltb, ltb-true, ltb-false, refl, sym, ◌∙◌, ap, subst, arith, List, [], ◌∷◌, Option, None, get_or, length, map}
+use Rattle.std.proofs.Common.{◌≡◌, ℕ, ◌<◌, ◌≤◌, true, false, ltb, ltb-true, ltb-false, refl, sym, ◌∙◌, ap, subst, arith, List, [], ◌∷◌, get_or, length, map}
 use Rattle.std.proofs.lemmas.List.{ext_get_or, get_or-map, get_or_past, length-map}
 use Rattle.std.proofs.lemmas.List.Elements.{Contains-get_or}
 use Rattle.std.proofs.lemmas.List.FromFn.{get_or-map-range_with_len, length-map-range_with_len}
@@ -10,21 +10,21 @@ use Rattle.ftl_cells.specs.shared.Work.{Meaning, IsStepOfItem, cell_total, item_
 use Rattle.ftl_cells.proofs.shared.Shapes.{cell_total-listed, has_step, item_below, item_total-listed, kind_at-listed, next_at-listed, next_total-listed, pred_total-listed, read_total-listed, reads_of_step-listed, solution_at-listed, step_total-listed, target_of-listed}
 use Rattle.ftl_deps.specs.reads.Meant.{meant}
 use Rattle.ftl_limits.specs.reads.ReadTables.{AreTables, IsSound}
-use Rattle.ftl_cursors.specs.item_cursor.ItemSteps.{AreStepsOf, IsCursorOf, form_in, no_step, steps_left}
-use Rattle.ftl_cursors.specs.declared.item_cursor.cursor.ItemCursor.{ItemCursor}
-use Rattle.ftl_cursors.specs.items.StageItems.{item_in, items_in, passes_in}
-use Rattle.ftl_cursors.specs.items.WholeTrees.{is_whole_at}
-use Rattle.ftl_items.specs.stage_items.Items.{Item, item_steps, items, items_by, nexts, no_item, pass_in, pass_place, passes_of, predecessors}
-use Rattle.ftl_items.specs.stage_items.StageWork.{kind_of, no_instance, reads_at, stage_work}
-use Rattle.ftl_items.specs.stage_items.Visits.{visit}
+use Rattle.ftl_cursors.specs.item_cursor.ItemSteps.{AreStepsOf, no_step}
+use Rattle.ftl_cursors.specs.items.StageItems.{cuts_in, hosts_in, items_in, passes_in}
+use Rattle.ftl_host_cursors.specs.NestTables.{IsNestCursorOf, nest_steps_left, nesting_passes, own_pass}
+use Rattle.ftl_host_cursors.specs.declared.nest_cursor.NestCursor.{NestCursor}
+use Rattle.ftl_host_cursors.proofs.StageCuts as stage_cuts
+use Rattle.ftl_nests.specs.NestItems.{nest_work}
+use Rattle.ftl_nests.specs.Nests.{NestingSchedule, outer_schedule}
+use Rattle.ftl_items.specs.stage_items.Items.{Item, cuts_of, item_steps, items_by, kinds_of, nexts, nexts_by, no_item, predecessors, predecessors_by}
+use Rattle.ftl_items.specs.stage_items.Cut.{PassCut}
+use Rattle.ftl_items.specs.stage_items.StageWork.{form_items, form_reads_at, kind_of, no_instance}
 use Rattle.ftl_model.specs.layout.AttributeGrammar.{AttributeGrammar}
 use Rattle.ftl_model.specs.layout.Table.{SolvesList, instance_count, instance_number, instances, value_in}
 use Rattle.ftl_model.specs.layout.Tree.{Forest}
 use Rattle.ftl_model.specs.layout.Values.{overflow}
 use Rattle.ftl_order.specs.orders.Reads.{reads_of}
-use Rattle.ftl_model.specs.layout.Solves.{Instance}
-use Rattle.ftl_order.specs.orders.Schedule.{Pass, Schedule, placing_of}
-use Rattle.ftl_order.specs.orders.Sequence.{sequence}
 use Rattle.ftl_items.specs.solution.Solution.{solution}
 use Rattle.ftl_step_value.specs.cells.ReadCells.{filled_cell, read_cells}
 use Rattle.ftl_step_value.proofs.cells.StepRules.{target_there}
@@ -34,7 +34,7 @@ use Rattle.ftl_step_value.specs.value.StepValue.{GivesItsRead, value_of_step}
 use Rattle.ftl_order.specs.steps.Steps.{IsStepOf, target_of}
 use Rattle.ftl_order.specs.declared.steps.step.Step.{Step}
 use Rattle.ftl_tree.specs.trees.CheckedTree.{CheckedTree}
-use Rattle.ftl_plan.specs.plans.StageParts.{IsStage, IsStepAt, StageView, grain_of, grammar_of, meaning_at, meaning_of, schedule_of, steps_of, tree_of}
+use Rattle.ftl_plan.specs.plans.StageParts.{IsStage, IsStepAt, StageView, count_of, forms_of, grain_of, grammar_of, meaning_at, meaning_of, schedule_of, steps_of, tree_of}
 use Rattle.ftl_plan.specs.declared.plans.parts.StageParts.{StageParts}
 
 -- a function of the entries of a list
@@ -52,7 +52,7 @@ listed_map f xs d e =
 -- the work of a stage, by functions
 abbrev pub shape_of : StageParts → WorkShape
 shape_of w =
-    stage_work (grammar_of w) (schedule_of w) (tree_of w) (grain_of w) w.stage (solution (grammar_of w) (tree_of w))
+    nest_work (grammar_of w) (schedule_of w) (tree_of w) (grain_of w) w.stage (solution (grammar_of w) (tree_of w))
     1048576 w.programs.now.max_stack
 
 -- the limits are those that the stage is known by
@@ -68,7 +68,7 @@ module _ (w : StageParts) (fit : IsStage w) where
   abbrev g : AttributeGrammar
   g = grammar_of w
 
-  abbrev s : Schedule
+  abbrev s : NestingSchedule
   s = schedule_of w
 
   abbrev t : Forest
@@ -77,15 +77,19 @@ module _ (w : StageParts) (fit : IsStage w) where
   abbrev m : Meaning
   m = meaning_of w
 
-  pub few_passes : length (passes_of s w.stage) ≤ 2048
+  -- how many passes there are
+  pub count_is_of : length (passes_in w.item_tables.own.items) ≡ count_of w
+  count_is_of = ap length fit.passes.passes ∙ length-map (nesting_passes s w.stage) own_pass
+
+  pub few_passes : count_of w ≤ 2048
   few_passes =
-      let same = ap length fit.passes in
-      let few = w.item_tables.items.fit.few in
+      let same = count_is_of in
+      let few = w.item_tables.own.items.fit.few in
       omega (arith, same, few)
 
   -- ---- the tree, where it is asked for
 
-  module _ (u : CheckedTree) (same : u ≡ w.item_tables.items.rows.now.tree.now) where
+  module _ (u : CheckedTree) (same : u ≡ w.item_tables.own.items.rows.now.tree.now) where
     pub sound_there : IsSound (meant u.checked)
     sound_there = subst (λ (v : CheckedTree). IsSound (meant v.checked)) (sym same) fit.sound
 
@@ -104,27 +108,25 @@ module _ (w : StageParts) (fit : IsStage w) where
 
   -- ---- items and cells
 
-  -- the passes of the stage
-  abbrev these : List Pass
-  these = passes_in w.item_tables.items
+  -- how they are cut
+  cuts_are : cuts_in w.item_tables.own.items ≡ cuts_of (forms_of w)
+  cuts_are =
+      stage_cuts.cuts_are g s t (grain_of w) w.stage (passes_in w.item_tables.own.items)
+      (hosts_in w.item_tables.own.items) fit.passes.passes fit.passes.hosts
 
-  -- its items, where trees of this host are items
-  abbrev with_host : Option ℕ → List Item
-  with_host host =
-      items_by (length these)
-      (λ k. record { kind = (pass_in these k).kind; is_whole = is_whole_at host t (grain_of w) }) t
+  -- the items of the stage
+  abbrev these : List Item
+  these = form_items g t (count_of w) (forms_of w)
 
-  -- they are those of small trees
-  small_items : items_in w.item_tables.items ≡ items these t (grain_of w)
-  small_items = ap with_host fit.no_host
+  items_same : items_in w.item_tables.own.items ≡ these
+  items_same =
+      ap (λ n. items_by n (cuts_in w.item_tables.own.items) t) count_is_of
+      ∙ ap (λ (cuts : ℕ → PassCut). items_by (count_of w) cuts t) cuts_are
 
-  pub items_are : length (items_in w.item_tables.items) ≡ item_total m
-  items_are =
-      ap (λ (ys : List Item). length ys) small_items
-      ∙ ap (λ ps. length (items ps t (grain_of w))) (sym fit.passes)
-      ∙ sym (item_total-listed (shape_of w))
+  pub items_are : length (items_in w.item_tables.own.items) ≡ item_total m
+  items_are = ap (λ (ys : List Item). length ys) items_same ∙ sym (item_total-listed (shape_of w))
 
-  pub item_known : (i : ℕ) → i < item_total m → i < length (items_in w.item_tables.items)
+  pub item_known : (i : ℕ) → i < item_total m → i < length (items_in w.item_tables.own.items)
   item_known i below = subst (λ n. i < n) (sym items_are) below
 
   pub cells_are : instance_count g t ≡ cell_total m
@@ -134,59 +136,44 @@ module _ (w : StageParts) (fit : IsStage w) where
   cell_known c below = subst (λ n. c < n) (sym cells_are) below
 
   pub kind_is : (c : ℕ) → c < cell_total m
-      → kind_of g s w.stage (get_or (instances g t) c no_instance) ≡ kind_at m c
+      → kind_of g (outer_schedule s) w.stage (get_or (instances g t) c no_instance) ≡ kind_at m c
   kind_is c below = sym (kind_at-listed (shape_of w) c (cell_known c below))
 
   pub preds_are : (i : ℕ) → i < item_total m
-      → length (predecessors (passes_in w.item_tables.items) (items_in w.item_tables.items) i) ≡ pred_total m i
+      → length (predecessors (passes_in w.item_tables.own.items) (items_in w.item_tables.own.items) i) ≡ pred_total m i
   preds_are i below =
-      ap (λ (ys : List Item). length (predecessors these ys i)) small_items
-      ∙ ap (λ ps. length (predecessors ps (items ps t (grain_of w)) i)) (sym fit.passes)
+      ap (λ (ys : List Item). length (predecessors (passes_in w.item_tables.own.items) ys i)) items_same
+      ∙ ap (λ (cuts : ℕ → PassCut). length (predecessors_by (kinds_of cuts) these i)) cuts_are
       ∙ sym (pred_total-listed (shape_of w) i (item_below (shape_of w) i below))
 
   pub nexts_are : (i : ℕ) → i < item_total m
-      → length (nexts (passes_in w.item_tables.items) (items_in w.item_tables.items) i) ≡ next_total m i
+      → length (nexts (passes_in w.item_tables.own.items) (items_in w.item_tables.own.items) i) ≡ next_total m i
   nexts_are i below =
-      ap (λ (ys : List Item). length (nexts these ys i)) small_items
-      ∙ ap (λ ps. length (nexts ps (items ps t (grain_of w)) i)) (sym fit.passes)
+      ap (λ (ys : List Item). length (nexts (passes_in w.item_tables.own.items) ys i)) items_same
+      ∙ ap (λ (cuts : ℕ → PassCut). length (nexts_by (kinds_of cuts) these i)) cuts_are
       ∙ sym (next_total-listed (shape_of w) i (item_below (shape_of w) i below))
 
   pub place_known : (i k : ℕ) → i < item_total m → k < next_total m i
-      → k < length (nexts (passes_in w.item_tables.items) (items_in w.item_tables.items) i)
+      → k < length (nexts (passes_in w.item_tables.own.items) (items_in w.item_tables.own.items) i)
   place_known i k below place = subst (λ n. k < n) (sym (nexts_are i below)) place
 
   pub next_is : (i k : ℕ) → i < item_total m → k < next_total m i
-      → get_or (nexts (passes_in w.item_tables.items) (items_in w.item_tables.items) i) k 0 ≡ next_at m i k
+      → get_or (nexts (passes_in w.item_tables.own.items) (items_in w.item_tables.own.items) i) k 0 ≡ next_at m i k
   next_is i k below place =
       let known = item_below (shape_of w) i below in
-      ap (λ (ys : List Item). get_or (nexts these ys i) k 0) small_items
-      ∙ ap (λ ps. get_or (nexts ps (items ps t (grain_of w)) i) k 0) (sym fit.passes)
+      ap (λ (ys : List Item). get_or (nexts (passes_in w.item_tables.own.items) ys i) k 0) items_same
+      ∙ ap (λ (cuts : ℕ → PassCut). get_or (nexts_by (kinds_of cuts) these i) k 0) cuts_are
       ∙ sym
       (next_at-listed (shape_of w) i k known (subst (λ n. k < n) (next_total-listed (shape_of w) i known) place))
 
   -- ---- steps
 
-  -- the steps of an item of a stage with these passes, where trees of this host are items
-  abbrev steps_with : Option ℕ → List Pass → Item → List Instance
-  steps_with host ps =
-      item_steps
-      (λ k. record {
-        cut = record { kind = (pass_in ps k).kind; is_whole = is_whole_at host t (grain_of w) };
-        visit = visit g t (pass_in ps k).attributes;
-        sequence = sequence g (placing_of s) (pass_place w.stage k) t;
-      })
-      t
-
-  -- what an item has, of small trees in the stage of the schedule
-  form_is : (i : ℕ) → item_steps (form_in w.item_tables s w.stage) t (item_in w.item_tables.items i) ≡ steps_of w i
-  form_is i =
-      ap (λ (host : Option ℕ). steps_with host these (get_or (with_host host) i no_item)) fit.no_host
-      ∙ ap (λ (ps : List Pass). steps_with None ps (get_or (items ps t (grain_of w)) i no_item)) (sym fit.passes)
-
-  pub steps_are : (i : ℕ) (cursor : ItemCursor) → IsCursorOf w.item_tables i cursor
-      → AreStepsOf g t (steps_of w i) (steps_left cursor)
+  pub steps_are : (i : ℕ) (cursor : NestCursor) → IsNestCursorOf w.item_tables i cursor
+      → AreStepsOf g t (steps_of w i) (nest_steps_left cursor)
   steps_are i cursor is =
-      subst (λ ys. AreStepsOf g t ys (steps_left cursor)) (form_is i) (is s w.stage fit.can.ordered.once fit.passes)
+      subst
+      (λ (ys : List Item). AreStepsOf g t (item_steps (forms_of w) t (get_or ys i no_item)) (nest_steps_left cursor))
+      items_same (is s w.stage fit.can.ordered.once fit.passes)
 
   pub count_is : (i : ℕ) (xs : List Step) → i < item_total m → AreStepsOf g t (steps_of w i) xs
       → length xs ≡ step_total m i
@@ -223,7 +210,7 @@ module _ (w : StageParts) (fit : IsStage w) where
     reads_are =
         ap (λ y. map (instance_number g t) (reads_of g t y)) at.target
         ∙ sym
-        (listed_map (instance_number g t) (reads_at g s t (grain_of w) w.stage i j) no_instance 0)
+        (listed_map (instance_number g t) (form_reads_at g t (count_of w) (forms_of w) i j) no_instance 0)
         ∙ sym (reads_of_step-listed (shape_of w) i j has)
 
     pub read_known : (k : ℕ) → k < read_total m i j → k < length (read_cells g t x)

@@ -32,6 +32,7 @@ use Rattle.ftl_tree.specs.contracts.rows.class_row.ClassRow as ClassRow
 use Rattle.ftl_tree.specs.contracts.rows.row.NodeRow as NodeRow
 use Rattle.ftl_tree.specs.contracts.trees.tree.Tree as Tree
 use Rattle.ftl_tree.specs.contracts.trees.tree.Tree.TheInside as tree_inside
+use Rattle.ftl_cursors.specs.contracts.items.by_host.TreeRows as TreeRows
 use Rattle.ftl_cursors.specs.contracts.items.columns.ItemRows as ItemRows
 use Rattle.ftl_schedule.proofs.stages.types.Pass.TheSendSync as pass
 use Rattle.ftl_cursors.specs.contracts.items.view.StageItems as StageItems
@@ -39,6 +40,11 @@ use Rattle.ftl_visit.proofs.passes.pass_visits.PassVisits.TheSendSync as visits
 use Rattle.ftl_visit.proofs.passes.rule_target.RuleTarget.TheSendSync as rule_target
 use Rattle.ftl_cursors.proofs.sequence.block_places.SequencePlaces.TheSendSync as places
 use Rattle.ftl_cursors.specs.contracts.item_cursor.item.ItemTables as ItemTables
+use Rattle.ftl_host_cursors.proofs.nest_rows.NestRows.TheSendSync as nest_rows
+use Rattle.ftl_host_cursors.specs.contracts.tables.NestTables as NestTables
+use Rattle.ftl_nest_check.proofs.places.placed.PlacedNests.TheSendSync as placed_nests
+use Rattle.ftl_nest_check.specs.contracts.check.accepted.AcceptedNests as AcceptedNests
+use Rattle.ftl_nest_check.specs.contracts.check.accepted.AcceptedNests.TheInside as accepted_nests_inside
 use Rattle.ftl_schedule.proofs.places.placed.Placed.TheSendSync as placed
 use Rattle.ftl_schedule.specs.contracts.check.accepted.Accepted as Accepted
 use Rattle.ftl_schedule.specs.contracts.check.accepted.Accepted.TheInside as accepted_inside
@@ -111,12 +117,18 @@ tree_sync κ = let all = tree_fields_sync κ in search sendable depth 30
 item_rows_sync : (κ : NamedLft) → IsSync (ItemRows.the_field κ).row
 item_rows_sync κ = search (tree_sync, Vec-sync, sendable) depth 30
 
+tree_rows_sync : (κ : NamedLft) → IsSync (TreeRows.the_field κ).row
+tree_rows_sync κ = search (tree_sync, item_rows_sync, Vec-sync, sendable) depth 30
+
 stage_items_sync : (κ : NamedLft) → IsSync (StageItems.the_field κ).row
-stage_items_sync κ = search (item_rows_sync, pass.the_sync, sendable) depth 30
+stage_items_sync κ = search (tree_rows_sync, pass.the_sync, sendable) depth 30
 
 item_tables_sync : (κ : NamedLft) → IsSync (ItemTables.the_field κ).row
 item_tables_sync κ =
     search (stage_items_sync, visits.the_sync, places.the_sync, rule_target.the_sync, sendable) depth 30
+
+nest_tables_sync : (κ : NamedLft) → IsSync (NestTables.the_field κ).row
+nest_tables_sync κ = search (item_tables_sync, nest_rows.the_sync, sendable) depth 30
 
 -- ---- the stage
 
@@ -126,11 +138,18 @@ accepted_fields_sync κ = (search (checked_sync, sendable), (placed.the_sync, tt
 accepted_sync : (κ : NamedLft) → IsSync (Accepted.the_field κ).row
 accepted_sync κ = let all = accepted_fields_sync κ in search sendable depth 30
 
+accepted_nests_fields_sync : (κ : NamedLft) → AllSync (fields (accepted_nests_inside.the_type κ))
+accepted_nests_fields_sync κ =
+    (search (checked_sync, sendable), (placed_nests.the_sync, (search (accepted_sync, sendable), tt)))
+
+accepted_nests_sync : (κ : NamedLft) → IsSync (AcceptedNests.the_field κ).row
+accepted_nests_sync κ = let all = accepted_nests_fields_sync κ in search sendable depth 30
+
 parts_sync : (κ : NamedLft) → IsSync (StageParts.the_field κ).row
 parts_sync κ =
     search (
-      item_tables_sync,
-      accepted_sync,
+      nest_tables_sync,
+      accepted_nests_sync,
       programs.the_sync,
       reads.the_field_sync,
       copy.the_sync,

@@ -1,19 +1,19 @@
 -- Which phase each item of a stage takes, where its cells are cut into ranges of one size.
-use Rattle.std.specs.Prelude.{◌≡◌, ℕ, ◌+◌, ◌*◌, ◌/◌, Bool, nat_le, if◌then◌else◌, List, flat_map, map, sum_by, take}
+use Rattle.std.specs.Prelude.{◌≡◌, ℕ, ◌+◌, ◌*◌, ◌/◌, Bool, nat_le, if◌then◌else◌, List, Option, flat_map, map, sum_by, take}
 use Rattle.std.specs.List.{range_with_len}
 use Rattle.ftl_deps.specs.reads.Meant.{meant}
-use Rattle.ftl_cursors.specs.items.RowsCut.{HasNoHost}
-use Rattle.ftl_cursors.specs.items.StageItems.{passes_in, tree_in}
+use Rattle.ftl_cursors.specs.items.StageItems.{hosts_in, passes_in, tree_of}
 use Rattle.ftl_cursors.specs.declared.items.columns.ItemRows.{ItemRows}
 use Rattle.ftl_cursors.specs.declared.items.view.StageItems.{StageItems}
 use Rattle.ftl_items.specs.stage_items.Cut.{PassCut, tops_by}
-use Rattle.ftl_items.specs.stage_items.Items.{passes_of}
 use Rattle.ftl_model.specs.layout.AttributeGrammar.{AttributeGrammar}
 use Rattle.ftl_model.specs.layout.Path.{Path, number_of, preorder, size_at}
 use Rattle.ftl_model.specs.layout.Table.{first_instance, width_at}
 use Rattle.ftl_model.specs.layout.Tree.{Forest}
 use Rattle.ftl_order.specs.orders.Schedule as order
 use Rattle.ftl_order.specs.orders.Schedule.{PassKind, bottomup, inorder, topdown}
+use Rattle.ftl_nests.specs.Nests.{NestingPass, NestingSchedule, host_of}
+use Rattle.ftl_host_cursors.specs.NestTables.{nesting_passes}
 use Rattle.ftl_plan.specs.laws.StageMeanings.{CanBePlanned, stage_meaning}
 use Rattle.ftl_cells.specs.work_phases.Phases.{CanTake}
 use Rattle.ftl_cells.specs.declared.work_phases.phase.Phase.{Phase}
@@ -23,6 +23,10 @@ use Rattle.ftl_cells.specs.declared.work_phases.phase.Phases.{Phases}
 -- the grammar
 abbrev pub grammar_in : ItemRows → AttributeGrammar
 grammar_in rows = meant rows.tree.now.checked
+
+-- that of a stage
+abbrev pub grammar_of_items : StageItems → AttributeGrammar
+grammar_of_items items = meant items.rows.now.tree.now.checked
 
 -- the first cell behind those of the tree at a node
 abbrev pub cells_end : AttributeGrammar → Forest → Path → ℕ
@@ -59,15 +63,22 @@ phases_to g cuts t size n =
 abbrev pub kinds_in : List order.Pass → List PassKind
 kinds_in passes = map (λ (p : order.Pass). p.kind) passes
 
--- each stage of a plan of this tree whose passes are of these kinds can take these phases
-abbrev pub CanBeTaken : AttributeGrammar → Forest → (grain : ℕ) → List PassKind → Phases → Type 0
-CanBeTaken g t grain kinds phases =
-    (s : order.Schedule) (stage max_stack : ℕ) → CanBePlanned g s t → kinds_in (passes_of s stage) ≡ kinds
-    → CanTake (stage_meaning g s t grain stage max_stack) phases
+-- those of a stage
+abbrev pub stage_kinds : NestingSchedule → (stage : ℕ) → List PassKind
+stage_kinds s stage = map (λ (p : NestingPass). p.kind) (nesting_passes s stage)
 
--- so can each stage that has such passes as these items, where small trees alone are one item
+-- and the host classes of its passes
+abbrev pub stage_hosts : NestingSchedule → (stage : ℕ) → List (Option ℕ)
+stage_hosts s stage = map (λ (p : NestingPass). host_of p.nest) (nesting_passes s stage)
+
+-- each stage of a plan of this tree whose passes are of these kinds and have these host classes can take these phases
+abbrev pub CanBeTaken : AttributeGrammar → Forest → (grain : ℕ) → List PassKind → List (Option ℕ) → Phases → Type 0
+CanBeTaken g t grain kinds hosts phases =
+    (s : NestingSchedule) (stage max_stack : ℕ) → CanBePlanned g s t → stage_kinds s stage ≡ kinds
+    → stage_hosts s stage ≡ hosts → CanTake (stage_meaning g s t grain stage max_stack) phases
+
+-- so can each stage that has such passes as these items
 abbrev pub FitItems : StageItems → Phases → Type 0
 FitItems items phases =
-    HasNoHost items.rows.now
-    → CanBeTaken (grammar_in items.rows.now) (tree_in items.rows.now) items.rows.now.grain (kinds_in (passes_in items))
+    CanBeTaken (grammar_of_items items) (tree_of items) items.rows.now.grain (kinds_in (passes_in items)) (hosts_in items)
     phases

@@ -2,15 +2,15 @@
 use Rattle.std.specs.Prelude.{◌≡◌, None, map}
 use Rattle.ftl_deps.specs.reads.Meant.{meant}
 use Rattle.ftl_limits.specs.reads.ReadTables.{AreTables, IsSound}
-use Rattle.ftl_cursors.specs.items.RowsCut.{HasNoHost}
 use Rattle.ftl_step_value.specs.neighbours.NeighbourParts.{AreNeighbourParts}
-use Rattle.ftl_schedule.specs.check.AcceptedSchedule.{IsAccepted}
-use Rattle.ftl_schedule.specs.stages.Stages.{stages_of}
+use Rattle.ftl_nests.specs.Nests.{outer_schedule}
+use Rattle.ftl_nest_check.specs.check.NestAccepted.{IsNestAccepted}
+use Rattle.ftl_nest_check.specs.stages.Nested.{nests_of}
 use Rattle.ftl_step_value.specs.value.RuleCopies.{AreCopies}
 use Rattle.ftl_limits.specs.faults.PlanFaults.{first_fault}
 use Rattle.ftl_visit.specs.passes.VisitRows.{target_of}
 use Rattle.ftl_plan.specs.plans.Planned.{MayBePlanned, PlanMeaning}
-use Rattle.ftl_plan.specs.plans.PlannedStages.{HaveRows}
+use Rattle.ftl_plan.specs.plans.PlannedStages.{AreStagesKept}
 use Rattle.ftl_plan.specs.declared.plans.plan.Plan.TheInside.{Inside}
 
 abbrev pub plan_inside : Inside → PlanMeaning
@@ -23,17 +23,17 @@ plan_inside p =
       grain = p.items.grain;
     }
 
--- all belong to one grammar, each stage has its rows, and there is no fault
+-- all belong to one grammar, of each stage is kept what it has, and there is no fault
 pub record IsPlan (p : Inside) : Type 0 where
   pub tree : p.tree.now.checked ≡ p.checked.now
-  pub accepted : IsAccepted p.checked.now p.accepted.now.schedule
+  pub accepted : IsNestAccepted p.checked.now p.accepted.now.schedule
   pub may : MayBePlanned (plan_inside p)
   pub sound : IsSound (meant p.checked.now)
   pub tables : AreTables (meant p.checked.now) p.tables
   pub items : p.items.tree.now ≡ p.tree.now
-  pub no_host : HasNoHost p.items
   pub targets : p.targets.items ≡ map target_of (meant p.checked.now).rules
   pub copies : AreCopies p.checked.now p.copies.items
   pub neighbours : AreNeighbourParts p.checked.now p.neighbours.items
-  pub rows : HaveRows (meant p.checked.now) p.items p.accepted.now.schedule.stages p.stages.items
-  pub no_fault : first_fault (meant p.checked.now) (stages_of p.accepted.now.schedule) p.tree.now.tree ≡ None
+  pub stages : AreStagesKept (meant p.checked.now) p.items p.accepted.now.schedule.stages p.stages.items
+  pub no_fault :
+      first_fault (meant p.checked.now) (outer_schedule (nests_of p.accepted.now.schedule)) p.tree.now.tree ≡ None

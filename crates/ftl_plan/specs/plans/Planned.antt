@@ -5,15 +5,16 @@ use Rattle.ftl_model.specs.layout.Tree.{Forest}
 use Rattle.ftl_meaning.specs.faults.Checked.{CheckedGrammar}
 use Rattle.ftl_deps.specs.reads.Meant.{meant}
 use Rattle.ftl_visit.specs.compiled.RuleCode.{Compiled, rule_codes}
-use Rattle.ftl_schedule.specs.stages.Stages.{stages_of}
-use Rattle.ftl_schedule.specs.declared.stages.types.Schedule.{Schedule}
+use Rattle.ftl_nest_check.specs.stages.Nested.{nests_of}
+use Rattle.ftl_nest_check.specs.declared.stages.types.NestingSchedule.{NestingSchedule}
+use Rattle.ftl_nests.specs.Nests.{outer_schedule}
 use Rattle.ftl_limits.specs.faults.PlanFaults.{first_fault}
 use Rattle.ftl_limits.specs.declared.faults.fault.PlanFault.{PlanFault}
 
 -- a grammar, a schedule, the code of the rules, a tree, and how many nodes an item has at most
 pub record PlanMeaning : Type 0 where
   pub checked : CheckedGrammar
-  pub schedule : Schedule
+  pub schedule : NestingSchedule
   pub programs : Compiled
   pub tree : Forest
   pub grain : ℕ
@@ -32,4 +33,4 @@ unless_fault (Some fault) p = Err fault
 
 -- the plan, or its first fault
 abbrev pub planned : PlanMeaning → Result PlanMeaning PlanFault
-planned p = unless_fault (first_fault (meant p.checked) (stages_of p.schedule) p.tree) p
+planned p = unless_fault (first_fault (meant p.checked) (outer_schedule (nests_of p.schedule)) p.tree) p

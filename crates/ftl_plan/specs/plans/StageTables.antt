@@ -1,12 +1,10 @@
 -- What a plan has of a stage.
 use Rattle.std.specs.Prelude.{◌≡◌, ℕ}
-use Rattle.ftl_cursors.specs.item_cursor.ItemSteps.{AreItemTables, forest_in}
-use Rattle.ftl_cursors.specs.declared.item_cursor.item.ItemTables.{ItemTables}
-use Rattle.ftl_cursors.specs.items.RowsCut.{HasNoHost}
-use Rattle.ftl_cursors.specs.items.StageItems.{passes_in}
-use Rattle.ftl_items.specs.stage_items.Items.{passes_of}
+use Rattle.ftl_cursors.specs.item_cursor.ItemSteps.{forest_in}
+use Rattle.ftl_host_cursors.specs.NestTables.{AreNestTables, AreOfStage}
+use Rattle.ftl_host_cursors.specs.declared.tables.NestTables.{NestTables}
+use Rattle.ftl_nest_check.specs.stages.Nested.{nests_of}
 use Rattle.ftl_plan.specs.plans.StageParts.{StageView}
-use Rattle.ftl_schedule.specs.stages.Stages.{stages_of}
 use Rattle.ftl_plan.specs.plans.Planned.{PlanMeaning}
 
 -- what a stage of a plan is known by
@@ -22,10 +20,9 @@ stage_in p stage =
     }
 
 -- the tables are those of this stage
-pub record AreTablesOf (p : PlanMeaning) (stage : ℕ) (x : ItemTables) : Type 0 where
-  pub checked : x.items.rows.now.tree.now.checked ≡ p.checked
-  pub tree : forest_in x ≡ p.tree
-  pub grain : x.items.rows.now.grain ≡ p.grain
-  pub no_host : HasNoHost x.items.rows.now
-  pub passes : passes_of (stages_of p.schedule) stage ≡ passes_in x.items
-  pub tables : AreItemTables x
+pub record AreTablesOf (p : PlanMeaning) (stage : ℕ) (x : NestTables) : Type 0 where
+  pub checked : x.own.items.rows.now.tree.now.checked ≡ p.checked
+  pub tree : forest_in x.own ≡ p.tree
+  pub grain : x.own.items.rows.now.grain ≡ p.grain
+  pub passes : AreOfStage x (nests_of p.schedule) stage
+  pub tables : AreNestTables x

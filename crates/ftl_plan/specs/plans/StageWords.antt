@@ -7,12 +7,12 @@ use Rattle.ftl_plan.specs.plans.Planned.{PlanMeaning}
 use Rattle.ftl_plan.specs.plans.StageParts.{meaning_at}
 use Rattle.ftl_plan.specs.plans.StageTables.{stage_in}
 use Rattle.ftl_items.specs.solution.Solution.{solution}
-use Rattle.ftl_schedule.specs.stages.Stages.{stages_of}
+use Rattle.ftl_nest_check.specs.stages.Nested.{nests_of}
 
 -- the words fit this stage, and where all stages are done they are the solution's
 pub record FitStage (p : PlanMeaning) (stage : ℕ) (words : List ℕ) : Type 0 where
   pub first : AreFirst (meaning_at (stage_in p stage)) words
-  pub done : stage ≡ length (stages_of p.schedule) → HoldTheSolution (solution (meant p.checked) p.tree) words
+  pub done : stage ≡ length (nests_of p.schedule) → HoldTheSolution (solution (meant p.checked) p.tree) words
 
 -- the words that close a stage fit the next
 abbrev pub FitTheNext : PlanMeaning → Type 0

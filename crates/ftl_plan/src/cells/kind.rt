@@ -4,18 +4,20 @@ ghost use Rattle.ftl_deps.specs.reads.Meant.{meant};
 ghost use Rattle.ftl_model.specs.layout.Table.{instance_count, instances};
 ghost use Rattle.ftl_limits.specs.reads.ReadTables.{AreTables, IsSound};
 ghost use Rattle.ftl_items.specs.stage_items.StageWork.{kind_by_stage, kind_of, no_instance};
-ghost use Rattle.ftl_schedule.specs.stages.Stages.{stages_of};
+ghost use Rattle.ftl_nests.specs.Nests.{outer_schedule};
+ghost use Rattle.ftl_nest_check.specs.stages.Nested.{nests_of};
 
 use crate::cells::node::attr_of_cell;
 use ftl_cells::CellKind;
 use ftl_limits::ReadTables;
-use ftl_schedule::{Accepted, is_input};
+use ftl_nest_check::AcceptedNests;
+use ftl_schedule::is_input;
 use ftl_tree::Tree;
 
-/// The kind of a cell in a stage: an input is given, and what is computed is given after its
+/// The kind of a cell in an outer stage: an input is given, and what is computed is given after its
 /// stage.
 pub fn cell_kind(
-    accepted: &Accepted<'_>,
+    accepted: &AcceptedNests<'_>,
     tables: &ReadTables,
     tree: &Tree<'_>,
     stage: u32,
@@ -24,14 +26,15 @@ pub fn cell_kind(
     requires sound { IsSound (meant tree.now.checked) }
     requires tables { AreTables (meant tree.now.checked) tables.now }
     requires cell { cell < instance_count (meant tree.now.checked) tree.now.tree }
-    ensures kind { result ≡ kind_of (meant tree.now.checked) (stages_of accepted.now.schedule) stage
+    ensures kind { result ≡ kind_of (meant tree.now.checked)
+        (outer_schedule (nests_of accepted.now.schedule)) stage
         (slice_index_or (instances (meant tree.now.checked) tree.now.tree) cell no_instance) }
 {
     let attr = attr_of_cell(tables, tree, cell);
     if is_input(tree.checked(), attr) {
         return CellKind::Given;
     }
-    kind_by_stage(accepted.schedule_place(attr).stage, stage as usize)
+    kind_by_stage(accepted.placed().outer(attr).stage, stage as usize)
 }
 
 /// The kind by the stage that computes the cell's attribute.

@@ -1,9 +1,9 @@
 //! The phases of all items of a stage.
 ghost use Rattle.std.specs.Prelude.{◌≡◌, ◌<◌, ◌≤◌, ◌++◌, length, IfOk, Some};
 ghost use Rattle.ftl_cursors.specs.items.RowsCut.{is_whole_in};
-ghost use Rattle.ftl_cursors.specs.items.StageItems.{cuts_in, passes_in, tree_in};
+ghost use Rattle.ftl_cursors.specs.items.StageItems.{cuts_in, passes_in, tree_in, tree_of};
 ghost use Rattle.ftl_schedule.specs.stages.Stages.{kind_of};
-ghost use Rattle.ftl_plan.specs.phases.StagePhases.{FitItems, grammar_in};
+ghost use Rattle.ftl_plan.specs.phases.StagePhases.{FitItems, grammar_in, grammar_of_items};
 ghost use Rattle.ftl_plan.specs.phases.StagePhases.{phases_of_pass, phases_to};
 ghost use Rattle.ftl_cells.specs.declared.work_phases.phase.Phases.{Phases};
 
@@ -60,14 +60,16 @@ fn is_worth(items: StageItems<'_>, visits: u64) -> bool {
 fn counted_phases(alloc: Global, items: StageItems<'_>, size: u32) -> Result<Counted, AllocError>
     requires some { 0 < size }
     requires few { size ≤ 33554433 }
-    ensures phases { IfOk result (λ v. v.phases.items ≡ phases_to (grammar_in items.entry.rows.now)
-        (cuts_in items.entry) (tree_in items.entry.rows.now) size
-        (length (passes_in items.entry))) }
+    ensures phases { IfOk result (λ v. v.phases.items ≡ phases_to (grammar_of_items items.entry)
+        (cuts_in items.entry) (tree_of items.entry) size (length (passes_in items.entry))) }
 {
     let mut phases = Vec::with_capacity(alloc, items.item_count() as usize)?;
     let mut visits: u64 = 0;
-    for pass in items.passes {
-        visits = visits.saturating_add(push_pass(items.rows, pass.kind, size, &mut phases)?);
+    let count = items.passes.len() as u32;
+    for pass in 0..count {
+        let rows = items.rows_of(pass);
+        let kind = items.passes[pass as usize].kind;
+        visits = visits.saturating_add(push_pass(rows, kind, size, &mut phases)?);
     }
     Ok(Counted { phases, visits })
 }

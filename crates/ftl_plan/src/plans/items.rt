@@ -9,7 +9,7 @@ use crate::cells::cell_kind;
 use crate::laws::stages_are_lawful;
 use crate::plans::parts::StageParts;
 use ftl_cells::CellKind;
-use ftl_cursors::step_count;
+use ftl_host_cursors::step_count;
 
 impl<'a> StageParts<'a> {
     pub(crate) fn items(&self) -> u32
@@ -18,7 +18,7 @@ impl<'a> StageParts<'a> {
         ensures lawful { IsLawfulWork (meaning_of self.now) }
     {
         stages_are_lawful();
-        self.item_tables.items.item_count()
+        self.item_tables.own.items.item_count()
     }
 
     pub(crate) fn cells(&self) -> u32
@@ -47,7 +47,7 @@ impl<'a> StageParts<'a> {
         requires item { item < item_total (meaning_of self.now) }
         ensures count { result ≡ pred_total (meaning_of self.now) item }
     {
-        self.item_tables.items.pred_count(item)
+        self.item_tables.own.items.pred_count(item)
     }
 
     pub(crate) fn next_count(&self, item: u32) -> u32
@@ -55,7 +55,7 @@ impl<'a> StageParts<'a> {
         requires item { item < item_total (meaning_of self.now) }
         ensures count { result ≡ next_total (meaning_of self.now) item }
     {
-        self.item_tables.items.next_count(item)
+        self.item_tables.own.items.next_count(item)
     }
 
     pub(crate) fn next(&self, item: u32, k: u32) -> u32
@@ -64,7 +64,7 @@ impl<'a> StageParts<'a> {
         requires place { k < next_total (meaning_of self.now) item }
         ensures next { result ≡ next_at (meaning_of self.now) item k }
     {
-        self.item_tables.items.next(item, k)
+        self.item_tables.own.items.next(item, k)
     }
 
     pub(crate) fn step_count(&self, item: u32) -> u32

@@ -1,5 +1,5 @@
-//! Plans of a layout. Goes in: a checked grammar, a schedule that was accepted for it, the code of
-//! its rules and a tree. Comes out: `Plan`, or its first fault, which `specs/plans/Planned.antt`
+//! Plans of a layout. Goes in: a checked grammar, a schedule that was accepted for it, whose passes
+//! may nest others, the code of its rules and a tree. Comes out: `Plan`, or its first fault, which `specs/plans/Planned.antt`
 //! has; the words of the cells before the first stage; each stage as lawful work, `StageWork`,
 //! which means what `laws` says that the stage means and drives a filler through an item with each
 //! step made once; and the words of the values that solve the tree, computed by one thread, stage
@@ -10,9 +10,12 @@
 
 mod alone;
 mod fitting;
+mod hosts;
 mod items;
+mod kept;
 mod meant;
 mod parts;
+mod passes;
 mod phases;
 mod plan;
 mod running;
@@ -23,6 +26,7 @@ mod work;
 
 pub use alone::solve_alone;
 pub use ftl_limits::PlanFault;
+pub use kept::PlanStage;
 pub use parts::StageParts;
 pub use phases::KindPhases;
 pub use plan::Plan;

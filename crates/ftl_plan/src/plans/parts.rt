@@ -1,15 +1,16 @@
 //! What the work of a stage is made of.
 ghost use Rattle.std.specs.Prelude.{◌≡◌, ◌<◌};
 ghost use Rattle.ftl_cells.specs.shared.Work.{IsStepOfItem, item_total};
-ghost use Rattle.ftl_cursors.specs.item_cursor.ItemSteps.{AreStepsOf, steps_left};
+ghost use Rattle.ftl_cursors.specs.item_cursor.ItemSteps.{AreStepsOf};
+ghost use Rattle.ftl_host_cursors.specs.NestTables.{nest_steps_left};
 ghost use Rattle.ftl_plan.specs.plans.StageParts.{IsStage, IsStepAt, grammar_of, meaning_of};
 ghost use Rattle.ftl_plan.specs.plans.StageParts.{steps_of};
 ghost use Rattle.ftl_plan.specs.plans.StageParts.{tree_of};
 
-use ftl_cursors::{ItemCursor, ItemTables, item_steps, step_at};
+use ftl_host_cursors::{NestCursor, NestTables, item_steps, step_at};
 use ftl_limits::ReadTables;
+use ftl_nest_check::AcceptedNests;
 use ftl_order::Step;
-use ftl_schedule::Accepted;
 use ftl_step_value::{NeighbourParts, RuleCopy};
 use ftl_tree::Tree;
 use ftl_visit::Programs;
@@ -17,10 +18,10 @@ use ftl_visit::Programs;
 /// What a plan keeps, for one stage.
 #[derive(Clone, Copy)]
 pub struct StageParts<'a> {
-    pub accepted: &'a Accepted<'a>,
+    pub accepted: &'a AcceptedNests<'a>,
     pub programs: &'a Programs,
     pub read_tables: &'a ReadTables,
-    pub item_tables: ItemTables<'a>,
+    pub item_tables: NestTables<'a>,
     pub copies: &'a [RuleCopy],
     pub neighbours: &'a [NeighbourParts],
     pub stage: u32,
@@ -29,17 +30,17 @@ pub struct StageParts<'a> {
 impl<'a> StageParts<'a> {
     /// The tree.
     pub(crate) fn tree(&self) -> &'a Tree<'a>
-        ensures tree { result.now ≡ self.now.item_tables.items.rows.now.tree.now }
+        ensures tree { result.now ≡ self.now.item_tables.own.items.rows.now.tree.now }
     {
-        self.item_tables.items.rows.tree
+        self.item_tables.own.items.rows.tree
     }
 
     /// The steps of an item, from the first on.
-    pub(crate) fn cursor(&self, item: u32) -> ItemCursor<'a>
+    pub(crate) fn cursor(&self, item: u32) -> NestCursor<'a>
         requires fit { IsStage self.now }
         requires item { item < item_total (meaning_of self.now) }
         ensures steps { AreStepsOf (grammar_of self.now) (tree_of self.now)
-            (steps_of self.now item) (steps_left result) }
+            (steps_of self.now item) (nest_steps_left result) }
     {
         item_steps(self.item_tables, item)
     }

@@ -1,20 +1,26 @@
-//! The phases of the items of stages, made once for stages whose passes are of the same kinds.
+//! The phases of the items of stages, made once for stages whose passes are of the same kinds and have
+//! the same host classes.
 ghost use Rattle.std.specs.Prelude.{◌≡◌, ◌<◌, length, map, true, IfOk, IfSome, OnOk};
 ghost use Rattle.std.specs.List.{All};
-ghost use Rattle.ftl_plan.specs.plans.KindPhases.{AreOfKinds, CanTakeAt, FitKinds};
-ghost use Rattle.ftl_plan.specs.plans.KindPhases.{kinds_at, kinds_of_passes, kinds_told};
+ghost use Rattle.ftl_cursors.specs.items.StageItems.{hosts_in, passes_in};
+ghost use Rattle.ftl_plan.specs.phases.StagePhases.{kinds_in};
+ghost use Rattle.ftl_plan.specs.plans.KindPhases.{AreOfKinds, CanTakeAt, FitKinds, hosts_at};
+ghost use Rattle.ftl_plan.specs.plans.KindPhases.{kinds_at, kinds_told};
 
 use crate::phases::stage_phases;
 use crate::plans::work::StageWork;
 use ftl_cells::Phases;
+use ftl_cursors::StageItems;
+use ftl_cursors::items::is_one_host;
 use ftl_schedule::{Pass, PassKind};
 use std::alloc::{AllocError, Global};
 
-/// The phases of the items of a stage whose passes are of these kinds, or None where ranges don't
-/// pay.
+/// The phases of the items of a stage whose passes are of these kinds and have these host classes, or
+/// None where ranges don't pay.
 #[derive(Drop)]
 pub struct KindPhases {
     pub kinds: Vec<PassKind>,
+    pub hosts: Vec<Option<u32>>,
     pub phases: Option<Phases>,
 }
 
@@ -23,8 +29,8 @@ const MOST_KEPT: usize = 4;
 
 impl<'a> StageWork<'a> {
     /// The place among those kept of the phases of the items, for so many ranges of the cells:
-    /// those of an earlier stage with passes of the same kinds, which must have been made for as
-    /// many ranges, or those made and kept now.
+    /// those of an earlier stage with passes of the same kinds and host classes, which must have been
+    /// made for as many ranges, or those made and kept now.
     pub fn phases(
         &self,
         alloc: Global,
@@ -37,8 +43,8 @@ impl<'a> StageWork<'a> {
         ensures place { IfOk result (λ p. p < length kept.new.items) }
         ensures phases { IfOk result (CanTakeAt self.now kept.new.items) }
     {
-        let passes = self.parts.item_tables.items.passes;
-        if let Some(place) = place_of(passes, kept.as_slice()) {
+        let items = self.parts.item_tables.own.items;
+        if let Some(place) = place_of(items, kept.as_slice()) {
             return Ok(place);
         }
         let made = self.made_phases(alloc, ranges)?;
@@ -52,11 +58,17 @@ impl<'a> StageWork<'a> {
         requires some { 0 < ranges }
         ensures fit { IfOk result (FitKinds self.now) }
         ensures kinds { IfOk result (λ k. kinds_told k ≡ kinds_at self.now) }
+        ensures hosts { IfOk result (λ k. k.hosts.items ≡ hosts_at self.now) }
     {
-        let items = self.parts.item_tables.items;
+        let items = self.parts.item_tables.own.items;
         let phases = stage_phases(alloc, items, ranges)?;
         let kinds = kinds_of(alloc, items.passes)?;
-        Ok(KindPhases { kinds, phases })
+        let hosts = hosts_of(alloc, items)?;
+        Ok(KindPhases {
+            kinds,
+            hosts,
+            phases,
+        })
     }
 }
 
@@ -71,16 +83,53 @@ fn kinds_of(alloc: Global, passes: &[Pass]) -> Result<Vec<PassKind>, AllocError>
     Ok(kinds)
 }
 
-/// The place of the first of those kept that are of the kinds of these passes.
-fn place_of(passes: &[Pass], kept: &[KindPhases]) -> Option<usize>
-    ensures place { IfSome result (AreOfKinds kept.now (kinds_of_passes passes.now)) }
+/// The host classes of the passes of a stage.
+fn hosts_of(alloc: Global, items: StageItems<'_>) -> Result<Vec<Option<u32>>, AllocError>
+    ensures hosts { IfOk result (λ v. v.items ≡ hosts_in items.entry) }
+{
+    let mut hosts = Vec::with_capacity(alloc, items.passes.len())?;
+    let count = items.passes.len() as u32;
+    for pass in 0..count {
+        hosts.push(items.host(pass))?;
+    }
+    Ok(hosts)
+}
+
+/// The place of the first of those kept that are for the kinds and host classes of this stage.
+fn place_of(items: StageItems<'_>, kept: &[KindPhases]) -> Option<usize>
+    ensures place { IfSome result
+        (AreOfKinds kept.now (kinds_in (passes_in items.entry)) (hosts_in items.entry)) }
 {
     for place in 0..kept.len() {
-        if are_of(passes, kept[place].kinds.as_slice()) {
+        if is_for(items, &kept[place]) {
             return Some(place);
         }
     }
     None
+}
+
+/// Whether the phases are for the kinds and host classes of this stage.
+fn is_for(items: StageItems<'_>, kept: &KindPhases) -> bool
+    ensures kinds { result ≡ true → kept.now.kinds.items ≡ map (λ p. p.kind) items.entry.passes.now }
+    ensures hosts { result ≡ true → kept.now.hosts.items ≡ hosts_in items.entry }
+{
+    are_of(items.passes, kept.kinds.as_slice()) && have_hosts(items, kept.hosts.as_slice())
+}
+
+/// Whether the passes of a stage have these host classes.
+fn have_hosts(items: StageItems<'_>, hosts: &[Option<u32>]) -> bool
+    ensures hosts { result ≡ true → hosts.now ≡ hosts_in items.entry }
+{
+    if items.passes.len() != hosts.len() {
+        return false;
+    }
+    let count = items.passes.len() as u32;
+    for pass in 0..count {
+        if !is_one_host(hosts[pass as usize], items.host(pass)) {
+            return false;
+        }
+    }
+    true
 }
 
 /// Whether the passes are of these kinds.

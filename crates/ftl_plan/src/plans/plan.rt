@@ -6,19 +6,22 @@ ghost use Rattle.ftl_model.specs.layout.Outcome.{Gives};
 ghost use Rattle.ftl_model.specs.layout.Table.{instance_count};
 ghost use Rattle.ftl_model.specs.layout.Tree.{size};
 ghost use Rattle.ftl_plan.specs.laws.StageMeanings.{CanBePlanned};
-ghost use Rattle.ftl_schedule.specs.stages.Stages.{stages_of};
+ghost use Rattle.ftl_nest_check.specs.stages.Nested.{nests_of};
 ghost use Rattle.ftl_plan.specs.plans.Planned.{MayBePlanned, planned};
 ghost use Rattle.ftl_plan.specs.plans.StageTables.{AreTablesOf, stage_in};
 ghost use Rattle.ftl_limits.specs.declared.faults.fault.PlanFault.TheVariants.{OutOfMemory};
 
+use crate::plans::hosts::nest_hosts;
+use crate::plans::kept::PlanStage;
 use crate::plans::parts::StageParts;
-use crate::plans::stages::rows_of_stages;
+use crate::plans::stages::kept_stages;
 use crate::plans::words::first_words;
 use crate::plans::work::StageWork;
 use ftl_checked::Checked;
-use ftl_cursors::{ItemRows, ItemTables, StageItems, StageRows};
+use ftl_cursors::{ItemTables, StageItems, TreeRows};
+use ftl_host_cursors::NestTables;
 use ftl_limits::{PlanFault, ReadTables, first_fault, is_sound};
-use ftl_schedule::Accepted;
+use ftl_nest_check::AcceptedNests;
 use ftl_step_value::{NeighbourParts, RuleCopy, neighbour_parts, rule_copies};
 use ftl_tree::Tree;
 use ftl_visit::{Programs, RuleTarget, rule_targets};
@@ -26,20 +29,20 @@ use std::alloc::{AllocError, Global};
 use std::marker::Model;
 
 /// The stages of a tree. It borrows what it is made of, and keeps no list of steps: for each class
-/// and pass what a visit does, for each rule what its steps copy and read, and for each node where
-/// items begin.
+/// and pass what a visit does, for each rule what its steps copy and read, and for each node and host
+/// class where items begin.
 #[derive(Drop)]
 pub struct Plan<'a> {
     checked: &'a Checked,
-    accepted: &'a Accepted<'a>,
+    accepted: &'a AcceptedNests<'a>,
     programs: &'a Programs,
     tree: &'a Tree<'a>,
     tables: ReadTables,
-    items: ItemRows<'a>,
+    items: TreeRows<'a>,
     targets: Vec<RuleTarget>,
     copies: Vec<RuleCopy>,
     neighbours: Vec<NeighbourParts>,
-    stages: Vec<StageRows>,
+    stages: Vec<PlanStage>,
 }
 
 impl<'a> Model for Plan<'a> {
@@ -65,7 +68,7 @@ impl<'a> Plan<'a> {
     pub fn new(
         alloc: Global,
         checked: &'a Checked,
-        accepted: &'a Accepted<'a>,
+        accepted: &'a AcceptedNests<'a>,
         programs: &'a Programs,
         tree: &'a Tree<'a>,
         grain: u32,
@@ -90,19 +93,16 @@ impl<'a> Plan<'a> {
         is_sound(checked);
         let tables = ReadTables::new(alloc, checked)?;
         let _limits = accepted.schedule();
-        if let Some(fault) = first_fault(alloc, &tables, accepted.placed(), tree)? {
+        if let Some(fault) = first_fault(alloc, &tables, accepted.placed().outer_placed(), tree)? {
             return Err(fault);
         }
-        let items = ItemRows::new(alloc, tree, grain, None)?;
+        let all = accepted.schedule().stages.as_slice();
+        let hosts = nest_hosts(alloc, all)?;
+        let items = TreeRows::new(alloc, tree, grain, hosts.as_slice())?;
         let targets = rule_targets(alloc, checked)?;
         let copies = rule_copies(alloc, programs, &tables, checked)?;
         let neighbours = neighbour_parts(alloc, &tables, checked)?;
-        let stages = rows_of_stages(
-            alloc,
-            checked,
-            &items,
-            accepted.schedule().stages.as_slice(),
-        )?;
+        let stages = kept_stages(alloc, checked, &items, all)?;
         Ok(Plan {
             checked,
             accepted,
@@ -117,10 +117,10 @@ impl<'a> Plan<'a> {
         })
     }
 
-    /// How many stages the schedule has.
+    /// How many outer stages the schedule has.
     pub fn stage_count(&self) -> u32
-        ensures count { result ≡ length (stages_of self.now.schedule) }
-        ensures plan { CanBePlanned (meant self.now.checked) (stages_of self.now.schedule)
+        ensures count { result ≡ length (nests_of self.now.schedule) }
+        ensures plan { CanBePlanned (meant self.now.checked) (nests_of self.now.schedule)
             self.now.tree }
     {
         let _nodes = self.tree.node_count();
@@ -144,7 +144,7 @@ impl<'a> Plan<'a> {
 
     /// The work of a stage. It borrows the plan, and takes no memory.
     pub fn stage(&self, stage: u32) -> StageWork<'_>
-        requires stage { stage < length (stages_of self.now.schedule) }
+        requires stage { stage < length (nests_of self.now.schedule) }
         ensures stage { result ≡ stage_in self.now stage }
     {
         let _stages = self.stage_count();
@@ -154,7 +154,7 @@ impl<'a> Plan<'a> {
             accepted: self.accepted,
             programs: self.programs,
             read_tables: &self.tables,
-            item_tables: self.item_tables(stage),
+            item_tables: self.nest_tables(stage),
             copies,
             neighbours,
             stage,
@@ -162,20 +162,25 @@ impl<'a> Plan<'a> {
     }
 
     /// The items of a stage, with what their steps are told by.
-    fn item_tables(&self, stage: u32) -> ItemTables<'_>
-        requires stage { stage < length (stages_of self.now.schedule) }
+    fn nest_tables(&self, stage: u32) -> NestTables<'_>
+        requires stage { stage < length (nests_of self.now.schedule) }
         ensures tables { AreTablesOf self.now stage result }
     {
         let stages = self.stages.as_slice();
-        let rows = &stages[stage as usize];
-        let passes = self.accepted.schedule().stages.as_slice()[stage as usize]
-            .passes
-            .as_slice();
-        ItemTables {
-            items: StageItems::new(&self.items, passes, rows.starts.as_slice()),
-            visits: rows.visits.as_slice(),
-            places: rows.places.as_slice(),
-            targets: self.targets.as_slice(),
+        let kept = &stages[stage as usize];
+        NestTables {
+            own: ItemTables {
+                items: StageItems::new(
+                    &self.items,
+                    kept.passes.as_slice(),
+                    kept.rows.cuts.as_slice(),
+                    kept.rows.starts.as_slice(),
+                ),
+                visits: kept.rows.tables.visits.as_slice(),
+                places: kept.rows.tables.places.as_slice(),
+                targets: self.targets.as_slice(),
+            },
+            nests: kept.nests.as_slice(),
         }
     }
 

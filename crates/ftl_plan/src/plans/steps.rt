@@ -6,9 +6,9 @@ ghost use Rattle.ftl_step_value.specs.cells.ReadCells.{filled_cell, read_cells};
 ghost use Rattle.ftl_order.specs.steps.Steps.{IsStepOf};
 ghost use Rattle.ftl_plan.specs.plans.StageParts.{IsStage, grammar_of, meaning_of, tree_of};
 
+use crate::laws::solution_of_plans;
 use crate::plans::parts::StageParts;
 use ftl_base::{CodeStack, Val};
-use ftl_items::solution_solves;
 use ftl_order::Step;
 use ftl_step_value::{read_at, read_count, step_value, target_cell};
 
@@ -65,7 +65,7 @@ impl<'a> StageParts<'a> {
             (filled_cell (grammar_of self.now) (tree_of self.now) step) }
         ensures room { stack.new.room ≡ stack.old.room }
     {
-        solution_solves();
+        solution_of_plans();
         step_value(
             self.programs,
             self.read_tables,

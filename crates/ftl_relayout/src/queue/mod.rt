@@ -4,6 +4,7 @@
 //! computed, by which all can be taken back. `specs/queue/Nets.antt` says what rules are asked to
 //! be.
 
+mod later;
 mod laws;
 mod rules;
 mod run;

@@ -98,7 +98,8 @@ fn compute(
     ensures computed_within { All (λ b. b.cell < length values.new) computed.new.items }
 {
     let _nodes = readers.tree.node_count();
-    let mut waiting = Waiting::new(alloc);
+    let stages = readers.accepted.schedule().stages.len();
+    let mut waiting = Waiting::new(alloc, stages)?;
     write_inputs(readers.tree, edits, values, inputs)?;
     add_due(readers, values, edits, &mut waiting)?;
     run_all(rules, values, &mut waiting, computed)?;

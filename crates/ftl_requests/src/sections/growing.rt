@@ -12,8 +12,8 @@ ghost use Rattle.ftl_deps.specs.reads.Meant.{meant};
 ghost use Rattle.ftl_document.specs.declared.faults.fault.DocFault.TheVariants as faults;
 ghost use Rattle.ftl_limits.specs.faults.PlanFaults.{first_fault};
 ghost use Rattle.ftl_answer.specs.refusals.DocumentLines.{document_line};
-ghost use Rattle.ftl_nest_check.specs.check.WithoutNests.{without_nests};
 ghost use Rattle.ftl_nest_check.specs.stages.Nested.{nests_of};
+ghost use Rattle.ftl_nests.specs.Nests.{outer_schedule};
 
 use crate::sections::decision::{Undecided, refused};
 use crate::sections::limits::within_limits;
@@ -36,14 +36,13 @@ pub fn tree_of<'a>(
     accepted: &AcceptedNests<'_>,
     text: String,
 ) -> Result<Tree<'a>, Undecided>
-    requires accepted { accepted.now.checked ≡ checked.now }
     requires short { string_len text ≤ most_page_bytes }
     ensures outcome { IsOutcome (tree checked.now accepted.now.schedule (string_bytes text))
         (λ t. t.tree) result }
     ensures grammar { IfOk result (λ t. t.checked ≡ checked.now) }
     // what a plan of it asks for
     ensures fits { IfOk result (λ t. first_fault (meant checked.now)
-        (without_nests (nests_of accepted.now.schedule)) t.tree ≡ None) }
+        (outer_schedule (nests_of accepted.now.schedule)) t.tree ≡ None) }
 {
     match grown_tree_of(alloc, checked, text) {
         Ok(tree) => within_limits(alloc, checked, accepted, tree),

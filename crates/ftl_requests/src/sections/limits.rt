@@ -7,13 +7,11 @@ ghost use Rattle.ftl_requests.specs.sections.Outcomes.{Ends, IsOutcome};
 ghost use Rattle.ftl_deps.specs.reads.Meant.{meant};
 ghost use Rattle.ftl_limits.specs.faults.PlanFaults.{first_fault};
 ghost use Rattle.ftl_answer.specs.refusals.PlanLines.{plan_line};
-ghost use Rattle.ftl_nest_check.specs.check.WithoutNests.{without_nests};
 ghost use Rattle.ftl_nest_check.specs.stages.Nested.{nests_of};
 ghost use Rattle.ftl_nests.specs.Nests.{outer_schedule};
 
 use crate::sections::decision::{Undecided, refused};
 use crate::sections::status::Status;
-use ftl_answer::answers::flat_limits;
 use ftl_answer::write_plan_fault;
 use ftl_checked::Checked;
 use ftl_limits::{PlanFault, ReadTables, first_fault};
@@ -28,34 +26,17 @@ pub(crate) fn within_limits<'a>(
     accepted: &AcceptedNests<'_>,
     tree: Tree<'a>,
 ) -> Result<Tree<'a>, Undecided>
-    requires accepted { accepted.now.checked ≡ checked.now }
     requires grammar { tree.checked ≡ checked.now }
     ensures outcome { IsOutcome (planned_tree checked.now accepted.now.schedule tree.entry.tree)
         (λ t. t.tree) result }
     ensures grammar { IfOk result (λ t. t.checked ≡ checked.now) }
     ensures fits { IfOk result (λ t. first_fault (meant checked.now)
-        (without_nests (nests_of accepted.now.schedule)) t.tree ≡ None) }
+        (outer_schedule (nests_of accepted.now.schedule)) t.tree ≡ None) }
 {
-    fits_without_nests(checked, accepted, &tree);
     match fault_of(alloc, checked, accepted, &tree)? {
         Some(fault) => Err(plan_refused(alloc, fault)),
         None => Ok(tree),
     }
-}
-
-/// Says that no stage of the schedule without nests reads too much, where no outer stage does.
-fn fits_without_nests(checked: &Checked, accepted: &AcceptedNests<'_>, tree: &Tree<'_>)
-    requires accepted { accepted.now.checked ≡ checked.now }
-    requires grammar { tree.now.checked ≡ checked.now }
-    ensures fits { first_fault (meant checked.now)
-        (outer_schedule (nests_of accepted.now.schedule)) tree.now.tree ≡ None
-        → first_fault (meant checked.now)
-        (without_nests (nests_of accepted.now.schedule)) tree.now.tree ≡ None }
-{
-    flat_limits();
-    let _lawful = checked.grammar();
-    let _ordered = accepted.schedule();
-    let _is_tree = tree.node_count();
 }
 
 /// The first outer stage that reads too much; none where there is none.

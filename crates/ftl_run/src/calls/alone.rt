@@ -15,8 +15,9 @@ ghost use Rattle.ftl_requests.specs.sections.Outcomes.{answer_of};
 ghost use Rattle.ftl_run.specs.calls.SolvedPages.{AreReady, IsShort, IsTaskReady, document_stage};
 ghost use Rattle.ftl_run.specs.calls.SolvedPages.{rules_stage, task_stage};
 ghost use Rattle.ftl_run.specs.declared.calls.task.Task.TheVariants.{Edit};
+ghost use Rattle.ftl_nest_check.specs.stages.Nested.{nests_of};
+ghost use Rattle.ftl_nests.specs.Nests.{outer_schedule};
 ghost use Rattle.ftl_visit.specs.compiled.RuleCode.{rule_codes};
-ghost use Rattle.ftl_schedule.specs.stages.Stages.{stages_of};
 
 use crate::calls::change::edited_shown;
 use crate::calls::demand::page_by_demand;
@@ -34,7 +35,6 @@ use ftl_requests::{
     Decided, EditedPage, Evaluation, Problem, Request, Shown, Undecided, Undone, edits_of, ended,
     schedule_of, tree_of,
 };
-use ftl_schedule::Accepted;
 use ftl_tree::Tree;
 use ftl_visit::{Programs, compile};
 use std::alloc::{AllocError, Global};
@@ -132,7 +132,7 @@ fn solved_document(
         (string_bytes document) task) result }
 {
     match tree_of(alloc, checked, accepted, document) {
-        Ok(tree) => solved_tree(alloc, task, grain, checked, accepted.flat(), tree),
+        Ok(tree) => solved_tree(alloc, task, grain, checked, accepted, tree),
         Err(end) => Err(end),
     }
 }
@@ -142,14 +142,14 @@ fn solved_tree(
     task: Task,
     grain: u32,
     checked: &Checked,
-    accepted: &Accepted<'_>,
+    accepted: &AcceptedNests<'_>,
     tree: Tree<'_>,
 ) -> Result<Decided, Undecided>
     requires accepted { accepted.now.checked ≡ checked.now }
     requires edits { IsTaskReady task }
     requires grammar { tree.checked ≡ checked.now }
-    requires fits { first_fault (meant checked.now) (stages_of accepted.now.schedule) tree.tree
-        ≡ None }
+    requires fits { first_fault (meant checked.now)
+        (outer_schedule (nests_of accepted.now.schedule)) tree.tree ≡ None }
     ensures outcome { EndsIn (task_stage task checked.now tree.entry.tree) result }
 {
     match task {
@@ -164,13 +164,13 @@ fn tree_shown(
     shown: &Shown,
     grain: u32,
     checked: &Checked,
-    accepted: &Accepted<'_>,
+    accepted: &AcceptedNests<'_>,
     tree: &Tree<'_>,
 ) -> Result<Decided, AllocError>
     requires accepted { accepted.now.checked ≡ checked.now }
     requires grammar { tree.now.checked ≡ checked.now }
-    requires fits { first_fault (meant checked.now) (stages_of accepted.now.schedule) tree.now.tree
-        ≡ None }
+    requires fits { first_fault (meant checked.now)
+        (outer_schedule (nests_of accepted.now.schedule)) tree.now.tree ≡ None }
     ensures outcome { IfOk result (λ d. shown_by (text_shown shown.now) tree.now.checked
         tree.now.tree (ends (answer_of d))) }
 {
@@ -185,14 +185,14 @@ fn edited_tree(
     text: Option<Text>,
     grain: u32,
     checked: &Checked,
-    accepted: &Accepted<'_>,
+    accepted: &AcceptedNests<'_>,
     tree: Tree<'_>,
 ) -> Result<Decided, Undecided>
     requires accepted { accepted.now.checked ≡ checked.now }
     requires short { IsShort text }
     requires grammar { tree.checked ≡ checked.now }
-    requires fits { first_fault (meant checked.now) (stages_of accepted.now.schedule) tree.tree
-        ≡ None }
+    requires fits { first_fault (meant checked.now)
+        (outer_schedule (nests_of accepted.now.schedule)) tree.tree ≡ None }
     ensures outcome { EndsIn (task_stage (Edit text) checked.now tree.entry.tree) result }
 {
     match edits_of(alloc, checked, &tree, text_of(alloc, text)) {
@@ -206,20 +206,28 @@ fn changed_tree(
     edits: &EditList,
     grain: u32,
     checked: &Checked,
-    accepted: &Accepted<'_>,
+    accepted: &AcceptedNests<'_>,
     tree: Tree<'_>,
 ) -> Result<Decided, AllocError>
     requires accepted { accepted.now.checked ≡ checked.now }
     requires edits { AreEditsOf tree edits.now }
     requires grammar { tree.checked ≡ checked.now }
-    requires fits { first_fault (meant checked.now) (stages_of accepted.now.schedule) tree.tree
-        ≡ None }
+    requires fits { first_fault (meant checked.now)
+        (outer_schedule (nests_of accepted.now.schedule)) tree.tree ≡ None }
     ensures outcome { IfOk result (λ d. edited_by tree.entry.checked tree.entry.tree edits.now
         (ends (answer_of d))) }
 {
     let programs = compile(alloc, checked)?;
     let words = words_alone(alloc, grain, checked, accepted, &programs, &tree)?;
-    edited_shown(alloc, checked, accepted, &programs, tree, words, edits)
+    edited_shown(
+        alloc,
+        checked,
+        accepted.flat(),
+        &programs,
+        tree,
+        words,
+        edits,
+    )
 }
 
 /// The words of the values that solve a tree.
@@ -227,7 +235,7 @@ fn words_alone(
     alloc: Global,
     grain: u32,
     checked: &Checked,
-    accepted: &Accepted<'_>,
+    accepted: &AcceptedNests<'_>,
     programs: &Programs,
     tree: &Tree<'_>,
 ) -> Result<Vec<u64>, AllocError>
@@ -235,8 +243,8 @@ fn words_alone(
     requires rules { programs.now.rules ≡ rule_codes checked.now.grammar }
     requires width { programs.now.width ≡ checked.now.width }
     requires grammar { tree.now.checked ≡ checked.now }
-    requires fits { first_fault (meant checked.now) (stages_of accepted.now.schedule) tree.now.tree
-        ≡ None }
+    requires fits { first_fault (meant checked.now)
+        (outer_schedule (nests_of accepted.now.schedule)) tree.now.tree ≡ None }
     ensures solved { IfOk result (λ v. IsSolvedBy tree.now v.items) }
 {
     let plan = plan_of(alloc, grain, checked, accepted, programs, tree)?;

@@ -13,15 +13,17 @@ ghost use Rattle.ftl_demand.specs.demand.Solved.{IsSolvedBy};
 ghost use Rattle.ftl_run.specs.calls.SolvedPages.{IsPageReady, LeadsTo};
 ghost use Rattle.ftl_requests.specs.sections.Outcomes.{IsOutcome};
 ghost use Rattle.ftl_items.specs.solution.Solution.{solution};
-ghost use Rattle.ftl_schedule.specs.stages.Stages.{stages_of};
+ghost use Rattle.ftl_nest_check.specs.stages.Nested.{nests_of};
+ghost use Rattle.ftl_nests.specs.Nests.{outer_schedule};
 
 use ftl_checked::Checked;
 use ftl_items::solution_solves;
+use ftl_nest_check::AcceptedNests;
+use ftl_nests::flat_schedules;
 use ftl_order::{reads_end_by_rank, values_are_in_range};
 use ftl_page::{Need, Page, Text};
 use ftl_plan::{Plan, PlanFault};
 use ftl_requests::{Undecided, grammar_of, read_page};
-use ftl_schedule::Accepted;
 use ftl_tree::Tree;
 use ftl_visit::Programs;
 use std::alloc::{AllocError, Global};
@@ -104,7 +106,7 @@ pub(crate) fn plan_of<'a>(
     alloc: Global,
     grain: u32,
     checked: &'a Checked,
-    accepted: &'a Accepted<'a>,
+    accepted: &'a AcceptedNests<'a>,
     programs: &'a Programs,
     tree: &'a Tree<'a>,
 ) -> Result<Plan<'a>, AllocError>
@@ -112,8 +114,8 @@ pub(crate) fn plan_of<'a>(
     requires rules { programs.now.rules ≡ rule_codes checked.now.grammar }
     requires width { programs.now.width ≡ checked.now.width }
     requires grammar { tree.now.checked ≡ checked.now }
-    requires fits { first_fault (meant checked.now) (stages_of accepted.now.schedule) tree.now.tree
-        ≡ None }
+    requires fits { first_fault (meant checked.now)
+        (outer_schedule (nests_of accepted.now.schedule)) tree.now.tree ≡ None }
     ensures grammar { IfOk result (λ p. p.checked ≡ checked.now) }
     ensures tree { IfOk result (λ p. p.tree ≡ tree.now.tree) }
 {
@@ -147,6 +149,7 @@ pub(crate) fn is_solved(plan: &Plan<'_>, tree: &Tree<'_>, words: &[u64])
     requires held { HoldTheSolution (solution (meant plan.now.checked) plan.now.tree) words.now }
     ensures solved { IsSolvedBy tree.now words.now }
 {
+    flat_schedules();
     solution_solves();
     values_are_in_range();
     reads_end_by_rank();

@@ -15,8 +15,9 @@ ghost use Rattle.ftl_requests.specs.sections.Outcomes.{answer_of};
 ghost use Rattle.ftl_run.specs.calls.SolvedPages.{AreReady, IsShort, IsTaskReady, document_stage};
 ghost use Rattle.ftl_run.specs.calls.SolvedPages.{rules_stage, task_stage};
 ghost use Rattle.ftl_run.specs.declared.calls.task.Task.TheVariants.{Edit};
+ghost use Rattle.ftl_nest_check.specs.stages.Nested.{nests_of};
+ghost use Rattle.ftl_nests.specs.Nests.{outer_schedule};
 ghost use Rattle.ftl_visit.specs.compiled.RuleCode.{rule_codes};
-ghost use Rattle.ftl_schedule.specs.stages.Stages.{stages_of};
 
 use crate::calls::change::edited_shown;
 use crate::calls::demand::page_by_demand;
@@ -35,7 +36,6 @@ use ftl_requests::{
     Decided, EditedPage, Evaluation, Problem, Request, Shown, Undecided, Undone, edits_of, ended,
     schedule_of, tree_of,
 };
-use ftl_schedule::Accepted;
 use ftl_tree::Tree;
 use ftl_visit::{Programs, compile};
 use std::alloc::{AllocError, Global};
@@ -160,7 +160,7 @@ fn solved_document<R: Threads + Wait + Sync, G: Gate>(
         (string_bytes document) task) result }
 {
     match tree_of(alloc, checked, accepted, document) {
-        Ok(tree) => solved_tree(rt, alloc, task, how, checked, accepted.flat(), tree, gate),
+        Ok(tree) => solved_tree(rt, alloc, task, how, checked, accepted, tree, gate),
         Err(end) => Err(end),
     }
 }
@@ -171,15 +171,15 @@ fn solved_tree<R: Threads + Wait + Sync, G: Gate>(
     task: Task,
     how: Solving,
     checked: &Checked,
-    accepted: &Accepted<'_>,
+    accepted: &AcceptedNests<'_>,
     tree: Tree<'_>,
     gate: &G,
 ) -> Result<Decided, Undecided>
     requires accepted { accepted.now.checked ≡ checked.now }
     requires edits { IsTaskReady task }
     requires grammar { tree.checked ≡ checked.now }
-    requires fits { first_fault (meant checked.now) (stages_of accepted.now.schedule) tree.tree
-        ≡ None }
+    requires fits { first_fault (meant checked.now)
+        (outer_schedule (nests_of accepted.now.schedule)) tree.tree ≡ None }
     ensures outcome { EndsIn (task_stage task checked.now tree.entry.tree) result }
 {
     match task {
@@ -197,14 +197,14 @@ fn tree_shown<R: Threads + Wait + Sync, G: Gate>(
     shown: &Shown,
     how: Solving,
     checked: &Checked,
-    accepted: &Accepted<'_>,
+    accepted: &AcceptedNests<'_>,
     tree: &Tree<'_>,
     gate: &G,
 ) -> Result<Decided, AllocError>
     requires accepted { accepted.now.checked ≡ checked.now }
     requires grammar { tree.now.checked ≡ checked.now }
-    requires fits { first_fault (meant checked.now) (stages_of accepted.now.schedule) tree.now.tree
-        ≡ None }
+    requires fits { first_fault (meant checked.now)
+        (outer_schedule (nests_of accepted.now.schedule)) tree.now.tree ≡ None }
     ensures outcome { IfOk result (λ d. shown_by (text_shown shown.now) tree.now.checked
         tree.now.tree (ends (answer_of d))) }
 {
@@ -220,15 +220,15 @@ fn edited_tree<R: Threads + Wait + Sync, G: Gate>(
     text: Option<Text>,
     how: Solving,
     checked: &Checked,
-    accepted: &Accepted<'_>,
+    accepted: &AcceptedNests<'_>,
     tree: Tree<'_>,
     gate: &G,
 ) -> Result<Decided, Undecided>
     requires accepted { accepted.now.checked ≡ checked.now }
     requires short { IsShort text }
     requires grammar { tree.checked ≡ checked.now }
-    requires fits { first_fault (meant checked.now) (stages_of accepted.now.schedule) tree.tree
-        ≡ None }
+    requires fits { first_fault (meant checked.now)
+        (outer_schedule (nests_of accepted.now.schedule)) tree.tree ≡ None }
     ensures outcome { EndsIn (task_stage (Edit text) checked.now tree.entry.tree) result }
 {
     match edits_of(alloc, checked, &tree, text_of(alloc, text)) {
@@ -243,21 +243,29 @@ fn changed_tree<R: Threads + Wait + Sync, G: Gate>(
     edits: &EditList,
     how: Solving,
     checked: &Checked,
-    accepted: &Accepted<'_>,
+    accepted: &AcceptedNests<'_>,
     tree: Tree<'_>,
     gate: &G,
 ) -> Result<Decided, AllocError>
     requires accepted { accepted.now.checked ≡ checked.now }
     requires edits { AreEditsOf tree edits.now }
     requires grammar { tree.checked ≡ checked.now }
-    requires fits { first_fault (meant checked.now) (stages_of accepted.now.schedule) tree.tree
-        ≡ None }
+    requires fits { first_fault (meant checked.now)
+        (outer_schedule (nests_of accepted.now.schedule)) tree.tree ≡ None }
     ensures outcome { IfOk result (λ d. edited_by tree.entry.checked tree.entry.tree edits.now
         (ends (answer_of d))) }
 {
     let programs = compile(alloc, checked)?;
     let words = words_by_workers(rt, alloc, how, checked, accepted, &programs, &tree, gate)?;
-    edited_shown(alloc, checked, accepted, &programs, tree, words, edits)
+    edited_shown(
+        alloc,
+        checked,
+        accepted.flat(),
+        &programs,
+        tree,
+        words,
+        edits,
+    )
 }
 
 /// The words of the values that solve a tree.
@@ -266,7 +274,7 @@ fn words_by_workers<R: Threads + Wait + Sync, G: Gate>(
     alloc: Global,
     how: Solving,
     checked: &Checked,
-    accepted: &Accepted<'_>,
+    accepted: &AcceptedNests<'_>,
     programs: &Programs,
     tree: &Tree<'_>,
     gate: &G,
@@ -275,8 +283,8 @@ fn words_by_workers<R: Threads + Wait + Sync, G: Gate>(
     requires rules { programs.now.rules ≡ rule_codes checked.now.grammar }
     requires width { programs.now.width ≡ checked.now.width }
     requires grammar { tree.now.checked ≡ checked.now }
-    requires fits { first_fault (meant checked.now) (stages_of accepted.now.schedule) tree.now.tree
-        ≡ None }
+    requires fits { first_fault (meant checked.now)
+        (outer_schedule (nests_of accepted.now.schedule)) tree.now.tree ≡ None }
     ensures solved { IfOk result (λ v. IsSolvedBy tree.now v.items) }
 {
     let plan = plan_of(alloc, how.grain, checked, accepted, programs, tree)?;

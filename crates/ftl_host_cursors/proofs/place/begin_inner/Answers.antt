@@ -1,6 +1,6 @@
 use Rattle.std.proofs.Common.{◌++◌, List, get_or, ◌∙◌, ap}
 use Rattle.ftl_cursors.specs.declared.sequence.block_places.BlockPlaces.{BlockPlaces}
-use Rattle.ftl_cursors.specs.stages.StageRows.{pass_places, pass_visits}
+use Rattle.ftl_cursors.specs.stages.PassTables.{pass_places, pass_visits}
 use Rattle.ftl_visit.specs.declared.visits.visit_op.VisitOp.{VisitOp}
 use Rattle.ftl_host_cursors.specs.HostPlaces.{grammar_of, nodes_left, own_left, steps_in, tree_of}
 use Rattle.ftl_host_cursors.specs.HostSteps.{hosted_steps, inner_pass_steps, inner_steps, own_steps}

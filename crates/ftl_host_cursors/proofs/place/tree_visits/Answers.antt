@@ -1,5 +1,5 @@
 use Rattle.std.proofs.Common.{sym, ◌∙◌, ap, ap₂, subst, arith}
-use Rattle.ftl_cursors.specs.stages.StageRows.{pass_visits}
+use Rattle.ftl_cursors.specs.stages.PassTables.{pass_visits}
 use Rattle.ftl_cursors.specs.visits.NodeRanges.{nodes_in}
 use Rattle.ftl_cursors.specs.visits.VisitSteps.{AreVisits, steps_of_nodes}
 use Rattle.ftl_host_cursors.specs.HostPlaces.{grammar_of, tree_of}

@@ -1,7 +1,7 @@
 use Rattle.std.proofs.Common.{◌≡◌, ℕ, List, ap, ◌∙◌, sym, subst, map, Contains, arith}
 use Rattle.ftl_cursors.specs.inorder.InorderSteps.{inorder_steps}
 use Rattle.ftl_cursors.specs.item_cursor.ItemSteps.{forest_in, grammar_in}
-use Rattle.ftl_cursors.proofs.item_cursor.ItemVisits.{pass, pass_known, pass_listed, places_are, places_known, sequence_is, visit_known, visits_are}
+use Rattle.ftl_cursors.proofs.item_cursor.ItemVisits.{pass, pass_listed, places_are, places_known, sequence_is, visit_known, visits_are}
 use Rattle.ftl_model.specs.layout.Path.{top}
 use Rattle.ftl_schedule.specs.declared.syntax.kind.PassKind.TheVariants.{InOrder}
 use Rattle.ftl_cursors.specs.sequence.BlockPlaces.{places_of}
@@ -13,35 +13,35 @@ use Rattle.ftl_visit.specs.passes.VisitRows.{visits_of}
 use Rattle.ftl_cursors.proofs.item_cursor.item.sequence_steps.Goals as goal
 
 pub bounds-tables-found : goal.bounds-tables-found
-bounds-tables-found c = visit_known c.args.tables c.args.item c.args.found c.requires.item c.requires.found c.requires.tables
+bounds-tables-found c = visit_known c.args.tables c.args.item c.args.found c.requires.found c.requires.tables
 
 pub bounds-tables-found-2 : goal.bounds-tables-found-2
 bounds-tables-found-2 c =
-    places_known c.args.tables c.args.item c.args.found c.requires.item c.requires.found c.requires.tables
+    places_known c.args.tables c.args.item c.args.found c.requires.found c.requires.tables
 
 pub bounds-tables-found-3 : goal.bounds-tables-found-3
-bounds-tables-found-3 c = pass_known c.args.tables c.args.item c.args.found c.requires.item c.requires.found
+bounds-tables-found-3 c = c.requires.found.pass_known
 
 pub new-requires-clause-visits : goal.new-requires-clause-visits
 new-requires-clause-visits c =
     let x = c.args.tables in
     let g = grammar_in x in
     let found = c.args.found in
-    let of_pass = pass x c.args.item found c.requires.item c.requires.found in
-    visits_are x c.args.item found c.requires.item c.requires.found c.requires.tables c.index-tables-found.result
+    let of_pass = pass x c.args.item found c.requires.found in
+    visits_are x c.args.item found c.requires.found c.requires.tables c.index-tables-found.result
     ∙ ap (λ k. visits_of g k of_pass.attrs) c.requires.kind
     ∙ ap (λ (a : Pass). visits_of g InOrder a.attrs)
-    (sym (pass_listed x c.args.item found c.requires.item c.requires.found c.index-tables-found-3.result))
+    (sym (pass_listed x c.args.item found c.requires.found c.index-tables-found-3.result))
     ∙ ap (visits_of g InOrder) (sym c.as_slice-attrs.ensures)
 
 pub new-requires-clause-places : goal.new-requires-clause-places
 new-requires-clause-places c =
     let x = c.args.tables in
     let found = c.args.found in
-    places_are x c.args.item found c.requires.item c.requires.found c.requires.tables c.index-tables-found-2.result
+    places_are x c.args.item found c.requires.found c.requires.tables c.index-tables-found-2.result
     ∙ ap places_of
     (sym
-    (visits_are x c.args.item found c.requires.item c.requires.found c.requires.tables c.index-tables-found.result))
+    (visits_are x c.args.item found c.requires.found c.requires.tables c.index-tables-found.result))
 
 pub new-requires-clause-first : goal.new-requires-clause-first
 new-requires-clause-first c =
@@ -56,20 +56,20 @@ returns c =
     let t = forest_in x in
     let found = c.args.found in
     let is = c.requires.found in
-    let of_pass = pass x c.args.item found c.requires.item is in
+    let of_pass = pass x c.args.item found is in
     let steps : c.new.result ≡ inorder_steps g t of_pass.attrs top =
     c.new.ensures.steps
     ∙ ap (λ (ns : List ℕ). inorder_steps g t ns top)
     (c.as_slice-attrs.ensures
-    ∙ ap (λ (a : Pass). a.attrs) (pass_listed x c.args.item found c.requires.item is c.index-tables-found-3.result)) in
+    ∙ ap (λ (a : Pass). a.attrs) (pass_listed x c.args.item found is c.index-tables-found-3.result)) in
     record {
-      steps = λ s stage ordered passes. record {
+      steps = λ s stage ordered there. record {
         steps_are = λ y among.
             c.inorder_steps_make_sequences.ensures.tree g t c.requires.law is.is_tree of_pass.attrs y
             (subst (λ (ys : List Step). Contains ys y) steps among);
         targets =
             ap (map (target_of g t)) steps
-            ∙ sequence_is x c.args.item found c.requires.item is c.requires.law s stage
-            c.inorder_steps_make_sequences.ensures.steps c.requires.kind ordered passes;
+            ∙ sequence_is x c.args.item found is c.requires.law s stage
+            c.inorder_steps_make_sequences.ensures.steps c.requires.kind ordered there;
       };
     }

@@ -1,7 +1,4 @@
-use Rattle.std.proofs.Common.{◌≡◌, ◌∙◌, None, string_bytes, sym, subst}
-use Rattle.ftl_deps.specs.reads.Meant.{meant}
-use Rattle.ftl_limits.specs.faults.PlanFaults.{first_fault}
-use Rattle.ftl_order.specs.orders.Schedule.{Schedule}
+use Rattle.std.proofs.Common.{string_bytes}
 use Rattle.ftl_answer.specs.answers.Texts.{tree}
 use Rattle.ftl_requests.proofs.requests.Endings.{end_second}
 use Rattle.ftl_run.specs.calls.SolvedPages.{task_stage}
@@ -14,16 +11,3 @@ returns-in-Ok c = record {
       (task_stage c.args.task c.args.checked.now) c.in-Ok.tree.tree c.solved_tree.result
       c.in-Ok.ensures.outcome c.solved_tree.ensures.outcome;
 }
-
--- no stage of the schedule without nests reads too much
-pub solved_tree-requires : goal.solved_tree-requires
-solved_tree-requires c =
-    let flat = c.flat.ensures.flat in
-    record {
-      accepted = flat.grammar ∙ c.requires.accepted;
-      grammar = c.in-Ok.ensures.grammar;
-      edits = c.requires.edits;
-      fits =
-          subst (λ (s : Schedule). first_fault (meant c.args.checked.now) s c.in-Ok.tree.tree ≡ None) (sym flat.flat)
-          c.in-Ok.ensures.fits;
-    }

@@ -3,6 +3,7 @@ use Rattle.ftl_deps.specs.reads.Meant.{meant}
 use Rattle.ftl_items.specs.stage_items.StageWork.{kind_of, no_instance}
 use Rattle.ftl_model.specs.layout.Table.{instance_count, instances}
 use Rattle.ftl_tree.specs.trees.CheckedTree.{CheckedTree}
+use Rattle.ftl_nests.specs.Nests.{outer_schedule}
 use Rattle.ftl_plan.specs.plans.StageParts.{schedule_of}
 use Rattle.ftl_plan.proofs.plans.Bridge.{cell_known, kind_is, sound_there, tables_there}
 use Rattle.ftl_plan.proofs.plans.parts.StageParts.kind.Goals as goal
@@ -27,7 +28,7 @@ returns c =
       kind =
           c.cell_kind.ensures.kind
           ∙ ap
-          (λ (t : CheckedTree). kind_of (meant t.checked) (schedule_of w) w.stage
+          (λ (t : CheckedTree). kind_of (meant t.checked) (outer_schedule (schedule_of w)) w.stage
           (get_or (instances (meant t.checked) t.tree) c.args.cell no_instance))
           c.tree.ensures.tree
           ∙ kind_is w c.requires.fit c.args.cell c.requires.cell;

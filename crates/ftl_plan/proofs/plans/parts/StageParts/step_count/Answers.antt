@@ -1,5 +1,5 @@
 use Rattle.std.proofs.Common.{◌<◌, ◌∙◌, ◌^◌, subst, sym}
-use Rattle.ftl_cursors.specs.item_cursor.ItemSteps.{steps_left}
+use Rattle.ftl_host_cursors.specs.NestTables.{nest_steps_left}
 use Rattle.ftl_plan.proofs.plans.Bridge.{count_is}
 use Rattle.ftl_plan.proofs.plans.parts.StageParts.step_count.Goals as goal
 
@@ -8,7 +8,7 @@ step_count-requires c = record {
   few =
       subst (λ n. n < 2 ^ 32)
       (sym
-      (count_is c.args.self.now c.requires.fit c.args.item (steps_left c.cursor.result) c.requires.item
+      (count_is c.args.self.now c.requires.fit c.args.item (nest_steps_left c.cursor.result) c.requires.item
       c.cursor.ensures.steps))
       (c.items-items.ensures.lawful.counted c.args.item c.requires.item).1;
 }
@@ -17,6 +17,6 @@ pub returns : goal.returns
 returns c = record {
   count =
       c.step_count.ensures.count
-      ∙ count_is c.args.self.now c.requires.fit c.args.item (steps_left c.cursor.result) c.requires.item
+      ∙ count_is c.args.self.now c.requires.fit c.args.item (nest_steps_left c.cursor.result) c.requires.item
       c.cursor.ensures.steps;
 }

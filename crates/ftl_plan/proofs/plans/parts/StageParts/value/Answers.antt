@@ -48,8 +48,7 @@ returns c =
     let t = tree_of w in
     let fit = c.requires.fit in
     let x = c.args.step in
-    let solves =
-    (c.solution_solves.ensures.ordered g (schedule_of w) t fit.can.law fit.can.ordered fit.can.is_tree).solves in
+    let solves = c.solution_of_plans.ensures.solves g (schedule_of w) t fit.can in
     let s = value_in g t (solution g t) in
     let given =
     subst

@@ -1,0 +1,6 @@
+use Rattle.std.proofs.Common.{◌≡◌, take}
+use Rattle.ftl_cursors.specs.items.StageItems.{hosts_in}
+use Rattle.ftl_plan.proofs.plans.phases.have_hosts.Given as goal
+
+abbrev pub invariant-loop-pass : goal.invariant-loop-pass
+invariant-loop-pass l = take l.pass l.hosts ≡ take l.pass (hosts_in l.items)
