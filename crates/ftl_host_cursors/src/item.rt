@@ -15,6 +15,7 @@ use ftl_cursors::found_steps;
 use ftl_cursors::items::FoundItem;
 
 /// The steps of an item.
+#[inline(always)]
 pub fn item_steps<'a>(tables: NestTables<'a>, item: u32) -> NestCursor<'a>
     requires law { IsLawful (grammar_in tables.own) }
     requires tables { AreNestTables tables }

@@ -3,6 +3,8 @@ pub mod ReaderKeys
 pub mod NearKeys
 pub mod Targets
 pub mod Inserts
+pub mod Rows
+pub mod ListPlaces
 pub mod Listed
 pub mod CellReaders
 pub mod KidCounts

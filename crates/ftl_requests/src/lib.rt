@@ -3,7 +3,8 @@
 //! is to be solved; and the answer in a sink.
 //!
 //! - `sections`: `read_page`, `grammar_of`, `schedule_of`, `tree_of`, `edits_of`: from the bytes of
-//!   a page to its tree and its edits; `noncircular_of`, `grown_tree_of`: where no schedule plays a
+//!   a page to its tree and its edits; `grammar_of_text`, `automatic_schedule`, `written_schedule`:
+//!   the same of texts with no page; `noncircular_of`, `grown_tree_of`: where no schedule plays a
 //!   part
 //! - `requests`: `requested`, `written`; what the commands come to that show no table
 #![tactic(auto)]
@@ -15,6 +16,6 @@ pub use requests::{
     EditedPage, Evaluation, Problem, Request, Shown, Undone, ended, requested, written,
 };
 pub use sections::{
-    Decided, Status, Undecided, edits_of, grammar_of, grown_tree_of, noncircular_of, read_page,
-    schedule_of, tree_of,
+    Decided, Status, Undecided, automatic_schedule, edits_of, grammar_of, grammar_of_text,
+    grown_tree_of, noncircular_of, read_page, schedule_of, tree_of, written_schedule,
 };

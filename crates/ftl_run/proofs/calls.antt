@@ -2,5 +2,5 @@ mod Words
 mod Solved
 mod Leading
 mod Matching
-mod Mapped
-mod Changed
+pub mod Mapped
+pub mod Changed

@@ -1,3 +1,5 @@
 pub mod Words
 pub mod ShownAmong
 pub mod Lines
+pub mod ShortNumbers
+pub mod PieceTables

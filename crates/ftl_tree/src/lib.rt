@@ -12,7 +12,8 @@ pub mod rows;
 pub mod trees;
 
 pub use boxes::{
-    number_of_word, print_boxes, shown_by, shown_rows, shows_overflow, word_at, words_are_undone,
+    Printed, number_of_word, print_boxes, shown_by, shown_rows, shows_overflow, word_at,
+    words_are_undone,
 };
 pub use rows::{NodeRow, Place};
 pub use trees::{InstanceList, Tree, bare_tree};

@@ -36,6 +36,7 @@ impl<'a> StageParts<'a> {
     }
 
     /// The steps of an item, from the first on.
+    #[inline(always)]
     pub(crate) fn cursor(&self, item: u32) -> NestCursor<'a>
         requires fit { IsStage self.now }
         requires item { item < item_total (meaning_of self.now) }

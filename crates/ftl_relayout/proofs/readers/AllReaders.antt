@@ -1,5 +1,5 @@
 -- The readers of all rules.
-use Rattle.std.proofs.Common.{◌≡◌, ◌⊎◌, ℕ, zero, suc, ◌+◌, ◌<◌, List, [], ◌∷◌, ◌++◌, None, get_or, length, refl, sym, ap, ◌∙◌, subst, inl, inr, ⊎_elim, arith}
+use Rattle.std.proofs.Common.{◌≡◌, Contains, ◌⊎◌, ℕ, zero, suc, ◌+◌, ◌*◌, ◌<◌, List, [], ◌∷◌, ◌++◌, None, get_or, length, refl, sym, ap, ◌∙◌, subst, inl, inr, ⊎_elim, arith}
 use Rattle.std.proofs.lemmas.Bool.{cases_lt}
 use Rattle.std.proofs.lemmas.List.{get_or-map, get_or_default}
 use Rattle.ftl_deps.proofs.reads.RuleNumbers.{info_is, info_rule, rules_long}
@@ -9,11 +9,13 @@ use Rattle.ftl_deps.specs.reads.Products.{name_of_info}
 use Rattle.ftl_meaning.specs.faults.Checked.{CheckedGrammar, all_rules, rule_info_at}
 use Rattle.ftl_meaning.specs.faults.FirstFault.{first_fault}
 use Rattle.ftl_model.proofs.lists.Elements.{nothing_in}
-use Rattle.ftl_model.specs.layout.AttributeGrammar.{AttributeGrammar, Parts, RuleName, for_self, plain}
-use Rattle.ftl_order.specs.orders.Lawful.{IsLawful, IsRule}
+use Rattle.ftl_model.specs.layout.AttributeGrammar.{AttributeGrammar, Parts, RuleName, for_child, for_self, plain}
+use Rattle.ftl_order.specs.orders.Lawful.{IsLawful, IsRule, class_of_rule}
 use Rattle.ftl_relayout.specs.declared.readers.reader.Reader.{Reader}
-use Rattle.ftl_relayout.specs.readers.Readers.{AreReaders, IsReadWhen}
-use Rattle.ftl_relayout.specs.readers.Tables.{Comes, HasNone, IsOfParts, IsOfRules}
+use Rattle.ftl_relayout.specs.readers.Readers.{AreReaders, IsReadWhen, attribute_read, list_at, readers_for, whose_read}
+use Rattle.ftl_relayout.specs.readers.Tables.{Comes, HasNone, IsOfParts, IsOfRules, list_of}
+use Rattle.ftl_relayout.proofs.readers.ListPlaces.{list_split, list_within}
+use Rattle.ftl_relayout.proofs.readers.Targets.{class_name}
 
 -- one more list with nothing in it
 pub none_more : (xs : List (List Reader)) → HasNone xs → HasNone (xs ++ [] ∷ [])
@@ -55,47 +57,65 @@ module _ (c : CheckedGrammar) (none : first_fault c.grammar ≡ None) (law : IsL
       ∙ get_or-map (parts_named g) g.rules n (for_self 0 0) (plain []) (subst (λ m. n < m) (sym (rules_long c none)) within)
       ∙ ap (parts_named g) (info_is c none n within)
 
+  rule_class : (w : RuleName) → IsRule g w → class_of_rule w < g.class_count
+  rule_class (for_self k a) rule = rule.0
+  rule_class (for_child k d a) rule = rule.0
+
   pub are_readers : (empty lists : List (List Reader)) (n : ℕ) → n ≡ length (all_rules c.grammar)
-      → length empty ≡ g.attribute_count → HasNone empty → Comes empty lists (IsOfRules c parts n) → AreReaders g lists
+      → length empty ≡ g.attribute_count * g.class_count * 2 → HasNone empty
+      → Comes g.class_count empty lists (IsOfRules c parts n) → AreReaders g lists
   are_readers empty lists n all long nothing came = record {
     long = came.long ∙ long;
     has = λ w x r rule reads below.
         let at = law.rules_have w rule in
         let within : at.0 < length (all_rules c.grammar) = subst (λ m. at.0 < m) (rules_long c none) at.1 in
-        let name : name_of_info (rule_info_at c.grammar at.0) ≡ w =
-        sym (info_is c none at.0 within) ∙ first_at at.0 w at.1 at.2 in
-        let e : Reader = record { info = rule_info_at c.grammar at.0; when = x; read = r } in (
+        let info = rule_info_at c.grammar at.0 in
+        let name : name_of_info info ≡ w = sym (info_is c none at.0 within) ∙ first_at at.0 w at.1 at.2 in
+        let e : Reader = record { info = info; when = x; read = r } in
+        let class : info.class ≡ class_of_rule w = sym (class_name info) ∙ ap class_of_rule name in
+        let known : info.class < g.class_count = subst (λ k. k < g.class_count) (sym class) (rule_class w rule) in
+        let listed =
+        came.has e
+        (record {
+          rule = at.0;
+          below = (let z : at.0 < n = omega (arith, within, all) in z);
+          of = record {
+            info_is = refl;
+            reads =
+                subst (λ p. IsReadWhen p x (read_meant r)) (sym (parts_here at.0 within ∙ ap (parts_named g) name)) reads;
+          };
+        })
+        (subst (λ m. list_of g.class_count e < m) (sym (came.long ∙ long))
+        (list_within g.class_count (attribute_read r) info.class (whose_read r) g.attribute_count known below)) in (
           e,
-          came.has e
-              (record {
-                rule = at.0;
-                below = (let z : at.0 < n = omega (arith, within, all) in z);
-                of = record {
-                  info_is = refl;
-                  reads =
-                      subst (λ p. IsReadWhen p x (read_meant r)) (sym (parts_here at.0 within ∙ ap (parts_named g) name)) reads;
-                };
-              })
-              (let many = came.long in omega (arith, below, many, long)),
+          subst (λ k. Contains (readers_for g lists (attribute_read r) k (whose_read r)) e) class listed,
           name,
           refl,
           refl,
         );
-    only = λ a e h.
-        ⊎_elim (λ old. absurd (nothing a e old))
+    only = λ a k o e within h.
+        ⊎_elim (λ old. absurd (nothing (list_at g.class_count a k o) e old))
         (λ new.
         let r = new.0 in
         let below = r.below in
-        let within : r.rule < length (all_rules c.grammar) = omega (arith, below, all) in (
+        let there : r.rule < length (all_rules c.grammar) = omega (arith, below, all) in
+        let rule : IsRule g (name_of_info e.info) =
+        subst (λ i. IsRule g (name_of_info i)) (sym r.of.info_is) (info_rule c none r.rule there) in
+        let class = class_name e.info in
+        let known : e.info.class < g.class_count =
+        subst (λ m. m < g.class_count) class (rule_class (name_of_info e.info) rule) in
+        let same = list_split g.class_count (attribute_read e.read) e.info.class a k (whose_read e.read) o known within new.1 in (
           record {
-            rule = subst (λ i. IsRule g (name_of_info i)) (sym r.of.info_is) (info_rule c none r.rule within);
+            rule = rule;
             reads =
                 subst (λ i. IsReadWhen (parts_named g (name_of_info i)) e.when (read_meant e.read)) (sym r.of.info_is)
-                (subst (λ p. IsReadWhen p e.when (read_meant e.read)) (parts_here r.rule within) r.of.reads);
+                (subst (λ p. IsReadWhen p e.when (read_meant e.read)) (parts_here r.rule there) r.of.reads);
           },
-          new.1,
+          same.0,
+          class ∙ same.1,
+          same.2,
         ))
-        (came.only a e h);
+        (came.only (list_at g.class_count a k o) e h);
   }
     where
       first_at : (k : ℕ) (w : RuleName) → k < length g.rules → get_or g.rules k w ≡ w → get_or g.rules k (for_self 0 0) ≡ w

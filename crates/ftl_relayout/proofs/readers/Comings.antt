@@ -13,92 +13,93 @@ use Rattle.ftl_model.specs.layout.AttributeGrammar.{Read, each_read, first_then,
 use Rattle.ftl_relayout.specs.declared.readers.reader.Reader.{Reader}
 use Rattle.ftl_relayout.specs.declared.readers.reader.When.{When}
 use Rattle.ftl_relayout.specs.declared.readers.reader.When.TheVariants as when
-use Rattle.ftl_relayout.specs.readers.Readers.{IsReadWhen, attribute_read}
-use Rattle.ftl_relayout.specs.readers.Tables.{Comes, IsOfParts, IsOfReads}
+use Rattle.ftl_relayout.specs.readers.Readers.{IsReadWhen}
+use Rattle.ftl_relayout.specs.readers.Tables.{Comes, IsOfParts, IsOfReads, list_of}
 
 abbrev Lists : Type 0
 Lists = List (List Reader)
 
-pub comes_none : (xs : Lists) (P : Reader → Type 0) → ((e : Reader) → P e → attribute_read e.read < length xs → ⊥)
-    → Comes xs xs P
-comes_none xs P nothing = record {
-  long = refl;
-  kept = λ a e h. h;
-  has = λ e p within. absurd (nothing e p within);
-  only = λ a e h. inl h;
-}
+module _ (classes : ℕ) where
+  pub comes_none : (xs : Lists) (P : Reader → Type 0) → ((e : Reader) → P e → list_of classes e < length xs → ⊥)
+      → Comes classes xs xs P
+  comes_none xs P nothing = record {
+    long = refl;
+    kept = λ a e h. h;
+    has = λ e p within. absurd (nothing e p within);
+    only = λ a e h. inl h;
+  }
 
-pub comes_both : (xs ys zs : Lists) (P Q R : Reader → Type 0) → Comes xs ys P → Comes ys zs Q
-    → ((e : Reader) → R e → P e ⊎ Q e) → ((e : Reader) → P e → R e) → ((e : Reader) → Q e → R e) → Comes xs zs R
-comes_both xs ys zs P Q R x y split from_p from_q = record {
-  long = y.long ∙ x.long;
-  kept = λ a e h. y.kept a e (x.kept a e h);
-  has = λ e r within.
-      ⊎_elim (λ p. y.kept (attribute_read e.read) e (x.has e p (subst (λ n. attribute_read e.read < n) y.long within)))
-      (λ q. y.has e q within) (split e r);
-  only = λ a e h.
-      ⊎_elim (λ b. ⊎_elim (λ l. inl l) (λ p. inr (from_p e p.0, p.1)) (x.only a e b))
-      (λ q. inr (from_q e q.0, q.1)) (y.only a e h);
-}
+  pub comes_both : (xs ys zs : Lists) (P Q R : Reader → Type 0) → Comes classes xs ys P → Comes classes ys zs Q
+      → ((e : Reader) → R e → P e ⊎ Q e) → ((e : Reader) → P e → R e) → ((e : Reader) → Q e → R e) → Comes classes xs zs R
+  comes_both xs ys zs P Q R x y split from_p from_q = record {
+    long = y.long ∙ x.long;
+    kept = λ a e h. y.kept a e (x.kept a e h);
+    has = λ e r within.
+        ⊎_elim (λ p. y.kept (list_of classes e) e (x.has e p (subst (λ n. list_of classes e < n) y.long within)))
+        (λ q. y.has e q within) (split e r);
+    only = λ a e h.
+        ⊎_elim (λ b. ⊎_elim (λ l. inl l) (λ p. inr (from_p e p.0, p.1)) (x.only a e b))
+        (λ q. inr (from_q e q.0, q.1)) (y.only a e h);
+  }
 
-pub comes_as : (xs ys : Lists) (P Q : Reader → Type 0) → Comes xs ys P → ((e : Reader) → Q e → P e)
-    → ((e : Reader) → P e → Q e) → Comes xs ys Q
-comes_as xs ys P Q x into from = record {
-  long = x.long;
-  kept = x.kept;
-  has = λ e q within. x.has e (into e q) within;
-  only = λ a e h. ⊎_elim (λ l. inl l) (λ p. inr (from e p.0, p.1)) (x.only a e h);
-}
+  pub comes_as : (xs ys : Lists) (P Q : Reader → Type 0) → Comes classes xs ys P → ((e : Reader) → Q e → P e)
+      → ((e : Reader) → P e → Q e) → Comes classes xs ys Q
+  comes_as xs ys P Q x into from = record {
+    long = x.long;
+    kept = x.kept;
+    has = λ e q within. x.has e (into e q) within;
+    only = λ a e h. ⊎_elim (λ l. inl l) (λ p. inr (from e p.0, p.1)) (x.only a e h);
+  }
 
--- one comes
-pub comes_one : (xs ys : Lists) (r : Reader) → attribute_read r.read < length xs
-    → ys ≡ set xs (attribute_read r.read) (get_or xs (attribute_read r.read) [] ++ r ∷ [])
-    → Comes xs ys (λ e. e ≡ r)
-comes_one xs ys r within is = subst (λ zs. Comes xs zs (λ e. e ≡ r)) (sym is) grown
-  where
-    grown : Comes xs (set xs (attribute_read r.read) (get_or xs (attribute_read r.read) [] ++ r ∷ [])) (λ e. e ≡ r)
-    grown = record {
-      long = length-set xs (attribute_read r.read) (get_or xs (attribute_read r.read) [] ++ r ∷ []);
-      kept = λ a e h. kept_at a e h (ℕ_discrete a (attribute_read r.read));
-      has = λ e same below.
-          subst (λ x. Contains (get_or (set xs (attribute_read r.read) (get_or xs (attribute_read r.read) [] ++ r ∷ []))
-          (attribute_read x.read) []) x) (sym same)
-          (subst (λ l. Contains l r) (sym (get_or-set_same xs (attribute_read r.read)
-          (get_or xs (attribute_read r.read) [] ++ r ∷ []) [] within))
-          (Contains-append_right (get_or xs (attribute_read r.read) []) (r ∷ []) r (here_in r [])));
-      only = λ a e h. only_at a e h (ℕ_discrete a (attribute_read r.read));
-    }
-      where
-        kept_at : (a : ℕ) (e : Reader) → Contains (get_or xs a []) e → Dec (a ≡ attribute_read r.read)
-            → Contains (get_or (set xs (attribute_read r.read) (get_or xs (attribute_read r.read) [] ++ r ∷ [])) a []) e
-        kept_at a e h (yes same) =
-            subst (λ b. Contains (get_or (set xs (attribute_read r.read) (get_or xs (attribute_read r.read) [] ++ r ∷ [])) b [])
-            e) (sym same)
-            (subst (λ l. Contains l e) (sym (get_or-set_same xs (attribute_read r.read)
-            (get_or xs (attribute_read r.read) [] ++ r ∷ []) [] within))
-            (Contains-append_left (get_or xs (attribute_read r.read) []) (r ∷ []) e
-            (subst (λ b. Contains (get_or xs b []) e) same h)))
-        kept_at a e h (no differ) =
-            subst (λ l. Contains l e) (sym (get_or-set_other xs (attribute_read r.read) a
-            (get_or xs (attribute_read r.read) [] ++ r ∷ []) [] differ)) h
+  -- one comes
+  pub comes_one : (xs ys : Lists) (r : Reader) → list_of classes r < length xs
+      → ys ≡ set xs (list_of classes r) (get_or xs (list_of classes r) [] ++ r ∷ [])
+      → Comes classes xs ys (λ e. e ≡ r)
+  comes_one xs ys r within is = subst (λ zs. Comes classes xs zs (λ e. e ≡ r)) (sym is) grown
+    where
+      grown : Comes classes xs (set xs (list_of classes r) (get_or xs (list_of classes r) [] ++ r ∷ [])) (λ e. e ≡ r)
+      grown = record {
+        long = length-set xs (list_of classes r) (get_or xs (list_of classes r) [] ++ r ∷ []);
+        kept = λ a e h. kept_at a e h (ℕ_discrete a (list_of classes r));
+        has = λ e same below.
+            subst (λ x. Contains (get_or (set xs (list_of classes r) (get_or xs (list_of classes r) [] ++ r ∷ []))
+            (list_of classes x) []) x) (sym same)
+            (subst (λ l. Contains l r) (sym (get_or-set_same xs (list_of classes r)
+            (get_or xs (list_of classes r) [] ++ r ∷ []) [] within))
+            (Contains-append_right (get_or xs (list_of classes r) []) (r ∷ []) r (here_in r [])));
+        only = λ a e h. only_at a e h (ℕ_discrete a (list_of classes r));
+      }
+        where
+          kept_at : (a : ℕ) (e : Reader) → Contains (get_or xs a []) e → Dec (a ≡ list_of classes r)
+              → Contains (get_or (set xs (list_of classes r) (get_or xs (list_of classes r) [] ++ r ∷ [])) a []) e
+          kept_at a e h (yes same) =
+              subst (λ b. Contains (get_or (set xs (list_of classes r) (get_or xs (list_of classes r) [] ++ r ∷ [])) b [])
+              e) (sym same)
+              (subst (λ l. Contains l e) (sym (get_or-set_same xs (list_of classes r)
+              (get_or xs (list_of classes r) [] ++ r ∷ []) [] within))
+              (Contains-append_left (get_or xs (list_of classes r) []) (r ∷ []) e
+              (subst (λ b. Contains (get_or xs b []) e) same h)))
+          kept_at a e h (no differ) =
+              subst (λ l. Contains l e) (sym (get_or-set_other xs (list_of classes r) a
+              (get_or xs (list_of classes r) [] ++ r ∷ []) [] differ)) h
 
-        only_at : (a : ℕ) (e : Reader)
-            → Contains (get_or (set xs (attribute_read r.read) (get_or xs (attribute_read r.read) [] ++ r ∷ [])) a []) e
-            → Dec (a ≡ attribute_read r.read)
-            → Contains (get_or xs a []) e ⊎ ((e ≡ r) × (attribute_read e.read ≡ a))
-        only_at a e h (yes same) =
-            ⊎_elim (λ l. inl (subst (λ b. Contains (get_or xs b []) e) (sym same) l))
-            (λ last.
-            ⊎_elim (λ one. inr (sym one, ap (λ (x : Reader). attribute_read x.read) (sym one) ∙ sym same))
-            (λ none. absurd (nothing_in e none)) (in_cases r e [] last))
-            (Contains-append_cases (get_or xs (attribute_read r.read) []) (r ∷ []) e
-            (subst (λ l. Contains l e) (get_or-set_same xs (attribute_read r.read)
-            (get_or xs (attribute_read r.read) [] ++ r ∷ []) [] within)
-            (subst (λ b. Contains (get_or (set xs (attribute_read r.read)
-            (get_or xs (attribute_read r.read) [] ++ r ∷ [])) b []) e) same h)))
-        only_at a e h (no differ) =
-            inl (subst (λ l. Contains l e) (get_or-set_other xs (attribute_read r.read) a
-            (get_or xs (attribute_read r.read) [] ++ r ∷ []) [] differ) h)
+          only_at : (a : ℕ) (e : Reader)
+              → Contains (get_or (set xs (list_of classes r) (get_or xs (list_of classes r) [] ++ r ∷ [])) a []) e
+              → Dec (a ≡ list_of classes r)
+              → Contains (get_or xs a []) e ⊎ ((e ≡ r) × (list_of classes e ≡ a))
+          only_at a e h (yes same) =
+              ⊎_elim (λ l. inl (subst (λ b. Contains (get_or xs b []) e) (sym same) l))
+              (λ last.
+              ⊎_elim (λ one. inr (sym one, ap (λ (x : Reader). list_of classes x) (sym one) ∙ sym same))
+              (λ none. absurd (nothing_in e none)) (in_cases r e [] last))
+              (Contains-append_cases (get_or xs (list_of classes r) []) (r ∷ []) e
+              (subst (λ l. Contains l e) (get_or-set_same xs (list_of classes r)
+              (get_or xs (list_of classes r) [] ++ r ∷ []) [] within)
+              (subst (λ b. Contains (get_or (set xs (list_of classes r)
+              (get_or xs (list_of classes r) [] ++ r ∷ [])) b []) e) same h)))
+          only_at a e h (no differ) =
+              inl (subst (λ l. Contains l e) (get_or-set_other xs (list_of classes r) a
+              (get_or xs (list_of classes r) [] ++ r ∷ []) [] differ) h)
 
 -- ---- the reads of parts
 

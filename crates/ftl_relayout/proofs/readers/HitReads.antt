@@ -8,8 +8,10 @@ use Rattle.ftl_tree.specs.declared.rows.row.Place.{Place}
 use Rattle.std.proofs.Common.{Option, Some, None}
 use Rattle.ftl_relayout.specs.declared.readers.reader.When.{When}
 use Rattle.ftl_relayout.specs.declared.readers.reader.When.TheVariants as when
+use Rattle.ftl_relayout.specs.declared.readers.reader.Whose.{Whose}
+use Rattle.ftl_relayout.specs.declared.readers.reader.Whose.TheVariants as whose
 use Rattle.ftl_relayout.specs.laws.Readers.{IsHit, IsReadBy}
-use Rattle.ftl_relayout.specs.readers.Readers.{IsHitWhen, IsReadWhen, attribute_read, seen_as}
+use Rattle.ftl_relayout.specs.readers.Readers.{IsHitWhen, IsReadWhen, attribute_read, seen_as, whose_at, whose_read}
 
 -- a read of a part that is of the occurrence
 pub record HitRead (parts : Parts) (kids : ℕ → ℕ) (n : ℕ) (o : Occurrence) : Type 0 where
@@ -87,3 +89,33 @@ seen_attribute (Some p) a = refl
 pub attribute_is : (kids : ℕ → ℕ) (n : ℕ) (x : When) (q : PartRead) (place : Option Place) (a : ℕ)
     → IsHitWhen kids n x (read_meant q) (seen_as place a) → attribute_read q ≡ a
 attribute_is kids n x q place a h = attribute_hit_when kids n x q (seen_as place a) h ∙ seen_attribute place a
+
+-- ---- and it is whose it is
+
+abbrev pub whose_seen : Occurrence → Whose
+whose_seen (own a) = whose.Own
+whose_seen (kid c k a) = whose.Kid
+
+whose_hit : (kids : ℕ → ℕ) (n : ℕ) (q : PartRead) (o : Occurrence) → IsHit kids n (read_meant q) o
+    → whose_read q ≡ whose_seen o
+whose_hit kids n (reads.Own a) o h = ap whose_seen h
+whose_hit kids n (reads.Single c a) o h = ap whose_seen h
+whose_hit kids n (reads.Each c a) o h = ap whose_seen h
+whose_hit kids n (reads.This c a) o h = ap whose_seen h
+whose_hit kids n (reads.Prev c a) o h = ap whose_seen h.2
+whose_hit kids n (reads.Last c a) o h = ap whose_seen h.2
+
+whose_hit_when : (kids : ℕ → ℕ) (n : ℕ) (x : When) (q : PartRead) (o : Occurrence)
+    → IsHitWhen kids n x (read_meant q) o → whose_read q ≡ whose_seen o
+whose_hit_when kids n when.Always q o h = whose_hit kids n q o h
+whose_hit_when kids n when.First q o h = whose_hit kids n q o h.1
+whose_hit_when kids n when.Later q o h = whose_hit kids n q o h.1
+whose_hit_when kids n (when.EachKid c) q o h = whose_hit kids h.0 q o h.2
+
+seen_whose : (place : Option Place) (a : ℕ) → whose_seen (seen_as place a) ≡ whose_at place
+seen_whose None a = refl
+seen_whose (Some p) a = refl
+
+pub whose_is : (kids : ℕ → ℕ) (n : ℕ) (x : When) (q : PartRead) (place : Option Place) (a : ℕ)
+    → IsHitWhen kids n x (read_meant q) (seen_as place a) → whose_read q ≡ whose_at place
+whose_is kids n x q place a h = whose_hit_when kids n x q (seen_as place a) h ∙ seen_whose place a

@@ -1,5 +1,5 @@
 -- The steps whose rules run at a node and read an occurrence there, by the readers of its attribute.
-use Rattle.std.proofs.Common.{◌≡◌, ◌≢◌, ℕ, ◌<◌, refl, sym, ap, ◌∙◌, subst, inl, inr, arith, List, [], Contains, get_or, Option}
+use Rattle.std.proofs.Common.{◌≡◌, ◌≢◌, ℕ, ◌<◌, refl, sym, ap, ◌∙◌, subst, inl, inr, arith, List, Contains, Option}
 use Rattle.ftl_deps.specs.parts.RuleParts.{parts_named, read_meant}
 use Rattle.ftl_deps.specs.reads.Products.{name_of_info}
 use Rattle.ftl_model.specs.layout.AttributeGrammar.{AttributeGrammar, Occurrence, RuleName, Sort, for_child, for_self, inherited, input, local, synthesized}
@@ -15,10 +15,11 @@ use Rattle.ftl_order.specs.orders.Schedule.{Placing}
 use Rattle.ftl_order.specs.steps.Steps.{target_of_rule}
 use Rattle.ftl_tree.specs.declared.rows.row.Place.{Place}
 use Rattle.ftl_relayout.specs.declared.readers.reader.Reader.{Reader}
+use Rattle.ftl_relayout.specs.declared.readers.reader.Whose.{Whose}
 use Rattle.ftl_relayout.specs.keys.Keys.{key_of}
 use Rattle.ftl_relayout.specs.laws.Readers.{IsReadBy}
-use Rattle.ftl_relayout.specs.readers.Readers.{AreReaders, IsHitWhen, IsKeyBy, IsReadWhen, IsReader, IsReaderKey, rule_kids, seen_as}
-use Rattle.ftl_relayout.proofs.readers.HitReads.{attribute_is, hit_read, read_back, read_by_hit}
+use Rattle.ftl_relayout.specs.readers.Readers.{AreReaders, IsHitWhen, IsKeyBy, IsReadWhen, IsReader, IsReaderKey, readers_for, rule_kids, seen_as, whose_at, whose_read}
+use Rattle.ftl_relayout.proofs.readers.HitReads.{attribute_is, hit_read, read_back, read_by_hit, whose_is}
 
 module _ (g : AttributeGrammar) (law : IsLawful g) (at : Placing) (t : Forest) (fits : IsTreeOf g t) where
   -- ---- from a rule for a kid to the step
@@ -136,15 +137,16 @@ module _ (g : AttributeGrammar) (law : IsLawful g) (at : Placing) (t : Forest) (
 
   -- ---- from a step to its readers
 
-  -- a reader in the list of its attribute, by which the step of this key reads
-  pub record ListedKey (lists : List (List Reader)) (v : Path) (o : Occurrence) (a key : ℕ) : Type 0 where
+  -- a reader in the list of its attribute for the node's class, by which the step of this key reads
+  pub record ListedKey (lists : List (List Reader)) (v : Path) (o : Occurrence) (a : ℕ) (of : Whose) (key : ℕ) : Type 0 where
     pub reader : Reader
-    pub listed : Contains (get_or lists a []) reader
+    pub listed : Contains (readers_for g lists a (class_at t v) of) reader
     pub class : class_of_rule (name_of_info reader.info) ≡ class_at t v
     pub by : IsKeyBy g at t v o reader key
 
   pub listed_key : (lists : List (List Reader)) → AreReaders g lists → (v : Path) (place : Option Place) (a key : ℕ)
-      → a < g.attribute_count → IsReaderKey g at t v (seen_as place a) key → ListedKey lists v (seen_as place a) a key
+      → a < g.attribute_count → IsReaderKey g at t v (seen_as place a) key
+      → ListedKey lists v (seen_as place a) a (whose_at place) key
   listed_key lists are v place a key known k =
       let q = k.reader in
       let o = seen_as place a in
@@ -161,7 +163,10 @@ module _ (g : AttributeGrammar) (law : IsLawful g) (at : Placing) (t : Forest) (
       (omega (arith, names, known)) in
       record {
         reader = found.0;
-        listed = subst (λ x. Contains (get_or lists x []) found.0) names found.1;
+        listed =
+            subst (λ x. Contains (readers_for g lists a (class_at t v) x) found.0) (whose_is kids n h.time back.0 place a hit)
+            (subst (λ l. Contains (readers_for g lists a l (whose_read back.0)) found.0) r.class
+            (subst (λ x. Contains (readers_for g lists x (class_of_rule r.name) (whose_read back.0)) found.0) names found.1));
         class = ap class_of_rule found.2 ∙ r.class;
         by = record {
           number = n;

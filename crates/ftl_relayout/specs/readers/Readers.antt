@@ -1,5 +1,5 @@
 -- Which rules read an attribute, and for which kids they read an instance.
-use Rattle.std.specs.Prelude.{◌≡◌, ℕ, ◌<◌, ◌≤◌, List, [], Contains, Option, None, Some, IfSome, length, slice_index_or}
+use Rattle.std.specs.Prelude.{◌≡◌, ℕ, ◌<◌, ◌≤◌, ◌+◌, ◌*◌, List, [], Contains, Option, None, Some, IfSome, length, slice_index_or}
 use Rattle.ftl_deps.specs.declared.parts.part_read.PartRead.{PartRead}
 use Rattle.ftl_deps.specs.declared.parts.part_read.PartRead.TheVariants as reads
 use Rattle.ftl_deps.specs.parts.RuleParts.{parts_named, read_meant}
@@ -9,7 +9,7 @@ use Rattle.ftl_model.specs.layout.AttributeGrammar.{AttributeGrammar, Occurrence
 use Rattle.ftl_model.specs.layout.Path.{Path, kids_at}
 use Rattle.ftl_model.specs.layout.Solves.{Instance, rule_kid, rule_node, rule_of}
 use Rattle.ftl_model.specs.layout.Tree.{Forest}
-use Rattle.ftl_order.specs.orders.Lawful.{IsRule}
+use Rattle.ftl_order.specs.orders.Lawful.{IsRule, class_of_rule}
 use Rattle.ftl_order.specs.orders.LegalOrder.{IsStep}
 use Rattle.ftl_order.specs.orders.Schedule.{Placing}
 use Rattle.ftl_order.specs.steps.Steps.{target_of_rule}
@@ -21,6 +21,8 @@ use Rattle.ftl_relayout.specs.declared.readers.reader.Range.{Range}
 use Rattle.ftl_relayout.specs.declared.readers.reader.Reader.{Reader}
 use Rattle.ftl_relayout.specs.declared.readers.reader.When.{When}
 use Rattle.ftl_relayout.specs.declared.readers.reader.When.TheVariants as when
+use Rattle.ftl_relayout.specs.declared.readers.reader.Whose.{Whose}
+use Rattle.ftl_relayout.specs.declared.readers.reader.Whose.TheVariants as whose
 use Rattle.ftl_relayout.specs.keys.Keys.{key_of}
 use Rattle.ftl_relayout.specs.laws.Readers.{IsHit, IsReadBy}
 
@@ -33,12 +35,26 @@ attribute_read (reads.This c a) = a
 attribute_read (reads.Prev c a) = a
 attribute_read (reads.Last c a) = a
 
+-- whose attribute that is
+abbrev pub whose_read : PartRead → Whose
+whose_read (reads.Own a) = whose.Own
+whose_read (reads.Single c a) = whose.Kid
+whose_read (reads.Each c a) = whose.Kid
+whose_read (reads.This c a) = whose.Kid
+whose_read (reads.Prev c a) = whose.Kid
+whose_read (reads.Last c a) = whose.Kid
+
 -- ---- a read, and what stands at a place
 
 -- an attribute as a rule sees it that runs at a node: of the node itself, or of its kid at a place
 abbrev pub seen_as : Option Place → (attribute : ℕ) → Occurrence
 seen_as None a = own a
 seen_as (Some p) a = kid p.child p.kid a
+
+-- whose it is
+abbrev pub whose_at : Option Place → Whose
+whose_at None = whose.Own
+whose_at (Some p) = whose.Kid
 
 -- a kid of a node, as there are no more than a tree may have nodes
 pub record IsKidOf (t : CheckedTree) (node : ℕ) (p : Place) : Type 0 where
@@ -90,16 +106,28 @@ pub record IsReader (g : AttributeGrammar) (e : Reader) : Type 0 where
   pub rule : IsRule g (name_of_info e.info)
   pub reads : IsReadWhen (parts_named g (name_of_info e.info)) e.when (read_meant e.read)
 
--- each attribute has its readers, and no other
+-- the number of the list of an attribute's readers for a class: lists stand by attribute, then by class, and for each of
+-- these first the one with reads of the node's own attribute, then the one with reads of a kid's
+abbrev pub list_at : (classes attribute class : ℕ) → Whose → ℕ
+list_at n a k whose.Own = (a * n + k) * 2
+list_at n a k whose.Kid = (a * n + k) * 2 + 1
+
+-- the readers of an attribute that stand for a class
+abbrev pub readers_for : AttributeGrammar → List (List Reader) → (attribute class : ℕ) → Whose → List Reader
+readers_for g lists a k o = slice_index_or lists (list_at g.class_count a k o) []
+
+-- for each attribute and class there are the reads of this attribute by the rules of this class, those of the node's own
+-- apart from those of a kid's, and no other
 pub record AreReaders (g : AttributeGrammar) (lists : List (List Reader)) : Type 0 where
-  pub long : length lists ≡ g.attribute_count
+  pub long : length lists ≡ g.attribute_count * g.class_count * 2
   pub has :
       (w : RuleName) (x : When) (r : PartRead) → IsRule g w → IsReadWhen (parts_named g w) x (read_meant r)
       → attribute_read r < g.attribute_count
-      → (e : Reader) × Contains (slice_index_or lists (attribute_read r) []) e × (name_of_info e.info ≡ w)
-      × (e.when ≡ x) × (e.read ≡ r)
+      → (e : Reader) × Contains (readers_for g lists (attribute_read r) (class_of_rule w) (whose_read r)) e
+      × (name_of_info e.info ≡ w) × (e.when ≡ x) × (e.read ≡ r)
   pub only :
-      (a : ℕ) (e : Reader) → Contains (slice_index_or lists a []) e → IsReader g e × (attribute_read e.read ≡ a)
+      (a k : ℕ) (o : Whose) (e : Reader) → k < g.class_count → Contains (readers_for g lists a k o) e
+      → IsReader g e × (attribute_read e.read ≡ a) × (class_of_rule (name_of_info e.info) ≡ k) × (whose_read e.read ≡ o)
 
 -- ---- what reads an occurrence at a node
 

@@ -11,7 +11,7 @@ ghost use Rattle.ftl_order.specs.steps.Steps.{target_of_rule};
 ghost use Rattle.ftl_visit.specs.step_reads.StepReads.{kids_in};
 ghost use Rattle.ftl_relayout.specs.keys.Keys as keys;
 ghost use Rattle.ftl_relayout.specs.readers.Readers.{IsKeyBy, IsKidOf, IsReader, attribute_read};
-ghost use Rattle.ftl_relayout.specs.readers.Readers.{rule_kids, seen_as};
+ghost use Rattle.ftl_relayout.specs.readers.Readers.{readers_for, rule_kids, seen_as, whose_at};
 ghost use Rattle.ftl_relayout.specs.readers.Sites.{Adds, IsKeyOfKid, IsReaderKeyAt, IsReaderSite};
 ghost use Rattle.ftl_relayout.specs.readers.Sites.{IsCellOfKey, IsTarget, IsTold, cell_of};
 ghost use Rattle.ftl_relayout.specs.readers.Sites.{site_net};
@@ -23,7 +23,9 @@ ghost use Rattle.ftl_relayout.specs.readers.Sites.{site_grammar, site_placing};
 use crate::keys::{KeyPlace, key_of, told};
 use crate::queue::Waiting;
 use crate::readers::kids::reader_kids;
-use crate::readers::reader::{Range, Reader};
+use crate::readers::lists::list_at;
+use crate::readers::reader::{Range, Reader, Whose};
+use ftl_limits::is_sound;
 use ftl_meaning::RuleInfo;
 use ftl_schedule::Accepted;
 use ftl_tree::{Place, Tree};
@@ -65,6 +67,7 @@ pub(crate) fn add_readers(
 
 /// Lets all steps wait whose rules run at a node and read an attribute there: of the node itself,
 /// or of its kid at this place.
+#[inline(always)]
 fn add_at(
     site: &ReaderSite<'_>,
     node: u32,
@@ -84,40 +87,61 @@ fn add_at(
     let tree = site.tree;
     let _nodes = tree.node_count();
     let class = tree.class(node);
-    let list = site.readers[attr as usize].as_slice();
+    let whose = whose_at(place);
+    let list = readers_at(site, attr, class, whose);
     for reader in list {
-        add_by(site, node, place, class, reader, waiting)?;
+        add_by(site, node, place, reader, waiting)?;
     }
     Ok(())
 }
 
-/// Lets those wait that read it by this reader, if the node is of the class that has its rule.
+/// Whose attribute it is that a rule reads there.
+fn whose_at(place: Option<Place>) -> Whose
+    ensures whose { result ≡ whose_at place }
+{
+    match place {
+        None => Whose::Own,
+        Some(_) => Whose::Kid,
+    }
+}
+
+/// The readers of an attribute that stand for a class.
+fn readers_at<'a>(site: &ReaderSite<'a>, attr: u32, class: u32, whose: Whose) -> &'a [Reader]
+    requires site { IsReaderSite site.now }
+    requires attr { attr < (site_grammar site.now).attribute_count }
+    requires class { class < (site_grammar site.now).class_count }
+    ensures readers { result.now
+        ≡ readers_for (site_grammar site.now) site.now.readers.now attr class whose }
+{
+    let checked = site.tree.checked();
+    is_sound(checked);
+    let list = list_at(checked.class_count(), attr, class, whose);
+    site.readers[list].as_slice()
+}
+
+/// Lets those wait that read it by this reader.
 fn add_by(
     site: &ReaderSite<'_>,
     node: u32,
     place: Option<Place>,
-    class: u32,
     reader: &Reader,
     waiting: &mut Waiting,
 ) -> Result<(), AllocError>
     requires site { IsReaderSite site.now }
     requires node { node < size site.now.tree.now.tree }
     requires place { IfSome place (IsKidOf site.now.tree.now node) }
-    requires class { class ≡ class_in site.now.tree.now node }
     requires reader { IsReader (site_grammar site.now) reader.now }
+    requires class { class_of_rule (name_of_info reader.now.info)
+        ≡ class_in site.now.tree.now node }
     ensures adds { Adds waiting.old.keys waiting.new.keys (IsReaderKeyAt site.now node
         (seen_as place (attribute_read reader.now.read))) }
     ensures all { OnOk result ((k : ℕ)
-        → class_of_rule (name_of_info reader.now.info) ≡ class_in site.now.tree.now node
         → IsKeyBy (site_grammar site.now) (site_placing site.now) site.now.tree.now.tree
         (node_at site.now.tree.now.tree node) (seen_as place (attribute_read reader.now.read))
         reader.now k → Contains waiting.new.keys k) }
 {
     let tree = site.tree;
     let _nodes = tree.node_count();
-    if reader.info.class != class {
-        return Ok(());
-    }
     let kids = reader_kids(tree, node, place, reader);
     add_kids(site, node, reader, kids, waiting)
 }

@@ -4,6 +4,7 @@
 
 mod add;
 mod kids;
+mod lists;
 mod reader;
 mod seen;
 mod table;

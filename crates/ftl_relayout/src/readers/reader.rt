@@ -22,6 +22,13 @@ pub(crate) struct Reader {
     pub read: PartRead,
 }
 
+/// Whose attribute a read is of: of the node at which its rule runs, or of a kid there.
+#[derive(Clone, Copy, Debug, PartialEq, Eq)]
+pub(crate) enum Whose {
+    Own,
+    Kid,
+}
+
 /// Some numbers of kids, from the first to before the last.
 #[derive(Clone, Copy, Debug, PartialEq, Eq)]
 pub(crate) struct Range {

@@ -1,13 +1,15 @@
-//! The readers of each attribute, made once for a grammar.
-ghost use Rattle.std.specs.Prelude.{◌≡◌, ◌<◌, ◌++◌, ◌∷◌, [], IfOk, OnOk};
+//! The readers of each attribute by classes, made once for a grammar.
+ghost use Rattle.std.specs.Prelude.{◌≡◌, ◌<◌, ◌≤◌, ◌++◌, ◌∷◌, [], IfOk, OnOk};
 ghost use Rattle.std.specs.Prelude.{length, map, slice_index_or, slice_set};
 ghost use Rattle.ftl_deps.specs.parts.RuleParts.{all_parts, parts_meant};
 ghost use Rattle.ftl_deps.specs.reads.Meant.{meant};
 ghost use Rattle.ftl_meaning.specs.faults.Checked.{all_rules};
-ghost use Rattle.ftl_relayout.specs.readers.Readers.{AreReaders, attribute_read};
+ghost use Rattle.ftl_model.specs.layout.Limits.{most_classes};
+ghost use Rattle.ftl_relayout.specs.readers.Readers.{AreReaders};
 ghost use Rattle.ftl_relayout.specs.readers.Tables.{Comes, HasNone, IsOfParts, IsOfReads};
 ghost use Rattle.ftl_relayout.specs.readers.Tables.{IsOfRules};
 
+use crate::readers::lists::{list_count, list_of};
 use crate::readers::reader::{Reader, When};
 use ftl_checked::Checked;
 use ftl_deps::{PartRead, RuleParts};
@@ -17,7 +19,7 @@ use ftl_schedule::attribute_count;
 use sqlite_items::Items;
 use std::alloc::{AllocError, Global};
 
-/// The readers of each attribute, by its number.
+/// The readers of each attribute for each class, in lists of their own.
 pub(crate) fn all_readers(
     alloc: Global,
     checked: &Checked,
@@ -28,34 +30,38 @@ pub(crate) fn all_readers(
 {
     let _lawful = checked.grammar();
     is_sound(checked);
-    let mut lists = no_readers(alloc, attribute_count(checked))?;
-    add_rules(&mut lists, checked, parts)?;
+    let classes = checked.class_count();
+    let count = list_count(classes, attribute_count(checked));
+    let mut lists = no_readers(alloc, count)?;
+    add_rules(&mut lists, classes, checked, parts)?;
     Ok(lists)
 }
 
 /// Adds the reads of all rules.
 fn add_rules(
     lists: &mut [Items<Reader>],
+    classes: u32,
     checked: &Checked,
     parts: &[RuleParts],
 ) -> Result<(), AllocError>
+    requires few { classes ≤ most_classes }
     requires parts { length parts.now ≡ length (all_rules checked.now.grammar) }
-    ensures comes { OnOk result (Comes lists.old lists.new (IsOfRules checked.now
+    ensures comes { OnOk result (Comes classes lists.old lists.new (IsOfRules checked.now
         (map parts_meant parts.now) (length (all_rules checked.now.grammar)))) }
 {
     for rule in 0..checked.rule_count() {
-        add_rule(lists, checked.rule(rule), &parts[rule as usize])?;
+        add_rule(lists, classes, checked.rule(rule), &parts[rule as usize])?;
     }
     Ok(())
 }
 
 /// So many lists with nothing in them.
-fn no_readers(alloc: Global, count: u32) -> Result<Vec<Items<Reader>>, AllocError>
+fn no_readers(alloc: Global, count: usize) -> Result<Vec<Items<Reader>>, AllocError>
     ensures long { IfOk result (λ v. length v.items ≡ count) }
     ensures none { IfOk result (λ v. HasNone v.items) }
 {
     let mut lists = Vec::new(alloc);
-    for _attr in 0..count {
+    for _list in 0..count {
         lists.push(Items::new(alloc))?;
     }
     Ok(lists)
@@ -64,21 +70,23 @@ fn no_readers(alloc: Global, count: u32) -> Result<Vec<Items<Reader>>, AllocErro
 /// Adds the reads of a rule with these parts.
 fn add_rule(
     lists: &mut [Items<Reader>],
+    classes: u32,
     info: RuleInfo,
     parts: &RuleParts,
 ) -> Result<(), AllocError>
-    ensures comes { OnOk result (Comes lists.old lists.new
+    requires few { classes ≤ most_classes }
+    ensures comes { OnOk result (Comes classes lists.old lists.new
         (IsOfParts info (parts_meant parts.now))) }
 {
     match parts {
-        RuleParts::Plain(reads) => add_reads(lists, info, When::Always, reads.as_slice()),
+        RuleParts::Plain(reads) => add_reads(lists, classes, info, When::Always, reads.as_slice()),
         RuleParts::FirstThen(first, later) => {
-            add_reads(lists, info, When::First, first.as_slice())?;
-            add_reads(lists, info, When::Later, later.as_slice())
+            add_reads(lists, classes, info, When::First, first.as_slice())?;
+            add_reads(lists, classes, info, When::Later, later.as_slice())
         }
         RuleParts::FoldOver(child, start, each) => {
-            add_reads(lists, info, When::Always, start.as_slice())?;
-            add_reads(lists, info, When::EachKid(*child), each.as_slice())
+            add_reads(lists, classes, info, When::Always, start.as_slice())?;
+            add_reads(lists, classes, info, When::EachKid(*child), each.as_slice())
         }
     }
 }
@@ -86,53 +94,46 @@ fn add_rule(
 /// Adds the reads of a part that is read then.
 fn add_reads(
     lists: &mut [Items<Reader>],
+    classes: u32,
     info: RuleInfo,
     when: When,
     reads: &[PartRead],
 ) -> Result<(), AllocError>
-    ensures comes { OnOk result (Comes lists.old lists.new (IsOfReads info when reads.now)) }
+    requires few { classes ≤ most_classes }
+    ensures comes { OnOk result (Comes classes lists.old lists.new
+        (IsOfReads info when reads.now)) }
 {
     for read in reads {
-        add_read(lists, info, when, *read)?;
+        add_read(lists, classes, info, when, *read)?;
     }
     Ok(())
 }
 
-/// Adds a read to the readers of its attribute.
+/// Adds a read to the readers of its attribute that stand for the class of its rule.
 fn add_read(
     lists: &mut [Items<Reader>],
+    classes: u32,
     info: RuleInfo,
     when: When,
     read: PartRead,
 ) -> Result<(), AllocError>
-    ensures comes { OnOk result (Comes lists.old lists.new (IsOfReads info when (read ∷ []))) }
+    requires few { classes ≤ most_classes }
+    ensures comes { OnOk result (Comes classes lists.old lists.new
+        (IsOfReads info when (read ∷ []))) }
 {
-    let attr = attribute_of(read) as usize;
-    if attr >= lists.len() {
+    let reader = Reader { info, when, read };
+    let list = list_of(classes, reader);
+    if list >= lists.len() {
         return Ok(());
     }
-    add_reader(lists, attr, Reader { info, when, read })
+    add_reader(lists, list, reader)
 }
 
-/// Adds a reader to the list of an attribute.
-fn add_reader(lists: &mut [Items<Reader>], attr: usize, reader: Reader) -> Result<(), AllocError>
-    requires attr { attr < length lists.old }
+/// Adds a reader to a list.
+fn add_reader(lists: &mut [Items<Reader>], list: usize, reader: Reader) -> Result<(), AllocError>
+    requires list { list < length lists.old }
     ensures list { OnOk result (lists.new
-        ≡ slice_set lists.old attr (slice_index_or lists.old attr [] ++ reader ∷ [])) }
+        ≡ slice_set lists.old list (slice_index_or lists.old list [] ++ reader ∷ [])) }
 {
-    lists[attr].push(reader)
-}
-
-/// The attribute that a read names.
-fn attribute_of(read: PartRead) -> u32
-    ensures attribute { result ≡ attribute_read read }
-{
-    match read {
-        PartRead::Own(attr)
-        | PartRead::Single(_, attr)
-        | PartRead::Each(_, attr)
-        | PartRead::This(_, attr)
-        | PartRead::Prev(_, attr)
-        | PartRead::Last(_, attr) => attr,
-    }
+    lists[list].push(reader)
 }

@@ -17,7 +17,7 @@ use ftl_scheduler::{FindFault, find_schedule};
 use std::alloc::Global;
 
 /// The automatic schedule, or the attributes that it leaves.
-pub(crate) fn automatic_schedule<'a>(
+pub fn automatic_schedule<'a>(
     alloc: Global,
     checked: &'a Checked,
 ) -> Result<AcceptedNests<'a>, Undecided>

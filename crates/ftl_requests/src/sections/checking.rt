@@ -33,7 +33,8 @@ pub fn grammar_of(alloc: Global, width: Width, text: Text) -> Result<Checked, Un
     grammar_of_text(alloc, width, text.into_string())
 }
 
-fn grammar_of_text(alloc: Global, width: Width, text: String) -> Result<Checked, Undecided>
+/// The lawful grammar that a string spells, in this width.
+pub fn grammar_of_text(alloc: Global, width: Width, text: String) -> Result<Checked, Undecided>
     requires short { string_len text ≤ most_page_bytes }
     ensures outcome { IsOutcome (grammar width (string_bytes text)) (λ c. c) result }
 {

@@ -17,8 +17,8 @@ mod scheduling;
 mod status;
 mod written;
 
-pub(crate) use automatic::automatic_schedule;
-pub use checking::grammar_of;
+pub use automatic::automatic_schedule;
+pub use checking::{grammar_of, grammar_of_text};
 pub use circularity::noncircular_of;
 pub use decision::{Decided, Undecided};
 pub use editing::edits_of;
@@ -27,4 +27,5 @@ pub(crate) use read::MOST_BYTES;
 pub use read::{read_page, section_tokens};
 pub use scheduling::schedule_of;
 pub use status::Status;
+pub use written::written_schedule;
 pub(crate) use written::{schedule_refused, verify_refused};

@@ -29,7 +29,7 @@ use ftl_tokens::Scanned;
 use std::alloc::Global;
 
 /// The schedule that the text spells, verified.
-pub(crate) fn written_schedule<'a>(
+pub fn written_schedule<'a>(
     alloc: Global,
     checked: &'a Checked,
     text: String,

@@ -231,7 +231,7 @@ fn changed_tree(
 }
 
 /// The words of the values that solve a tree.
-fn words_alone(
+pub fn words_alone(
     alloc: Global,
     grain: u32,
     checked: &Checked,

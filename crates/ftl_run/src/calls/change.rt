@@ -84,7 +84,7 @@ fn laid_out_anew(
 }
 
 /// The values that words stand for.
-fn values_of(alloc: Global, words: &[u64]) -> Result<Vec<Val>, AllocError>
+pub fn values_of(alloc: Global, words: &[u64]) -> Result<Vec<Val>, AllocError>
     ensures values { IfOk result (λ v. v.items ≡ map value_of_word words.now) }
 {
     let mut values = Vec::with_capacity(alloc, words.len())?;
@@ -109,7 +109,7 @@ fn value_of(word: u64) -> Val
 }
 
 /// The words of values.
-fn words_of(alloc: Global, values: &[Val]) -> Result<Vec<u64>, AllocError>
+pub fn words_of(alloc: Global, values: &[Val]) -> Result<Vec<u64>, AllocError>
     ensures values { IfOk result (λ v. map value_of_word v.items ≡ values.now) }
 {
     let mut words = Vec::with_capacity(alloc, values.len())?;

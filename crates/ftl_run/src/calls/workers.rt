@@ -269,7 +269,7 @@ fn changed_tree<R: Threads + Wait + Sync, G: Gate>(
 }
 
 /// The words of the values that solve a tree.
-fn words_by_workers<R: Threads + Wait + Sync, G: Gate>(
+pub fn words_by_workers<R: Threads + Wait + Sync, G: Gate>(
     rt: &R,
     alloc: Global,
     how: Solving,

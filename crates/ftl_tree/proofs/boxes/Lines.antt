@@ -1,12 +1,13 @@
 -- The line of a node, and whether it shows Overflow.
-use Rattle.std.proofs.Common.{◌≡◌, ℕ, ◌+◌, ◌<◌, ◌++◌, ◌||◌, Bool, false, List, [], length, flat_map, take, drop, get_or, Contains, sym, ◌∙◌, ap, arith, None}
+use Rattle.std.proofs.Common.{◌≡◌, ℕ, ◌+◌, ◌<◌, ◌++◌, ◌||◌, Bool, true, false, List, [], ◌∷◌, length, flat_map, take, drop, get_or, Contains, refl, sym, ◌∙◌, ap, ap₂, arith, None}
 use Rattle.std.specs.Prelude.{codes}
 use Rattle.std.specs.Fmt.{decimal}
 use Rattle.std.specs.List.{list_any}
 use Rattle.std.proofs.lemmas.List.{at_drop_all, at_drop_more, flat_map_more, get_or-map, take_all, take_more}
 use Rattle.std.proofs.lemmas.List.Elements.{Contains-append_left}
+use Rattle.std.proofs.lemmas.List.Folds.{list_any-append}
 use Rattle.ftl_model.specs.layout.AttributeGrammar.{attributes_of}
-use Rattle.ftl_model.specs.layout.Boxes.{boxes, is_overflow, node_line}
+use Rattle.ftl_model.specs.layout.Boxes.{boxes, is_overflow, node_line, shows_overflow}
 use Rattle.ftl_model.specs.layout.Path.{Path, class_at, node_at, number_of, preorder, top}
 use Rattle.ftl_model.specs.layout.Solves.{instance_of}
 use Rattle.ftl_model.specs.layout.Table.{instance_count, instance_number}
@@ -23,7 +24,7 @@ use Rattle.ftl_meaning.proofs.lawful.RequiredRules.{interface_known}
 use Rattle.ftl_deps.specs.reads.Meant.{meant}
 use Rattle.ftl_meaning.specs.grammars.GrammarOf.{names_of}
 use Rattle.ftl_tree.specs.trees.CheckedTree.{CheckedTree}
-use Rattle.ftl_tree.specs.boxes.Shows.{fields_text, line_text, node_class, node_shows}
+use Rattle.ftl_tree.specs.boxes.Shows.{fields_text, line_text, node_class, node_shows, shows_in}
 use Rattle.ftl_tree.specs.boxes.WordValues.{table_of_words, value_of_word}
 use Rattle.ftl_tree.proofs.boxes.ShownAmong.{shown_at}
 
@@ -32,6 +33,18 @@ abbrev pub overflows_at : CheckedTree → (words : List ℕ) → Path → Bool
 overflows_at t words p =
     list_any (λ a. is_overflow (table_of_words t words (instance_of p a)))
     ((names_of t.checked.grammar).shown (class_at t.tree p))
+
+or_false : (b : Bool) → (b || false) ≡ b
+or_false true = refl
+or_false false = refl
+
+-- one more is asked
+pub any_more : {X : Type 0} (f : X → Bool) (xs : List X) (i : ℕ) (d : X) → i < length xs
+    → list_any f (take (i + 1) xs) ≡ (list_any f (take i xs) || f (get_or xs i d))
+any_more f xs i d within =
+    ap (list_any f) (take_more xs i d within)
+    ∙ list_any-append f (take i xs) (get_or xs i d ∷ [])
+    ∙ ap (λ b. list_any f (take i xs) || b) (or_false (f (get_or xs i d)))
 
 -- the node of a number
 module _ (t : CheckedTree) (n : ℕ) (is : IsTreeOf (meant t.checked) t.tree) (within : n < size t.tree) where
@@ -99,12 +112,28 @@ module _ (t : CheckedTree) (n : ℕ) (is : IsTreeOf (meant t.checked) t.tree) (w
       ≡ (overflows_at t words (node_at t.tree n) || list_any (overflows_at t words) (drop (n + 1) (preorder t.tree)))
   overflows_more words = at_drop_more (list_any (overflows_at t words)) (preorder t.tree) n top in_order
 
+  -- whether one of the nodes so far shows Overflow
+  pub overflows_so_far : (words : List ℕ) (before line : Bool)
+      → before ≡ list_any (overflows_at t words) (take n (preorder t.tree))
+      → line ≡ list_any (shows_in t words n) (node_shows t n)
+      → (before || line) ≡ list_any (overflows_at t words) (take (n + 1) (preorder t.tree))
+  overflows_so_far words before line was is =
+      ap₂ (λ (a b : Bool). a || b) was is
+      ∙ sym (any_more (overflows_at t words) (preorder t.tree) n top in_order)
+
 -- all lines
 pub lines_all : (t : CheckedTree) (words : List ℕ) (n : ℕ) → IsTreeOf (meant t.checked) t.tree → n ≡ size t.tree
     → flat_map (node_line (names_of t.checked.grammar) t.tree (table_of_words t words)) (take n (preorder t.tree))
     ≡ boxes (names_of t.checked.grammar) t.tree (table_of_words t words)
 lines_all t words n is all =
     ap (flat_map (node_line (names_of t.checked.grammar) t.tree (table_of_words t words)))
+    (take_all n (preorder t.tree) (omega (arith, size-one (meant t.checked) t.tree is, length-preorder t.tree, all)))
+
+pub overflows_in_all : (t : CheckedTree) (words : List ℕ) (n : ℕ) → IsTreeOf (meant t.checked) t.tree → n ≡ size t.tree
+    → list_any (overflows_at t words) (take n (preorder t.tree))
+    ≡ shows_overflow (names_of t.checked.grammar) t.tree (table_of_words t words)
+overflows_in_all t words n is all =
+    ap (list_any (overflows_at t words))
     (take_all n (preorder t.tree) (omega (arith, size-one (meant t.checked) t.tree is, length-preorder t.tree, all)))
 
 pub overflows_all : (t : CheckedTree) (words : List ℕ) (n : ℕ) → IsTreeOf (meant t.checked) t.tree → n ≡ size t.tree

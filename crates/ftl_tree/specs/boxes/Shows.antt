@@ -1,8 +1,9 @@
 -- What nodes show, and the line of a node.
-use Rattle.std.specs.Prelude.{◌≡◌, ℕ, ◌++◌, List, codes, length, map, flat_map}
+use Rattle.std.specs.Prelude.{◌≡◌, ℕ, Bool, ◌++◌, List, codes, length, map, flat_map}
 use Rattle.std.specs.Fmt.{decimal}
-use Rattle.ftl_model.specs.layout.Boxes.{field_text}
+use Rattle.ftl_model.specs.layout.Boxes.{field_text, is_overflow}
 use Rattle.ftl_model.specs.layout.Path.{class_at, node_at}
+use Rattle.ftl_model.specs.layout.Solves.{instance_of}
 use Rattle.ftl_model.specs.layout.Table.{instance_count}
 use Rattle.ftl_model.specs.layout.TreeOf.{IsTreeOf}
 use Rattle.ftl_grammar.specs.declared.syntax.rules.Grammar.{Grammar}
@@ -33,6 +34,10 @@ node_shows t n = shown_attributes t.checked.grammar (interface_of t.checked.gram
 abbrev pub fields_text : CheckedTree → (words : List ℕ) → (node : ℕ) → (attributes : List ℕ) → List ℕ
 fields_text t words n attributes =
     flat_map (field_text (names_of t.checked.grammar) (table_of_words t words) (node_at t.tree n)) attributes
+
+-- whether an attribute of the node is Overflow
+abbrev pub shows_in : CheckedTree → (words : List ℕ) → (node attribute : ℕ) → Bool
+shows_in t words n a = is_overflow (table_of_words t words (instance_of (node_at t.tree n) a))
 
 -- its line
 abbrev pub line_text : CheckedTree → (words : List ℕ) → (node : ℕ) → List ℕ

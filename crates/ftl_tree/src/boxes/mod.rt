@@ -2,12 +2,14 @@
 //! attribute instances. Comes out: a line for each node, which `ftl_model::layout` defines for the
 //! table of their values. `specs/boxes/WordValues.antt` says which value a word stands for.
 
+mod digits;
 mod laws;
+mod pieces;
 mod print;
 mod shown;
 mod word;
 
 pub use laws::words_are_undone;
-pub use print::{print_boxes, shows_overflow};
+pub use print::{Printed, print_boxes, shows_overflow};
 pub use shown::{shown_by, shown_rows};
 pub use word::{number_of_word, word_at};

@@ -1,8 +1,5 @@
-use Rattle.std.proofs.Common.{◌≡◌, ℕ, ◌<◌, Contains, get_or}
-use Rattle.ftl_deps.specs.reads.Products.{name_of_info}
-use Rattle.ftl_limits.specs.reads.ReadTables.{class_in}
+use Rattle.std.proofs.Common.{ℕ, ◌<◌, Contains, get_or}
 use Rattle.ftl_model.specs.layout.Path.{node_at}
-use Rattle.ftl_order.specs.orders.Lawful.{class_of_rule}
 use Rattle.ftl_relayout.specs.declared.readers.reader.Reader.{Reader}
 use Rattle.ftl_relayout.specs.readers.Readers.{IsKeyBy, seen_as}
 use Rattle.ftl_relayout.specs.readers.Sites.{Adds, IsReaderKeyAt, site_grammar, site_placing}
@@ -12,9 +9,7 @@ use Rattle.ftl_relayout.proofs.readers.add.add_at.Given as goal
 abbrev pub invariant-loop-reader : goal.invariant-loop-reader
 invariant-loop-reader l = record {
   adds : Adds l.fn.waiting.keys l.waiting.keys (IsReaderKeyAt l.site l.node (seen_as l.place l.attr));
-  all : (j : ℕ) (d : Reader) → j < l.reader-index
-      → class_of_rule (name_of_info (get_or l.list j d).info) ≡ class_in l.site.tree.now l.node
-      → (k : ℕ)
+  all : (j : ℕ) (d : Reader) → j < l.reader-index → (k : ℕ)
       → IsKeyBy (site_grammar l.site) (site_placing l.site) l.site.tree.now.tree (node_at l.site.tree.now.tree l.node)
       (seen_as l.place l.attr) (get_or l.list j d) k
       → Contains l.waiting.keys k;

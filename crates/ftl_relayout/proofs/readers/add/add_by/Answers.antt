@@ -1,33 +1,18 @@
 -- The kids for which the rule reads it are those of the reader.
-use Rattle.std.proofs.Common.{sym, ◌∙◌}
 use Rattle.ftl_limits.proofs.reads.Entries.{there}
 use Rattle.ftl_model.specs.layout.Path.{node_at}
 use Rattle.ftl_relayout.specs.readers.Readers.{attribute_read, seen_as}
 use Rattle.ftl_relayout.specs.readers.Sites.{IsKeyOfKid, IsReaderKeyAt, site_grammar, site_placing}
 use Rattle.ftl_relayout.proofs.queue.Trails.{on_ok}
-use Rattle.ftl_relayout.proofs.readers.Inserts.{adds_into, adds_none}
+use Rattle.ftl_relayout.proofs.readers.Inserts.{adds_into}
 use Rattle.ftl_relayout.proofs.readers.ReaderKeys.{reader_key}
-use Rattle.ftl_relayout.proofs.readers.Targets.{class_name, reader_at}
+use Rattle.ftl_relayout.proofs.readers.Targets.{reader_at}
 use Rattle.ftl_relayout.proofs.readers.add.add_by.Goals as goal
-
-pub returns-then-reader-class-clause-adds : goal.returns-then-reader-class-clause-adds
-returns-then-reader-class-clause-adds c =
-    adds_none c.args.waiting.now.keys
-    (IsReaderKeyAt c.args.site.now c.args.node (seen_as c.args.place (attribute_read c.args.reader.now.read)))
-
-pub returns-then-reader-class-clause-all : goal.returns-then-reader-class-clause-all
-returns-then-reader-class-clause-all c = λ k of by.
-    absurd
-    (c.if-reader-class.true (sym (class_name c.args.reader.now.info) ∙ of ∙ sym c.requires.class))
 
 pub reader_kids-kids-requires-clause-reader : goal.reader_kids-kids-requires-clause-reader
 reader_kids-kids-requires-clause-reader c =
     reader_at c.args.site.now.tree.now c.requires.site.law c.args.node c.requires.node c.args.reader.now c.requires.reader
-    (class_name c.args.reader.now.info ∙ c.if-reader-class.false ∙ c.requires.class)
-
-pub add_kids-requires-clause-class : goal.add_kids-requires-clause-class
-add_kids-requires-clause-class c =
-    class_name c.args.reader.now.info ∙ c.if-reader-class.false ∙ c.requires.class
+    c.requires.class
 
 pub add_kids-requires-clause-kids : goal.add_kids-requires-clause-kids
 add_kids-requires-clause-kids c = λ n from to. (c.reader_kids-kids.ensures.kids.only n from to).0
@@ -47,14 +32,14 @@ returns-clause-adds c =
     (λ k h.
     let there_for = c.reader_kids-kids.ensures.kids.only h.number h.least h.below in
     reader_key g law (site_placing x) t.tree fits v o e k (there g law t.tree fits c.args.node c.requires.node)
-    c.requires.reader (class_name e.info ∙ c.if-reader-class.false ∙ c.requires.class)
+    c.requires.reader c.requires.class
     (record { number = h.number; below = there_for.0; hit = there_for.1; key_is = h.key_is }))
     c.add_kids.ensures.adds
 
 pub returns-clause-all : goal.returns-clause-all
 returns-clause-all c =
     on_ok c.add_kids.result
-    (λ all k of by.
+    (λ all k by.
     let within = c.reader_kids-kids.ensures.kids.has by.number by.below by.hit in
     all k (record { number = by.number; least = within.0; below = within.1; key_is = by.key_is }))
     c.add_kids.ensures.all

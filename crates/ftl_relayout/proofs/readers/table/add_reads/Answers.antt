@@ -14,7 +14,7 @@ loop-read-preserved c =
     let k = c.loop-read.read-index in
     let d : PartRead = reads.Own 0 in
     let below = c.loop-read-test.true in
-    comes_both c.args.lists.now c.loop-read.lists c.add_read.new.lists (IsOfReads i w (take k qs))
+    comes_both c.args.classes c.args.lists.now c.loop-read.lists c.add_read.new.lists (IsOfReads i w (take k qs))
     (IsOfReads i w (get_or qs k d ∷ [])) (IsOfReads i w (take (k + 1) qs)) c.loop-read.invariant c.in_ok-add_read.ensures.comes
     (reads_more i w qs k d below)
     (λ e l. more_reads i w qs k d below e (inl l))

@@ -19,8 +19,8 @@ returns-in-Plain c =
       comes =
           on_ok c.add_reads.result
           (λ came.
-          subst (λ (p : Parts). Comes c.args.lists.now c.add_reads.new.lists (IsOfParts i p)) (sym (ap parts_meant same))
-          (comes_as c.args.lists.now c.add_reads.new.lists (IsOfReads i when.Always qs) (IsOfParts i (plain (map read_meant qs)))
+          subst (λ (p : Parts). Comes c.args.classes c.args.lists.now c.add_reads.new.lists (IsOfParts i p)) (sym (ap parts_meant same))
+          (comes_as c.args.classes c.args.lists.now c.add_reads.new.lists (IsOfReads i when.Always qs) (IsOfParts i (plain (map read_meant qs)))
           came (of_plain i qs) (plain_of i qs)))
           c.add_reads.ensures.comes;
     }
@@ -35,9 +35,9 @@ returns-in_ok-add_reads-in-FirstThen c =
       comes =
           on_ok c.add_reads-in-FirstThen-2.result
           (λ came.
-          subst (λ (p : Parts). Comes c.args.lists.now c.add_reads-in-FirstThen-2.new.lists (IsOfParts i p))
+          subst (λ (p : Parts). Comes c.args.classes c.args.lists.now c.add_reads-in-FirstThen-2.new.lists (IsOfParts i p))
           (sym (ap parts_meant same))
-          (comes_both c.args.lists.now c.add_reads-in-FirstThen.new.lists c.add_reads-in-FirstThen-2.new.lists
+          (comes_both c.args.classes c.args.lists.now c.add_reads-in-FirstThen.new.lists c.add_reads-in-FirstThen-2.new.lists
           (IsOfReads i when.First xs) (IsOfReads i when.Later ys)
           (IsOfParts i (first_then (map read_meant xs) (map read_meant ys)))
           c.in_ok-add_reads-in-FirstThen.ensures.comes came (of_two i xs ys) (first_of i xs ys) (later_of i xs ys)))
@@ -55,9 +55,9 @@ returns-in_ok-add_reads-in-FoldOver c =
       comes =
           on_ok c.add_reads-in-FoldOver-2.result
           (λ came.
-          subst (λ (p : Parts). Comes c.args.lists.now c.add_reads-in-FoldOver-2.new.lists (IsOfParts i p))
+          subst (λ (p : Parts). Comes c.args.classes c.args.lists.now c.add_reads-in-FoldOver-2.new.lists (IsOfParts i p))
           (sym (ap parts_meant same))
-          (comes_both c.args.lists.now c.add_reads-in-FoldOver.new.lists c.add_reads-in-FoldOver-2.new.lists
+          (comes_both c.args.classes c.args.lists.now c.add_reads-in-FoldOver.new.lists c.add_reads-in-FoldOver-2.new.lists
           (IsOfReads i when.Always xs) (IsOfReads i (when.EachKid child) ys)
           (IsOfParts i (fold_over child (map read_meant xs) (map read_meant ys)))
           c.in_ok-add_reads-in-FoldOver.ensures.comes came (of_fold i child xs ys) (start_of i child xs ys)

@@ -11,7 +11,7 @@ use Rattle.ftl_relayout.proofs.readers.table.add_rules.Goals as goal
 
 pub loop-rule-init : goal.loop-rule-init
 loop-rule-init c =
-    comes_none c.args.lists.now (IsOfRules c.args.checked.now (map parts_meant c.args.parts.now) 0)
+    comes_none c.args.classes c.args.lists.now (IsOfRules c.args.checked.now (map parts_meant c.args.parts.now) 0)
     (λ e is below. rules_none c.args.checked.now (map parts_meant c.args.parts.now) e is)
 
 pub loop-rule-preserved : goal.loop-rule-preserved
@@ -27,12 +27,12 @@ loop-rule-preserved c =
     ap parts_meant c.index-parts-rule.is
     ∙ sym (get_or-map parts_meant c.args.parts.now n c.index-parts-rule.result (plain []) within) in
     let Q = IsOfParts (rule_info_at k.grammar n) (get_or ps n (plain [])) in
-    let came : Comes c.loop-rule.lists c.add_rule.new.lists Q =
-    subst (λ (i : RuleInfo). Comes c.loop-rule.lists c.add_rule.new.lists (IsOfParts i (get_or ps n (plain []))))
+    let came : Comes c.args.classes c.loop-rule.lists c.add_rule.new.lists Q =
+    subst (λ (i : RuleInfo). Comes c.args.classes c.loop-rule.lists c.add_rule.new.lists (IsOfParts i (get_or ps n (plain []))))
     c.rule.ensures.info
-    (subst (λ (p : Parts). Comes c.loop-rule.lists c.add_rule.new.lists (IsOfParts c.rule.result p)) part
+    (subst (λ (p : Parts). Comes c.args.classes c.loop-rule.lists c.add_rule.new.lists (IsOfParts c.rule.result p)) part
     c.in_ok-add_rule.ensures.comes) in
-    comes_both c.args.lists.now c.loop-rule.lists c.add_rule.new.lists (IsOfRules k ps n) Q (IsOfRules k ps (n + 1))
+    comes_both c.args.classes c.args.lists.now c.loop-rule.lists c.add_rule.new.lists (IsOfRules k ps n) Q (IsOfRules k ps (n + 1))
     c.loop-rule.invariant came (rules_split k ps n) (rules_before k ps n) (rules_last k ps n)
 
 pub returns : goal.returns
@@ -43,6 +43,6 @@ returns c =
     let all : c.loop-rule.rule ≡ length (all_rules c.args.checked.now.grammar) = omega (arith, past, within, count) in
     record {
       comes =
-          subst (λ n. Comes c.args.lists.now c.loop-rule.lists (IsOfRules c.args.checked.now (map parts_meant c.args.parts.now) n))
+          subst (λ n. Comes c.args.classes c.args.lists.now c.loop-rule.lists (IsOfRules c.args.checked.now (map parts_meant c.args.parts.now) n))
           all c.loop-rule.invariant;
     }

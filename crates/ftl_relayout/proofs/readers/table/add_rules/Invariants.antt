@@ -5,4 +5,4 @@ use Rattle.ftl_relayout.proofs.readers.table.add_rules.Given as goal
 
 -- the reads of the rules before this one have come
 abbrev pub invariant-loop-rule : goal.invariant-loop-rule
-invariant-loop-rule l = Comes l.fn.lists l.lists (IsOfRules l.checked (map parts_meant l.parts) l.rule)
+invariant-loop-rule l = Comes l.classes l.fn.lists l.lists (IsOfRules l.checked (map parts_meant l.parts) l.rule)

@@ -3,8 +3,8 @@ use Rattle.ftl_relayout.specs.readers.Tables.{HasNone}
 use Rattle.ftl_relayout.proofs.readers.table.no_readers.Given as goal
 
 -- a list for each number before this one
-abbrev pub invariant-loop-attr : goal.invariant-loop-attr
-invariant-loop-attr l = record {
-  long : length l.lists.items ≡ l._attr;
+abbrev pub invariant-loop-list : goal.invariant-loop-list
+invariant-loop-list l = record {
+  long : length l.lists.items ≡ l._list;
   none : HasNone l.lists.items;
 }

@@ -8,11 +8,8 @@ use Rattle.ftl_run.proofs.calls.shown.table_shown.Goals as goal
 abbrev ended : Answer → Outcome ⊥
 ended a = ends a
 
-pub shows_overflow-requires : goal.shows_overflow-requires
-shows_overflow-requires c = record { words = words_count c.args.tree.now c.args.words.now c.requires.solved }
-
-pub text_of-requires : goal.text_of-requires
-text_of-requires c = record { words = words_count c.args.tree.now c.args.words.now c.requires.solved }
+pub printed-requires : goal.printed-requires
+printed-requires c = record { words = words_count c.args.tree.now c.args.words.now c.requires.solved }
 
 pub returns : goal.returns
 returns c =
@@ -24,8 +21,8 @@ returns c =
         x.solves,
         ap ended
             (shown_is c.args.shown.now t x.values (table_of_words t c.args.words.now) c.status_by-status.result.0
-            c.in_ok-text.text.items c.in_ok-shows_overflow.field-0
+            c.in_ok-text.field-0.text.items c.in_ok-text.field-0.overflows
             (same_table t c.args.words.now x c.words_are_undone.ensures.undone) c.status_by-status.ensures.status
-            c.in_ok-shows_overflow.ensures.shown c.in_ok-text.ensures.text),
+            c.in_ok-text.ensures.overflows c.in_ok-text.ensures.text),
       );
     }

@@ -1,0 +1,5 @@
+mod NodeAttributes
+mod Values
+mod SameTree
+mod Anew
+mod Written

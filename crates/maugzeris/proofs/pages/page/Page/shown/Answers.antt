@@ -1,0 +1,9 @@
+use Rattle.std.proofs.Common.{◌∙◌, ap}
+use Rattle.ftl_tree.specs.boxes.Shows.{node_shows}
+use Rattle.ftl_tree.specs.trees.CheckedTree.{CheckedTree}
+use Rattle.maugzeris.proofs.pages.page.Page.shown.Goals as goal
+
+pub returns : goal.returns
+returns c = record {
+  shown = c.shown_by.ensures.shown ∙ ap (λ (t : CheckedTree). node_shows t c.args.node) c.tree.ensures.tree;
+}

@@ -1,0 +1,3 @@
+pub mod refusals
+pub mod rules
+pub mod pages

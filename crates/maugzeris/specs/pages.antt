@@ -1,0 +1,3 @@
+pub mod PageState
+pub mod PageInside
+pub mod NodesLeft

@@ -1,0 +1,15 @@
+//! Pages. Goes in: rules, the text of a document, and numbers for inputs. Comes out: `Page`, which
+//! contracts see as its rules, its tree, the edits that are not laid out yet, and the values where
+//! it was laid out: `specs/pages/PageState.antt`. `laying` lays it out, `editing` changes inputs
+//! and lays out anew, `showing` tells values and boxes, `attributes` what a node has, and `nodes`
+//! has an iterator over the nodes.
+
+mod attributes;
+mod editing;
+mod laying;
+mod nodes;
+mod page;
+mod showing;
+
+pub use nodes::{Node, Nodes};
+pub use page::Page;
