@@ -11,6 +11,10 @@ usage: bench/relayout.py random [COUNT [SEED [PROGRAM]]]   tells where they diff
                                                            instances are touched, microseconds of processor time for each
                                                            change and for each touched instance, and how many times as
                                                            long as all these changes laying out from nothing takes
+       bench/relayout.py share [RUNS [PROGRAM]]            for 200 changes at the front of each sample and one that touches
+                                                           a chain: how many times as long as laying out from nothing the
+                                                           call takes, by the least and by the middle times of so many
+                                                           runs, 15 if left out
 
 All changes of a page are one call, so a change's time is a mean, and no call of one change is measured but the last two
 rows. The time is that of a run with the changes, from the tables of the grammar to the boxes, less that of one without:
@@ -20,6 +24,7 @@ PROGRAM is the proved one, which ./prove builds, if left out.
 import collections
 import random
 import re
+import statistics
 import subprocess
 import sys
 import tempfile
@@ -162,17 +167,21 @@ def with_edits(page, edits):
     return page + "%edits\n" + "".join(f"{node}.{name} = {value + 1};\n" for node, name, value in edits)
 
 
-def spent(program, page, functions):
-    """The least milliseconds from the tables of the grammar to the boxes, and of laying out from nothing."""
+def spent_by_run(program, page, functions, runs):
+    """For each run the milliseconds from the tables of the grammar to the boxes, and of laying out from nothing."""
     with tempfile.NamedTemporaryFile("w") as file:
         file.write(page)
         file.flush()
-        anew, nothing = [], []
-        for _ in range(RUNS):
+        for _ in range(runs):
             calls = timed_calls(program, ["edit"], file.name, functions)
             ended = [until for name, _, until in calls if name == "tables"][-1]
-            anew.append(next(began for name, began, _ in calls if name == "shown") - ended)
-            nothing.append(sum(until - began for name, began, until in calls if name in ("plan", "solve")))
+            anew = next(began for name, began, _ in calls if name == "shown") - ended
+            yield anew, sum(until - began for name, began, until in calls if name in ("plan", "solve"))
+
+
+def spent(program, page, functions):
+    """The least milliseconds of both."""
+    anew, nothing = zip(*spent_by_run(program, page, functions, RUNS))
     return min(anew), min(nothing)
 
 
@@ -196,8 +205,38 @@ def times(program):
             for place, at in zip(PLACES, [0, len(found) // 2, len(found) - CHANGES]):
                 row(program, functions, f"{grammar} {size}", place, page, found[at : at + CHANGES])
     for kids in [1_000, 100_000]:
-        page = f"%page 1\n%grammar\n{CHAIN}%schedule auto\n%document\nCol {{ kids = [\n" + "W { w = 1 }\n" * kids + "] }\n"
-        row(program, functions, f"chain of {kids}", "front", page, [(1, "w", 1)])
+        row(program, functions, f"chain of {kids}", "front", chain(kids), [(1, "w", 1)])
+
+
+def chain(kids):
+    return f"%page 1\n%grammar\n{CHAIN}%schedule auto\n%document\nCol {{ kids = [\n" + "W { w = 1 }\n" * kids + "] }\n"
+
+
+# ---- a change of all beside laying out from nothing
+
+
+def share_row(program, functions, name, page, edits, runs):
+    written = with_edits(page, edits)
+    told = subprocess.run([program, "edit"], input=written.encode(), stdout=subprocess.PIPE).stdout.decode()
+    # The runs of both pages go in turns.
+    both = zip(
+        spent_by_run(program, with_edits(page, []), functions, runs), spent_by_run(program, written, functions, runs)
+    )
+    without, changed, nothing = zip(*((before[0], after[0], min(before[1], after[1])) for before, after in both))
+    least = (min(changed) - min(without)) / min(nothing)
+    middle = (statistics.median(changed) - statistics.median(without)) / statistics.median(nothing)
+    print(f"{name:16} {told.rsplit('=', 1)[1].strip():>8} {least:10.2f} {middle:10.2f}", flush=True)
+
+
+def share(runs, program):
+    functions = addresses(program, TIMED)
+    print(f"{'page':16} {'touched':>8} {'least':>10} {'middle':>10}")
+    for grammar in GRAMMARS:
+        for size in SIZES:
+            page = sample(grammar, size)
+            found = [it for it in first_inputs(page) if it[1] in ("iw", "ih")]
+            share_row(program, functions, f"{grammar} {size}", page, found[:CHANGES], runs)
+    share_row(program, functions, "chain of 100000", chain(100_000), [(1, "w", 1)], runs)
 
 
 def main():
@@ -207,6 +246,8 @@ def main():
         compare(count, seed, program_at(4))
     elif words[:1] == ["times"]:
         times(program_at(2))
+    elif words[:1] == ["share"]:
+        share(int(words[1]) if len(words) > 1 else 15, program_at(3))
     else:
         sys.exit(__doc__)
 

@@ -10,4 +10,7 @@ pub mod RowLemmas
 pub mod SizeLemmas
 pub mod NumberLemmas
 pub mod Documents
+pub mod Levels
+pub mod Shallow
+pub mod Takes
 pub mod AnswerLemmas

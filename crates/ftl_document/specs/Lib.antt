@@ -1,3 +1,4 @@
+pub mod plain
 pub mod syntax
 pub mod faults
 pub mod fields

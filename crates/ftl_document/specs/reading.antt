@@ -1,2 +1,3 @@
 pub mod ReadTree
 pub mod ReadNodes
+pub mod OfText

@@ -1,4 +1,5 @@
 pub mod Written
+pub mod Source
 pub mod Spelling
 pub mod Rows
 pub mod Braces

@@ -1,3 +1,2 @@
-mod Shallow
 mod Fronts
 mod SpelledDocument

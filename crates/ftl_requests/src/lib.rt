@@ -4,8 +4,8 @@
 //!
 //! - `sections`: `read_page`, `grammar_of`, `schedule_of`, `tree_of`, `edits_of`: from the bytes of
 //!   a page to its tree and its edits; `grammar_of_text`, `automatic_schedule`, `written_schedule`:
-//!   the same of texts with no page; `noncircular_of`, `grown_tree_of`: where no schedule plays a
-//!   part
+//!   the same of texts with no page; `tree_of_document`: the tree of a document that is written by
+//!   calls; `noncircular_of`, `grown_tree_of`: where no schedule plays a part
 //! - `requests`: `requested`, `written`; what the commands come to that show no table
 #![tactic(auto)]
 
@@ -17,5 +17,6 @@ pub use requests::{
 };
 pub use sections::{
     Decided, Status, Undecided, automatic_schedule, edits_of, grammar_of, grammar_of_text,
-    grown_tree_of, noncircular_of, read_page, schedule_of, tree_of, written_schedule,
+    grown_tree_of, noncircular_of, read_page, schedule_of, tree_of, tree_of_document,
+    written_schedule,
 };

@@ -7,6 +7,10 @@
 //! - `limited`: the number at which those of a document end, and the numbers among its tokens
 //! - `document`: the class and the rows of the document that it is
 //! - `wide-limited` and `wide-document`: the same where numbers end at 140737488355327
+//! - `plain`: the same where it is read from the bytes of the text
+//! - `changed`: the texts, of those that are this one with a character left out, doubled or another,
+//!   that are read from their bytes otherwise than from their tokens
+//! - `sample`: whether the document of a sample of a grammar with so many pieces is read from bytes
 //! - `grammar`: the canonical text of the grammar that it spells
 //! - `shipped`: the canonical text of the shipped grammar of this name
 //! - `again`: whether that text is itself canonical
@@ -18,6 +22,7 @@
 use crate::document::write_document;
 use crate::grammar::{write_again, write_grammar};
 use crate::line::text_of;
+use crate::plain::{write_changed, write_plain, write_sample};
 use crate::tokens::{
     greatest, write_gaps, write_kinds, write_limited, write_names, write_numbers, write_places,
 };
@@ -48,6 +53,11 @@ fn write_answer(alloc: Global, out: &mut String, line: &str) -> Result<(), Alloc
     let (question, text) = line.split_once(' ').unwrap_or((line, ""));
     match question {
         "gaps" => write_gaps(alloc, out),
+        "sample" => write_sample(alloc, out, text),
+        "plain" | "wide-plain" => {
+            write_plain(alloc, out, &text_of(alloc, text)?, greatest(question))
+        }
+        "changed" => write_changed(alloc, out, &text_of(alloc, text)?, 2147483647),
         "names" => write_names(alloc, out, text),
         "shipped" | "again" => write_of_text(alloc, out, question, shipped(text).unwrap_or("")),
         "limited" | "document" | "wide-limited" | "wide-document" => {

@@ -17,7 +17,11 @@ pub(crate) fn write_document(
     }
 }
 
-fn write_rows(out: &mut String, document: &WrittenDocument<'_>) -> Result<(), AllocError> {
+/// Writes the class and the rows of a document.
+pub(crate) fn write_rows(
+    out: &mut String,
+    document: &WrittenDocument<'_>,
+) -> Result<(), AllocError> {
     write!(out, " {}", document.class().text())?;
     for row in document.rows() {
         write_row(out, row)?;

@@ -6,6 +6,7 @@ mod cases;
 mod document;
 mod grammar;
 mod line;
+mod plain;
 mod tokens;
 
 use cases::write_cases;

@@ -3,3 +3,4 @@ mod Values
 mod SameTree
 mod Anew
 mod Written
+mod Parents

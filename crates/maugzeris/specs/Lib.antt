@@ -1,3 +1,4 @@
 pub mod refusals
 pub mod rules
 pub mod pages
+pub mod building

@@ -1,3 +1,4 @@
 pub mod PageState
 pub mod PageInside
 pub mod NodesLeft
+pub mod Places

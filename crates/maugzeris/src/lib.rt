@@ -5,12 +5,15 @@
 //! - `refusals`: `Refusal`: why a text is refused
 //! - `rules`: `Grammar`, `Rules`: a grammar, and a schedule that computes it
 //! - `pages`: `Page`: a document, laid out, changed and laid out anew; `Node`, `Nodes`: its nodes
+//! - `building`: `Builder`: a page built by calls, without a text
 #![tactic(auto)]
 
+pub mod building;
 pub mod pages;
 pub mod refusals;
 pub mod rules;
 
+pub use building::Builder;
 pub use ftl_base::{Val, Width};
 pub use ftl_page::Section;
 pub use ftl_requests::Status;

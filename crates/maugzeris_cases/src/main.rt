@@ -1,18 +1,24 @@
 //! Prints what calls of the library answer. Each case on standard input begins by a line with `===`
 //! and the width, `narrow` or `wide`. Below stand the texts, each behind a line of its own:
-//! `--- grammar`, `--- schedule` where there is one, `--- document`, and `--- steps`, a line for
-//! each call: `lay_out`, `lay_out_by WORKERS GRAIN`, `boxes`, `overflow`, `nodes`,
-//! `value NODE NAME`, `set NODE NAME NUMBER` and `relayout`. Printed is the line of the case, then
-//! what each call answers, or the refusal: its status, its section and its line.
+//! `--- grammar`, `--- schedule` where there is one, `--- document` or `--- built` or both, and
+//! `--- steps`, a line for each call: `lay_out`, `lay_out_by WORKERS GRAIN`, `boxes`, `overflow`,
+//! `nodes`, `value NODE NAME`, `set NODE NAME NUMBER` and `relayout`. Below `--- built` stand the
+//! class of the root and then calls that build a page: `number NAME NUMBER`, `node NAME CLASS`,
+//! `list NAME`, `kid CLASS`, `close`, `close_all`, `deep COUNT NAME CLASS`, which opens nodes in one
+//! another, and `classes`. Printed is the line of the case, then what each call answers, or the
+//! refusal: its status, its section and its line, and the byte that it tells; first of the document
+//! and then of the page that was built.
 #![tactic(auto)]
 
+mod built;
 mod case;
 mod steps;
 mod told;
 
+use built::built;
 use case::Case;
 use ftl_edge::{StdSource, read_all};
-use maugzeris::{Grammar, Page, Rules};
+use maugzeris::{Builder, Grammar, Page, Rules};
 use std::alloc::{AllocError, Global};
 use std::io;
 use std::sync::Wait;
@@ -64,8 +70,36 @@ fn answer_of_rules<R: Threads + Wait + Sync>(
     rules: &Rules<'_>,
     out: &mut String,
 ) -> Result<(), AllocError> {
-    match Page::new(alloc, rules, case.document) {
-        Ok(page) => take_steps(rt, alloc, case.steps, page, out),
+    if let Some(text) = case.document {
+        match Page::new(alloc, rules, text) {
+            Ok(page) => take_steps(rt, alloc, case.steps, page, out)?,
+            Err(refusal) => tell_refusal(out, &refusal)?,
+        }
+    }
+    match case.built {
+        Some(lines) => answer_of_calls(
+            rt,
+            alloc,
+            case.steps,
+            built(alloc, rules, lines, out)?,
+            out,
+        ),
+        None => Ok(()),
+    }
+}
+
+fn answer_of_calls<R: Threads + Wait + Sync>(
+    rt: &R,
+    alloc: Global,
+    steps: &str,
+    builder: Builder<'_>,
+    out: &mut String,
+) -> Result<(), AllocError> {
+    if !builder.is_whole() {
+        return out.push_str("not whole\n");
+    }
+    match builder.finish(alloc) {
+        Ok(page) => take_steps(rt, alloc, steps, page, out),
         Err(refusal) => tell_refusal(out, &refusal),
     }
 }

@@ -6,7 +6,7 @@ use maugzeris::{InstanceList, Node, Refusal, Section, Val};
 use std::alloc::AllocError;
 use std::fmt::Write;
 
-/// The status, the section and the line of a refusal.
+/// The status, the section and the line of a refusal, and the byte that it tells.
 pub(crate) fn tell_refusal(out: &mut String, refusal: &Refusal) -> Result<(), AllocError> {
     let line = str::from_utf8(refusal.line()).unwrap_or("no text\n");
     let section = section_name(refusal.section());
@@ -15,6 +15,9 @@ pub(crate) fn tell_refusal(out: &mut String, refusal: &Refusal) -> Result<(), Al
         "status {} section {section}: {line}",
         refusal.status().0
     )?;
+    if let Some(at) = refusal.byte() {
+        writeln!(out, "byte {at}")?;
+    }
     Ok(())
 }
 

@@ -49,12 +49,14 @@ is_spelled tokens left x e =
     subst (λ l. SpellsNode l x) (sym whole) taken.spells
 
 -- a document that is read, and its rows
-record ReadNode (tokens : Tokens) (d : DocumentRows) : Type 0 where
-  node : WrittenNode
-  spells : SpellsNode tokens node
-  is : d ≡ cut_document node
+pub record ReadNode (tokens : Tokens) (d : DocumentRows) : Type 0 where
+  pub node : WrittenNode
+  pub rest : Tokens
+  pub read : document tokens ≡ Ok (node, rest)
+  pub spells : SpellsNode tokens node
+  pub is : d ≡ cut_document node
 
-read_node : (tokens left : Tokens) (d : DocumentRows) → by_rows.document tokens ≡ Ok (d, left) → ReadNode tokens d
+pub read_node : (tokens left : Tokens) (d : DocumentRows) → by_rows.document tokens ≡ Ok (d, left) → ReadNode tokens d
 read_node tokens left d e = by (document tokens) refl
   where
     rows_in : ReadResult DocumentRows → DocumentRows → DocumentRows
@@ -65,7 +67,7 @@ read_node tokens left d e = by (document tokens) refl
     by (Ok x) read =
         let same : Ok (d, left) ≡ Ok (cut_document x.0, x.1) =
         sym e ∙ document-rows tokens ∙ ap (λ o. and_then o (λ n. pure (cut_document n))) read in
-        record { node = x.0; spells = is_spelled tokens x.1 x.0 read; is = ap (λ o. rows_in o d) same }
+        record { node = x.0; rest = x.1; read = read; spells = is_spelled tokens x.1 x.0 read; is = ap (λ o. rows_in o d) same }
     by (Err rest) read =
         absurd (
         let same : Ok (d, left) ≡ Err rest =

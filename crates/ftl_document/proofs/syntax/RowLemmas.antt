@@ -229,7 +229,7 @@ module _ {fields : Reader WrittenFields} {row_fields : RowReader} (inside : Rows
         ∙ placed cut_fields rows_of g old row found (reading.braced fields ts) e;
   }
 
-  kid-rows : Rows cut_node (reading.node fields) (by_rows.kid row_fields)
+  pub kid-rows : Rows cut_node (reading.node fields) (by_rows.kid row_fields)
   unfolding reading.node by_rows.kid
   kid-rows = record {
     same = λ found ts.
@@ -278,7 +278,7 @@ module _ {fields : Reader WrittenFields} {row_fields : RowReader} (inside : Rows
   unfolding reading.value by_rows.value
   value-rows x = record { same = λ found ts. value_by-rows x found (next_kind ts) ts }
 
-  field-rows : Rows cut_fields (reading.field fields) (by_rows.field row_fields)
+  pub field-rows : Rows cut_fields (reading.field fields) (by_rows.field row_fields)
   unfolding reading.field by_rows.field
   field-rows = record {
     same = λ found ts.

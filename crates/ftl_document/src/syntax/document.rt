@@ -22,7 +22,8 @@ impl<'a> Model for WrittenDocument<'a> {
 }
 
 impl<'a> WrittenDocument<'a> {
-    pub(crate) fn new(class: NameRef<'a>, rows: Vec<WrittenRow<'a>>) -> WrittenDocument<'a>
+    /// The document of a node of this class, whose fields have these rows.
+    pub fn new(class: NameRef<'a>, rows: Vec<WrittenRow<'a>>) -> WrittenDocument<'a>
         ensures class { result.class ≡ class.entry }
         ensures rows { result.rows ≡ rows.entry.items }
     {

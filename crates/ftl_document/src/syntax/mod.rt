@@ -8,6 +8,7 @@ mod counts;
 mod depth;
 mod document;
 mod fault;
+mod input;
 mod laws;
 mod name_ref;
 mod nested;
@@ -17,8 +18,10 @@ mod worked;
 
 pub use document::WrittenDocument;
 pub use fault::WrittenDocumentFault;
+pub(crate) use input::DocumentInput;
 pub use laws::{one_answer, one_place, one_written_document};
 pub use name_ref::NameRef;
 pub use read::read_written_document;
+pub(crate) use read::{MOST_NODES, document};
 pub use row::WrittenRow;
 pub use worked::worked_document;

@@ -6,9 +6,10 @@ ghost use Rattle.ftl_document.specs.syntax.RowReading as spec;
 ghost use Rattle.ftl_document.specs.syntax.RowReading.{Pushes, below, rounds_of};
 ghost use Rattle.ftl_document.specs.syntax.Nests.{IsNested};
 
+use crate::syntax::input::DocumentInput;
 use crate::syntax::name_ref::NameRef;
 use crate::syntax::row::WrittenRow;
-use ftl_tokens::{Kind, ReadFault, WideInput};
+use ftl_tokens::{Kind, ReadFault};
 
 /// What reads the fields in the braces of a node.
 #[derive(Clone, Copy)]
@@ -20,13 +21,13 @@ pub(crate) struct Nested<F> {
 
 impl<
     'a,
-    F: Fn(&mut Vec<WrittenRow<'a>>, &mut WideInput<'a>, usize) -> Result<(), ReadFault>,
+    F: Fn(&mut Vec<WrittenRow<'a>>, &mut DocumentInput<'a>, usize) -> Result<(), ReadFault>,
 > Nested<F> {
     #[tactic(auto, unfolding(crate::specs::syntax::RowReading::braces))]
     pub(crate) fn braces(
         &self,
         rows: &mut Vec<WrittenRow<'a>>,
-        input: &mut WideInput<'a>,
+        input: &mut DocumentInput<'a>,
     ) -> Result<(), ReadFault>
         requires nested { IsNested F.Fn self.now }
         ensures reads { Pushes (spec.braces (spec.fields_to self.now.depth) rows.old.items
@@ -44,7 +45,7 @@ impl<
     fn kid(
         &self,
         rows: &mut Vec<WrittenRow<'a>>,
-        input: &mut WideInput<'a>,
+        input: &mut DocumentInput<'a>,
     ) -> Result<(), ReadFault>
         requires nested { IsNested F.Fn self.now }
         ensures reads { Pushes (spec.kid (spec.fields_to self.now.depth) rows.old.items
@@ -70,7 +71,7 @@ impl<
     fn single(
         &self,
         rows: &mut Vec<WrittenRow<'a>>,
-        input: &mut WideInput<'a>,
+        input: &mut DocumentInput<'a>,
         name: &'a str,
     ) -> Result<(), ReadFault>
         requires nested { IsNested F.Fn self.now }
@@ -97,18 +98,15 @@ impl<
     fn kids(
         &self,
         rows: &mut Vec<WrittenRow<'a>>,
-        input: &mut WideInput<'a>,
+        input: &mut DocumentInput<'a>,
     ) -> Result<(), ReadFault>
         requires nested { IsNested F.Fn self.now }
         ensures reads { Pushes (rounds_of (spec.kid (spec.fields_to self.now.depth)) rows.old.items
             input.old) result rows.new.items input.new }
         ensures grows { length rows.old.items ≤ length rows.new.items }
     {
-        for _turn in 0..input.left() {
-            match input.peek() {
-                Some(Kind::Name) => self.kid(rows, input)?,
-                _ => return Ok(()),
-            }
+        while let Some(Kind::Name) = input.peek() {
+            self.kid(rows, input)?;
         }
         Ok(())
     }
@@ -118,7 +116,7 @@ impl<
     fn list(
         &self,
         rows: &mut Vec<WrittenRow<'a>>,
-        input: &mut WideInput<'a>,
+        input: &mut DocumentInput<'a>,
         name: &'a str,
     ) -> Result<(), ReadFault>
         requires nested { IsNested F.Fn self.now }
@@ -145,7 +143,7 @@ impl<
     fn value(
         &self,
         rows: &mut Vec<WrittenRow<'a>>,
-        input: &mut WideInput<'a>,
+        input: &mut DocumentInput<'a>,
         name: &'a str,
     ) -> Result<(), ReadFault>
         requires nested { IsNested F.Fn self.now }
@@ -183,7 +181,7 @@ impl<
     fn field(
         &self,
         rows: &mut Vec<WrittenRow<'a>>,
-        input: &mut WideInput<'a>,
+        input: &mut DocumentInput<'a>,
     ) -> Result<(), ReadFault>
         requires nested { IsNested F.Fn self.now }
         ensures reads { Pushes (spec.field (spec.fields_to self.now.depth) rows.old.items
@@ -199,18 +197,15 @@ impl<
     pub(crate) fn field_list(
         &self,
         rows: &mut Vec<WrittenRow<'a>>,
-        input: &mut WideInput<'a>,
+        input: &mut DocumentInput<'a>,
     ) -> Result<(), ReadFault>
         requires nested { IsNested F.Fn self.now }
         ensures reads { Pushes (rounds_of (spec.field (spec.fields_to self.now.depth))
             rows.old.items input.old) result rows.new.items input.new }
         ensures grows { length rows.old.items ≤ length rows.new.items }
     {
-        for _turn in 0..input.left() {
-            match input.peek() {
-                Some(Kind::Name) => self.field(rows, input)?,
-                _ => return Ok(()),
-            }
+        while let Some(Kind::Name) = input.peek() {
+            self.field(rows, input)?;
         }
         Ok(())
     }

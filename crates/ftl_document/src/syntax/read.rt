@@ -8,6 +8,7 @@ use crate::syntax::counts::{node_count, token_count};
 use crate::syntax::depth::fields;
 use crate::syntax::document::WrittenDocument;
 use crate::syntax::fault::WrittenDocumentFault;
+use crate::syntax::input::DocumentInput;
 use crate::syntax::name_ref::NameRef;
 use crate::syntax::nested::Nested;
 use ftl_tokens::{Kind, ReadFault, WideInput, WideScanned, first_too_deep_in, place_in};
@@ -21,7 +22,7 @@ const CLOSING: [Kind; 1] = [Kind::RightBrace];
 const DEEPEST: usize = 512;
 
 /// How many nodes a document may have.
-const MOST_NODES: u32 = 1_048_576;
+pub(crate) const MOST_NODES: u32 = 1_048_576;
 
 /// The document that the tokens spell, or the first fault. Whether the braces are too deep is
 /// looked at first, then how many nodes there are, and then the syntax.
@@ -39,7 +40,7 @@ pub fn read_written_document<'a>(
     if count > MOST_NODES {
         return Err(WrittenDocumentFault::TooManyNodes { count });
     }
-    let mut input = WideInput::new(scanned);
+    let mut input = DocumentInput::scanned(WideInput::new(scanned));
     match document(alloc, &mut input, tokens as usize / 3) {
         Ok(document) => Ok(document),
         Err(ReadFault::Refused) => Err(WrittenDocumentFault::Syntax {
@@ -51,9 +52,9 @@ pub fn read_written_document<'a>(
 
 /// A document. A row stands for three tokens at least, so `room` is a third of the tokens.
 #[tactic(auto, unfolding(crate::specs::syntax::RowReading::document))]
-fn document<'a>(
+pub(crate) fn document<'a>(
     alloc: Global,
-    input: &mut WideInput<'a>,
+    input: &mut DocumentInput<'a>,
     room: usize,
 ) -> Result<WrittenDocument<'a>, ReadFault>
     ensures reads { Reads (spec.document input.old) result input.new }

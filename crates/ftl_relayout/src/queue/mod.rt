@@ -6,6 +6,7 @@
 
 mod later;
 mod laws;
+mod near;
 mod rules;
 mod run;
 mod trail;

@@ -10,8 +10,9 @@ ghost use Rattle.ftl_order.specs.orders.Lawful.{IsLawful, IsRule, class_of_rule}
 ghost use Rattle.ftl_order.specs.steps.Steps.{target_of_rule};
 ghost use Rattle.ftl_visit.specs.step_reads.StepReads.{kids_in};
 ghost use Rattle.ftl_relayout.specs.keys.Keys as keys;
-ghost use Rattle.ftl_relayout.specs.readers.Readers.{IsKeyBy, IsKidOf, IsReader, attribute_read};
-ghost use Rattle.ftl_relayout.specs.readers.Readers.{readers_for, rule_kids, seen_as, whose_at};
+ghost use Rattle.ftl_relayout.specs.readers.Readers.{AreReaderKids, IsKeyBy, IsKidOf, IsReader};
+ghost use Rattle.ftl_relayout.specs.readers.Readers.{attribute_read, readers_for, rule_kids};
+ghost use Rattle.ftl_relayout.specs.readers.Readers.{seen_as, whose_at};
 ghost use Rattle.ftl_relayout.specs.readers.Sites.{Adds, IsKeyOfKid, IsReaderKeyAt, IsReaderSite};
 ghost use Rattle.ftl_relayout.specs.readers.Sites.{IsCellOfKey, IsTarget, IsTold, cell_of};
 ghost use Rattle.ftl_relayout.specs.readers.Sites.{site_net};
@@ -22,7 +23,7 @@ ghost use Rattle.ftl_relayout.specs.readers.Sites.{site_grammar, site_placing};
 
 use crate::keys::{KeyPlace, key_of, told};
 use crate::queue::Waiting;
-use crate::readers::kids::reader_kids;
+use crate::readers::kids::{is_for_node, reader_kids};
 use crate::readers::lists::list_at;
 use crate::readers::reader::{Range, Reader, Whose};
 use ftl_limits::is_sound;
@@ -120,7 +121,37 @@ fn readers_at<'a>(site: &ReaderSite<'a>, attr: u32, class: u32, whose: Whose) ->
 }
 
 /// Lets those wait that read it by this reader.
+#[inline(always)]
 fn add_by(
+    site: &ReaderSite<'_>,
+    node: u32,
+    place: Option<Place>,
+    reader: &Reader,
+    waiting: &mut Waiting,
+) -> Result<(), AllocError>
+    requires site { IsReaderSite site.now }
+    requires node { node < size site.now.tree.now.tree }
+    requires place { IfSome place (IsKidOf site.now.tree.now node) }
+    requires reader { IsReader (site_grammar site.now) reader.now }
+    requires class { class_of_rule (name_of_info reader.now.info)
+        ≡ class_in site.now.tree.now node }
+    ensures adds { Adds waiting.old.keys waiting.new.keys (IsReaderKeyAt site.now node
+        (seen_as place (attribute_read reader.now.read))) }
+    ensures all { OnOk result ((k : ℕ)
+        → IsKeyBy (site_grammar site.now) (site_placing site.now) site.now.tree.now.tree
+        (node_at site.now.tree.now.tree node) (seen_as place (attribute_read reader.now.read))
+        reader.now k → Contains waiting.new.keys k) }
+{
+    if is_for_node(place, reader) {
+        let kids = Range { from: 0, to: 1 };
+        return add_reading(site, node, place, reader, kids, waiting);
+    }
+    add_by_kids(site, node, place, reader, waiting)
+}
+
+/// The same, whichever kids it is for.
+#[inline(never)]
+fn add_by_kids(
     site: &ReaderSite<'_>,
     node: u32,
     place: Option<Place>,
@@ -143,10 +174,39 @@ fn add_by(
     let tree = site.tree;
     let _nodes = tree.node_count();
     let kids = reader_kids(tree, node, place, reader);
+    add_reading(site, node, place, reader, kids, waiting)
+}
+
+/// Lets what a rule computes at a node wait, for the kids for which it reads what stands at a place.
+#[inline(always)]
+fn add_reading(
+    site: &ReaderSite<'_>,
+    node: u32,
+    place: Option<Place>,
+    reader: &Reader,
+    kids: Range,
+    waiting: &mut Waiting,
+) -> Result<(), AllocError>
+    requires site { IsReaderSite site.now }
+    requires node { node < size site.now.tree.now.tree }
+    requires reader { IsReader (site_grammar site.now) reader.now }
+    requires class { class_of_rule (name_of_info reader.now.info)
+        ≡ class_in site.now.tree.now node }
+    requires kids { AreReaderKids (kids_in site.now.tree.now node) reader.now
+        (seen_as place (attribute_read reader.now.read)) kids }
+    ensures adds { Adds waiting.old.keys waiting.new.keys (IsReaderKeyAt site.now node
+        (seen_as place (attribute_read reader.now.read))) }
+    ensures all { OnOk result ((k : ℕ)
+        → IsKeyBy (site_grammar site.now) (site_placing site.now) site.now.tree.now.tree
+        (node_at site.now.tree.now.tree node) (seen_as place (attribute_read reader.now.read))
+        reader.now k → Contains waiting.new.keys k) }
+{
+    let _nodes = site.tree.node_count();
     add_kids(site, node, reader, kids, waiting)
 }
 
 /// Lets what a rule computes at a node wait, for these kids.
+#[inline(always)]
 fn add_kids(
     site: &ReaderSite<'_>,
     node: u32,

@@ -1,5 +1,5 @@
 //! The kids for which a rule reads what stands at a place.
-ghost use Rattle.std.specs.Prelude.{◌≡◌, ℕ, ◌<◌, ◌≤◌, IfSome, max, min};
+ghost use Rattle.std.specs.Prelude.{◌≡◌, ℕ, ◌<◌, ◌≤◌, IfSome, IsTrue, max, min};
 ghost use Rattle.ftl_deps.specs.reads.Meant.{meant};
 ghost use Rattle.ftl_deps.specs.reads.Products.{name_of_info};
 ghost use Rattle.ftl_model.specs.layout.Tree.{size};
@@ -10,8 +10,21 @@ ghost use Rattle.ftl_relayout.specs.readers.Readers.{attribute_read, rule_kids, 
 
 use crate::readers::reader::{Range, Reader, When};
 use crate::readers::seen::hits;
+use ftl_deps::PartRead;
 use ftl_meaning::RuleInfo;
 use ftl_tree::{Place, Tree};
+
+/// Whether the rule of a reader is for the node where it runs, and always reads the attribute of
+/// that node. So it is with most readers.
+pub(crate) fn is_for_node(place: Option<Place>, reader: &Reader) -> bool
+    ensures kids { IsTrue result → (kids : ℕ → ℕ) → AreReaderKids kids reader.now
+        (seen_as place (attribute_read reader.now.read)) (record { from = 0; to = 1 }) }
+{
+    match (place, reader.info.child, reader.when, reader.read) {
+        (None, None, When::Always, PartRead::Own(_)) => true,
+        _ => false,
+    }
+}
 
 /// The numbers of the kids for which the rule of a reader reads the attribute: of the node where it
 /// runs, or of that node's kid at this place.

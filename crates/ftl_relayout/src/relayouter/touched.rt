@@ -22,6 +22,10 @@ use ftl_edits::Edit;
 use ftl_tree::InstanceList;
 use std::alloc::{AllocError, Global};
 
+// How many stages have a row of their own at most for what waits: each call makes the rows,
+// whatever it touches.
+const MOST_ROWS: usize = 128;
+
 /// The touched instances, with the values computed anew; after want of memory the values are as
 /// before.
 pub(crate) fn touched(
@@ -98,7 +102,7 @@ fn compute(
     ensures computed_within { All (λ b. b.cell < length values.new) computed.new.items }
 {
     let _nodes = readers.tree.node_count();
-    let stages = readers.accepted.schedule().stages.len();
+    let stages = readers.accepted.schedule().stages.len().min(MOST_ROWS);
     let mut waiting = Waiting::new(alloc, stages)?;
     write_inputs(readers.tree, edits, values, inputs)?;
     add_due(readers, values, edits, &mut waiting)?;

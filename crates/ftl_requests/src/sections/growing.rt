@@ -17,11 +17,11 @@ ghost use Rattle.ftl_nests.specs.Nests.{outer_schedule};
 
 use crate::sections::decision::{Undecided, refused};
 use crate::sections::limits::within_limits;
-use crate::sections::read::wide_tokens;
+use crate::sections::read::{greatest_of, wide_tokens};
 use crate::sections::status::Status;
 use ftl_answer::write_document_fault;
 use ftl_checked::Checked;
-use ftl_document::{DocFault, read_document};
+use ftl_document::{DocFault, read_document, read_plain_document};
 use ftl_nest_check::AcceptedNests;
 use ftl_page::Section;
 use ftl_tokens::WideScanned;
@@ -50,9 +50,26 @@ pub fn tree_of<'a>(
     }
 }
 
-/// The tree that the text spells.
+/// The tree that the text spells. A text that is plain is read from its bytes.
 #[inline(never)]
 pub fn grown_tree_of<'a>(
+    alloc: Global,
+    checked: &'a Checked,
+    text: String,
+) -> Result<Tree<'a>, Undecided>
+    requires short { string_len text ≤ most_page_bytes }
+    ensures outcome { IsOutcome (grown_tree checked.now (string_bytes text)) (λ t. t.tree) result }
+    ensures grammar { IfOk result (λ t. t.checked ≡ checked.now) }
+{
+    match read_plain_document(alloc, checked, text.as_str(), greatest_of(checked.width())) {
+        Ok(Some(tree)) => Ok(tree),
+        Ok(None) => scanned_tree_of(alloc, checked, text),
+        Err(_) => Err(Undecided::OutOfMemory),
+    }
+}
+
+/// The same, from the tokens of the text.
+fn scanned_tree_of<'a>(
     alloc: Global,
     checked: &'a Checked,
     text: String,
@@ -84,7 +101,8 @@ fn tree_of_tokens<'a>(
     }
 }
 
-fn document_refused(alloc: Global, checked: &Checked, fault: &DocFault) -> Undecided
+/// The end with the line of a document's first fault.
+pub(crate) fn document_refused(alloc: Global, checked: &Checked, fault: &DocFault) -> Undecided
     ensures ends { IsRefusalOf faults.OutOfMemory
         (λ f. answer.refused 7 (document_line checked.now.grammar f)) fault.now result }
 {

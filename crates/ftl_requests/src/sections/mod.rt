@@ -6,6 +6,7 @@
 //! `specs/sections/Outcomes.antt` puts it.
 
 mod automatic;
+mod building;
 mod checking;
 mod circularity;
 mod decision;
@@ -18,6 +19,7 @@ mod status;
 mod written;
 
 pub use automatic::automatic_schedule;
+pub use building::tree_of_document;
 pub use checking::{grammar_of, grammar_of_text};
 pub use circularity::noncircular_of;
 pub use decision::{Decided, Undecided};

@@ -94,7 +94,7 @@ pub fn section_tokens(alloc: Global, section: Section, text: String) -> Result<S
 }
 
 /// The greatest number of a width.
-fn greatest_of(width: Width) -> u64
+pub fn greatest_of(width: Width) -> u64
     ensures greatest { result ≡ greatest_of_width width }
 {
     match width {

@@ -3,6 +3,7 @@ use Rattle.std.proofs.Common.{◌≡◌, ◌<◌, ◌↔◌, ◌∙◌, ap, sym,
 use Rattle.std.proofs.lemmas.Bool.{both_ways}
 use Rattle.std.proofs.lemmas.List.Elements.{Contains-get_or}
 use Rattle.ftl_checked.proofs.lookup.AttrInfos.{attribute_count_is}
+use Rattle.std.specs.List.{All}
 use Rattle.ftl_deps.specs.reads.Meant.{meant}
 use Rattle.ftl_limits.proofs.reads.Entries.{attribute_in_range, class_in_range, there}
 use Rattle.ftl_meaning.specs.faults.Checked.{CheckedGrammar, all_attributes}
@@ -17,7 +18,7 @@ use Rattle.ftl_order.specs.orders.Lawful.{IsLawful, OfClass}
 use Rattle.ftl_order.proofs.orders.Instances.{number_within}
 use Rattle.ftl_tree.proofs.boxes.Lines.{of_class}
 use Rattle.ftl_tree.specs.boxes.Shows.{node_shows}
-use Rattle.maugzeris.specs.pages.PageState.{HasAttribute, PageState, tree_on}
+use Rattle.maugzeris.specs.pages.PageState.{HasAttribute, PageState, class_on, tree_on}
 
 module _ (k : CheckedGrammar) (law : IsLawful (meant k)) (t : Forest) (fits : IsTreeOf (meant k) t) (node : ℕ)
     (known : node < size t) where
@@ -55,6 +56,19 @@ shown_has p fits node known shown are place within =
     of_class (tree_on p) node fits known (get_or shown place 0)
     (subst (λ (xs : List ℕ). Contains xs (get_or shown place 0)) are
     (Contains-get_or shown place 0 (omega (arith, count, within))))
+
+-- so all that it shows are
+pub shown_all : (p : PageState) → IsTreeOf (meant p.checked) p.tree → (node : ℕ) → node < size p.tree
+    → (shown : List ℕ) → shown ≡ node_shows (tree_on p) node → All (HasAttribute p node) shown
+shown_all p fits node known shown are k d within =
+    of_class (tree_on p) node fits known (get_or shown k d)
+    (subst (λ (xs : List ℕ). Contains xs (get_or shown k d)) are (Contains-get_or shown k d within))
+
+-- and what is listed of a class is among its attributes
+pub listed_all : (p : PageState) (node : ℕ) (listed : List ℕ)
+    → listed ≡ attributes_of (meant p.checked) (class_on p node) → All (HasAttribute p node) listed
+listed_all p node listed are k d within =
+    subst (λ (xs : List ℕ). Contains xs (get_or listed k d)) are (Contains-get_or listed k d within)
 
 -- an attribute of the class is an input of it where it is an input
 pub if_of_class : (g : AttributeGrammar) (class attr : ℕ) (has input : Bool)

@@ -35,6 +35,7 @@ impl<'a> Page<'a> {
         requires node { node < size self.now.tree }
         ensures attributes { result.now
             ≡ attributes_of (meant self.now.checked) (class_on self.now node) }
+        ensures known { All (HasAttribute self.now node) result.now }
     {
         let _known = self.tree();
         let class = self.class(node);
@@ -45,6 +46,7 @@ impl<'a> Page<'a> {
     pub fn shown(&self, node: u32) -> &[u32]
         requires node { node < size self.now.tree }
         ensures shown { result.now ≡ node_shows (tree_on self.now) node }
+        ensures known { All (HasAttribute self.now node) result.now }
     {
         shown_by(self.grammar().shown(), self.tree(), node)
     }
@@ -106,7 +108,7 @@ impl<'a> Page<'a> {
 }
 
 /// Whether an input of this width may have the number.
-fn is_number(width: Width, value: i64) -> bool
+pub(crate) fn is_number(width: Width, value: i64) -> bool
     ensures number { IsTrue result ↔ IsInput (greatest_of_width width) value }
 {
     match width {

@@ -9,7 +9,10 @@ mod editing;
 mod laying;
 mod nodes;
 mod page;
+mod places;
 mod showing;
 
+pub(crate) use attributes::is_number;
 pub use nodes::{Node, Nodes};
 pub use page::Page;
+pub(crate) use page::of_tree;

@@ -141,7 +141,11 @@ fn of_text<'a>(alloc: Global, rules: &'a Rules<'a>, text: String) -> Result<Page
 }
 
 /// The page of a tree, with the tables by which it is laid out anew.
-fn of_tree<'a>(alloc: Global, rules: &'a Rules<'a>, tree: Tree<'a>) -> Result<Page<'a>, AllocError>
+pub(crate) fn of_tree<'a>(
+    alloc: Global,
+    rules: &'a Rules<'a>,
+    tree: Tree<'a>,
+) -> Result<Page<'a>, AllocError>
     requires grammar { tree.checked ≡ rules.now.checked }
     requires fits { first_fault (meant rules.now.checked)
         (outer_schedule (nests_of rules.now.schedule)) tree.tree ≡ None }

@@ -5,7 +5,9 @@ ghost use Rattle.ftl_answer.specs.answers.Texts.{status_of};
 ghost use Rattle.ftl_page.specs.declared.sections.fault.Section.{Section as SectionName};
 ghost use Rattle.maugzeris.specs.declared.refusals.refusal.Refusal.TheVariants.{OutOfMemory};
 ghost use Rattle.maugzeris.specs.refusals.Answers.{line_told, refusal_of, status_told};
+ghost use Rattle.maugzeris.specs.refusals.Places.{TellsByte, ToldByte};
 
+use crate::refusals::place::byte_in;
 use ftl_page::Section;
 use ftl_requests::{Decided, Status, Undecided};
 use std::alloc::{AllocError, AllocFailed};
@@ -55,6 +57,14 @@ impl Refusal {
             (λ which. status_told self.now ≡ status_of which) }
     {
         section_by(self.status())
+    }
+
+    /// The byte at which the text goes wrong, from its beginning: where its line says that a
+    /// character or a number is bad there, that the syntax goes wrong, or that too much is open.
+    pub fn byte(&self) -> Option<u32>
+        ensures byte { ToldByte (TellsByte (line_told self.now)) result }
+    {
+        byte_in(self.line())
     }
 }
 

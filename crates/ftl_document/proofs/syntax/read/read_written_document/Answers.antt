@@ -19,8 +19,8 @@ returns-in-Ok c = record {
       let few : opened_in s.tokenized ≤ most_nodes = omega (arith, c.if-count-gt-MOST_NODES.false, c.node_count-count.ensures.count) in
       let short : length s.tokenized.tokens ≤ 4294967295 =
       omega (arith, c.token_count-tokens.ensures.count, c.token_count-tokens.type_inv) in
-      let small = subst (λ (ts : Tokens). AreAtMost s.greatest ts) c.new-input.ensures.tokens c.new-input.ensures.numbers in
-      let e = sym (ap document c.new-input.ensures.tokens) ∙ c.in-Ok.ensures.reads in
+      let small = subst (λ (ts : Tokens). AreAtMost s.greatest ts) c.new.ensures.tokens c.new.ensures.numbers in
+      let e = sym (ap document (c.scanned-input.ensures.tokens ∙ c.new.ensures.tokens)) ∙ c.in-Ok.ensures.reads in
       is_document s c.in-Ok.document c.document.new.input shallow few short small e;
 }
 
@@ -33,7 +33,7 @@ returns-in-Err-Refused c = record {
       subst (λ (t : Tokenized). IsShallow braces 512 (symbols_of t)) c.tokenized.ensures.tokenized c.in_default.ensures.first in
       let few : opened_in s.tokenized ≤ most_nodes = omega (arith, c.if-count-gt-MOST_NODES.false, c.node_count-count.ensures.count) in
       let refused = c.in-Err-Refused.ensures.reads (λ memory. cc (c.in-Err-Refused.field-0-is)) in
-      let e = sym (ap document c.new-input.ensures.tokens) ∙ refused in
+      let e = sym (ap document (c.scanned-input.ensures.tokens ∙ c.new.ensures.tokens)) ∙ refused in
       let place =
       c.place_in.ensures.place
       ∙ ap (λ (t : Tokenized). place_of t.tokens (length t.tokens - c.left.result)) c.tokenized-in-Err-Refused.ensures.tokenized in

@@ -1,27 +1,30 @@
-use Rattle.std.proofs.Common.{◌≡◌, ℕ, string_bytes, ◌∙◌, ap, subst}
-use Rattle.ftl_base.specs.Widths.{greatest_of_width}
-use Rattle.ftl_base.specs.declared.width.Width.{Width}
-use Rattle.ftl_model.specs.layout.Tree.{Forest}
-use Rattle.ftl_tokens.specs.scanner.Tokenized.{Tokenized}
+use Rattle.std.proofs.Common.{◌≡◌, ℕ, List, inr, refl, sym, ap, ◌∙◌, string_bytes, subst}
+use Rattle.ftl_meaning.specs.faults.Checked.{CheckedGrammar}
 use Rattle.ftl_page.specs.declared.sections.fault.Section.TheVariants as section
-use Rattle.ftl_answer.specs.answers.Stages.{Is, Stage, Then, hands_on}
-use Rattle.ftl_answer.specs.answers.Texts.{spelled_tree, tokens, wide}
-use Rattle.ftl_requests.specs.sections.Outcomes.{IsOutcome}
-use Rattle.ftl_requests.proofs.sections.Ways.{then_second}
+use Rattle.ftl_tree.specs.trees.CheckedTree.{CheckedTree}
+use Rattle.ftl_document.specs.reading.OfText.{IsTreeOfText}
+use Rattle.ftl_answer.specs.answers.Stages.{hands_on}
+use Rattle.ftl_answer.specs.answers.Texts.{grown_tree, scanned_as}
 use Rattle.ftl_requests.proofs.sections.growing.grown_tree_of.Goals as goal
 
-pub returns-in-Ok-clause-outcome : goal.returns-in-Ok-clause-outcome
-returns-in-Ok-clause-outcome c =
+-- a tree that was read from the bytes is that of the text
+plain_grown : (c : CheckedGrammar) (text : List ℕ) (t : CheckedTree) → IsTreeOfText c text t
+    → grown_tree c text (hands_on t.tree)
+plain_grown c text t is =
+    inr (
+      record { text = text; tokens = is.tokens },
+      sym (ap (scanned_as section.Document text) is.scanned),
+      inr (t, is.reads, refl),
+    )
+
+pub returns-in-Ok-Some-clause-outcome : goal.returns-in-Ok-Some-clause-outcome
+returns-in-Ok-Some-clause-outcome c =
     let k = c.args.checked.now in
-    let y = c.in-Ok.scanned.tokenized in
-    let after : ℕ → Tokenized → Stage Forest =
-    λ greatest scanned. Then (spelled_tree k (wide greatest scanned)) (λ t. Is (hands_on t.tree)) in
-    let width : greatest_of_width c.width.result ≡ greatest_of_width k.width =
-    ap (λ (w : Width). greatest_of_width w) c.width.ensures.width in
-    let text = string_bytes c.args.text in
-    let first : tokens section.Document (greatest_of_width k.width) text (hands_on y) =
-    subst (λ n. tokens section.Document n text (hands_on y)) width c.in-Ok.ensures.outcome in
-    then_second (tokens section.Document (greatest_of_width k.width) text) (after (greatest_of_width k.width))
-    (λ t. t.tree) y c.tree_of_tokens.result first
-    (subst (λ n. IsOutcome (after n y) (λ t. t.tree) c.tree_of_tokens.result) (c.in-Ok.ensures.greatest ∙ width)
-    c.tree_of_tokens.ensures.outcome)
+    let read = rw c.in-Ok-Some.field-0-is at c.in-Ok-Some.ensures.tree in
+    plain_grown k (string_bytes c.args.text) c.in-Ok-Some.tree
+    (subst (λ (l : List ℕ). IsTreeOfText k l c.in-Ok-Some.tree) c.as_str.ensures.value read)
+
+pub returns-in-Ok-Some-clause-grammar : goal.returns-in-Ok-Some-clause-grammar
+returns-in-Ok-Some-clause-grammar c =
+    let read = rw c.in-Ok-Some.field-0-is at c.in-Ok-Some.ensures.tree in
+    ap (λ (t : CheckedTree). t.checked) read.reads.is

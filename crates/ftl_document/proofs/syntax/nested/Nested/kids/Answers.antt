@@ -1,39 +1,47 @@
-use Rattle.std.proofs.Common.{rules, arith}
+use Rattle.std.proofs.Common.{◌≡◌, ◌<◌, Some, length, rules, arith}
 use Rattle.std.proofs.lemmas.Grind.{common_steps}
+use Rattle.ftl_tokens.specs.declared.scanner.kind.Kind.TheVariants as kind
+use Rattle.ftl_tokens.specs.reading.Reader.{next_kind}
 use Rattle.ftl_document.specs.syntax.RowReading as spec
-use Rattle.ftl_document.proofs.syntax.RowTurns.{turn, no_turn}
+use Rattle.ftl_document.proofs.syntax.RowTurns.{looked, no_turn, no_turn_yet, turn, turned}
+use Rattle.ftl_document.proofs.syntax.Takes.{kid_takes}
 use Rattle.ftl_document.proofs.syntax.nested.Nested.kids.Goals as goal
 
-pub returns-in_err-kid-in-Some-Name-clause-reads : goal.returns-in_err-kid-in-Some-Name-clause-reads
-returns-in_err-kid-in-Some-Name-clause-reads g c =
-    let l = c.loop-turn in
+pub loop-rows-init : goal.loop-rows-init
+loop-rows-init g c = no_turn_yet _ _ _
+
+pub returns-in_err-kid-clause-reads : goal.returns-in_err-kid-clause-reads
+returns-in_err-kid-clause-reads g c =
+    let l = c.loop-rows in
     let item = spec.kid (spec.fields_to c.args.self.now.depth) in
-    let e = turn item _ _ _ l._turn l.rows.items l.input l.invariant c.loop-turn-test.true in
+    let comes : next_kind l.input ≡ Some kind.Name = cc (c.peek.ensures.kind, c.in-Some-Name.is, c.in-Some-Name.field-0-is) in
+    let e = turn item _ _ l.rows.items l.input l.invariant comes in
     first_of (search rules, grind (arith, common_steps))
+
+pub loop-rows-smaller : goal.loop-rows-smaller
+loop-rows-smaller g c =
+    kid_takes c.args.self.now.depth c.loop-rows.rows.items c.loop-rows.input _ _ c.in_ok-kid.ensures.reads
+
+pub loop-rows-preserved : goal.loop-rows-preserved
+loop-rows-preserved g c =
+    let l = c.loop-rows in
+    let item = spec.kid (spec.fields_to c.args.self.now.depth) in
+    let comes : next_kind l.input ≡ Some kind.Name = cc (c.peek.ensures.kind, c.in-Some-Name.is, c.in-Some-Name.field-0-is) in
+    let takes : length c.kid.new.input < length l.input =
+    kid_takes c.args.self.now.depth l.rows.items l.input _ _ c.in_ok-kid.ensures.reads in
+    turned item _ _ l.rows.items l.input l.invariant _ _ comes c.in_ok-kid.ensures.reads takes c.kid.ensures.grows
 
 pub returns-in_default : goal.returns-in_default
 returns-in_default g c =
-    let l = c.loop-turn in
+    let l = c.loop-rows in
     let item = spec.kid (spec.fields_to c.args.self.now.depth) in
-    let e = turn item _ _ _ l._turn l.rows.items l.input l.invariant c.loop-turn-test.true in
-    first_of (search rules, grind (arith, common_steps))
+    let comes : next_kind l.input ≡ Some c.in_default.field-0 = cc (c.peek.ensures.kind, c.in_default.is) in
+    let e = looked item _ _ l.rows.items l.input l.invariant c.in_default.field-0 comes in
+    record { reads = first_of (search rules, grind (arith, common_steps)); grows = l.invariant.grows }
 
 pub returns-in_default-2-clause-reads : goal.returns-in_default-2-clause-reads
 returns-in_default-2-clause-reads g c =
-    let l = c.loop-turn in
+    let l = c.loop-rows in
     let item = spec.kid (spec.fields_to c.args.self.now.depth) in
-    let e = turn item _ _ _ l._turn l.rows.items l.input l.invariant c.loop-turn-test.true in
-    first_of (search rules, grind (arith, common_steps))
-
-pub loop-turn-preserved : goal.loop-turn-preserved
-loop-turn-preserved g c =
-    let l = c.loop-turn in
-    let item = spec.kid (spec.fields_to c.args.self.now.depth) in
-    let e = turn item _ _ _ l._turn l.rows.items l.input l.invariant c.loop-turn-test.true in
-    record { same = first_of (search rules, grind (arith, common_steps)); grows = omega arith }
-
-pub returns-clause-reads : goal.returns-clause-reads
-returns-clause-reads g c =
-    let l = c.loop-turn in
-    let item = spec.kid (spec.fields_to c.args.self.now.depth) in
-    no_turn item _ _ _ l._turn l.rows.items l.input l.invariant c.loop-turn-test.false
+    no_turn item _ _ l.rows.items l.input l.invariant
+    (λ (some : next_kind l.input ≡ Some kind.Name). cc (c.peek.ensures.kind, c.in_default.is))

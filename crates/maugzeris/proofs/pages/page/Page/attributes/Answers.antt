@@ -2,7 +2,7 @@ use Rattle.std.proofs.Common.{◌∙◌, ap}
 use Rattle.ftl_deps.specs.reads.Meant.{meant}
 use Rattle.ftl_meaning.specs.faults.Checked.{CheckedGrammar}
 use Rattle.ftl_model.specs.layout.AttributeGrammar.{attributes_of}
-use Rattle.maugzeris.proofs.pages.NodeAttributes.{class_within}
+use Rattle.maugzeris.proofs.pages.NodeAttributes.{class_within, listed_all}
 use Rattle.maugzeris.proofs.pages.page.Page.attributes.Goals as goal
 
 pub attributes-requires : goal.attributes-requires
@@ -18,9 +18,11 @@ attributes-requires c =
 pub returns : goal.returns
 returns c =
     let k = c.args.self.now.checked in
+    let are =
+    c.attributes.ensures.attributes
+    ∙ (ap (λ (x : CheckedGrammar). attributes_of (meant x) c.class-class.result) c.grammar.ensures.grammar
+    ∙ ap (λ n. attributes_of (meant k) n) c.class-class.ensures.class) in
     record {
-      attributes =
-          c.attributes.ensures.attributes
-          ∙ (ap (λ (x : CheckedGrammar). attributes_of (meant x) c.class-class.result) c.grammar.ensures.grammar
-          ∙ ap (λ n. attributes_of (meant k) n) c.class-class.ensures.class);
+      attributes = are;
+      known = listed_all c.args.self.now c.args.node c.attributes.result.now are;
     }

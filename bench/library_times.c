@@ -1,0 +1,120 @@
+/* Times calls of the static library for bench/library.py, which gives it the names of files with a grammar and a document,
+   and on standard input a line NODE NAME VALUE for each change. Prints the milliseconds of reading, of laying out and of
+   the boxes, and for the first, the middle and the last third of the changes, and for all, the mean microseconds of a call
+   of maugzeris_page_set_input with one of maugzeris_page_relayout, and the mean count of touched instances. */
+#include <inttypes.h>
+#include <stdio.h>
+#include <stdlib.h>
+#include <string.h>
+#include <time.h>
+
+#include "../crates/maugzeris_c/include/maugzeris.h"
+
+struct change {
+    uint32_t node, attribute;
+    int64_t value;
+};
+
+static struct maugzeris_context context = MAUGZERIS_CONTEXT_NONE;
+
+static void done(const char *what, uint32_t status)
+{
+    if (status == MAUGZERIS_OK || status == MAUGZERIS_OVERFLOW)
+        return;
+    fprintf(stderr, "%s: status %" PRIu32 "\n", what, status);
+    exit(1);
+}
+
+static double seconds(void)
+{
+    struct timespec now;
+    clock_gettime(CLOCK_PROCESS_CPUTIME_ID, &now);
+    return (double)now.tv_sec + (double)now.tv_nsec / 1e9;
+}
+
+static uint8_t *text_of(const char *path, size_t *length)
+{
+    FILE *file = fopen(path, "rb");
+    if (file == NULL || fseek(file, 0, SEEK_END) != 0)
+        exit(1);
+    *length = (size_t)ftell(file);
+    rewind(file);
+    uint8_t *text = malloc(*length + 1);
+    if (text == NULL || fread(text, 1, *length, file) != *length)
+        exit(1);
+    fclose(file);
+    return text;
+}
+
+static uint32_t page_of(char **paths)
+{
+    uint32_t grammar, rules, page;
+    size_t length;
+    uint8_t *text = text_of(paths[1], &length);
+    done("grammar", maugzeris_grammar_new(&context, text, length, MAUGZERIS_NARROW, &grammar));
+    done("rules", maugzeris_rules_new(&context, grammar, true, text, 0, &rules));
+    free(text);
+    text = text_of(paths[2], &length);
+    double began = seconds();
+    done("page", maugzeris_page_new(&context, rules, text, length, &page));
+    printf("read %.3f\n", (seconds() - began) * 1e3);
+    free(text);
+    return page;
+}
+
+static void lay_out(uint32_t page)
+{
+    double began = seconds();
+    done("lay out", maugzeris_page_lay_out(&context, page));
+    printf("laid_out %.3f\n", (seconds() - began) * 1e3);
+    size_t length = 1 << 27;
+    uint8_t *text = malloc(length);
+    if (text == NULL)
+        exit(1);
+    began = seconds();
+    done("boxes", maugzeris_page_boxes(&context, page, text, length, &length));
+    printf("boxes %.3f\n", (seconds() - began) * 1e3);
+    free(text);
+}
+
+static size_t changes_of(uint32_t page, struct change *changes, size_t most)
+{
+    char name[64];
+    size_t count = 0;
+    while (count < most && scanf("%" SCNu32 " %63s %" SCNd64, &changes[count].node, name, &changes[count].value) == 3) {
+        struct change *it = &changes[count++];
+        done("attribute", maugzeris_page_attribute(&context, page, it->node, (uint8_t *)name, strlen(name), &it->attribute));
+    }
+    return count;
+}
+
+/* Makes each change alone, and tells the mean of one. */
+static void change(const char *which, uint32_t page, const struct change *changes, size_t count)
+{
+    size_t all = 0;
+    double began = seconds();
+    for (size_t k = 0; k < count; k++) {
+        size_t touched;
+        done("set", maugzeris_page_set_input(&context, page, changes[k].node, changes[k].attribute, changes[k].value));
+        done("relayout", maugzeris_page_relayout(&context, page, &touched));
+        all += touched;
+    }
+    double spent = seconds() - began;
+    printf("%s %.3f %.2f\n", which, spent * 1e6 / (double)count, (double)all / (double)count);
+}
+
+int main(int words, char **paths)
+{
+    static struct change changes[1 << 16];
+    if (words != 3)
+        return 1;
+    done("context", maugzeris_context_new(&context));
+    uint32_t page = page_of(paths);
+    lay_out(page);
+    size_t count = changes_of(page, changes, sizeof changes / sizeof *changes);
+    size_t third = count / 3;
+    change("front", page, changes, third);
+    change("middle", page, changes + third, third);
+    change("end", page, changes + 2 * third, count - 2 * third);
+    return 0;
+}

@@ -1,0 +1,4 @@
+pub mod MoreFields
+pub mod Kept
+pub mod Closing
+pub mod Within

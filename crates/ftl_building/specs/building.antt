@@ -1,0 +1,10 @@
+pub mod PartDocument
+pub mod Calls
+pub mod PartSizes
+pub mod PartRows
+pub mod RowsRead
+pub mod PartCode
+pub mod RowChanges
+pub mod PartWithin
+pub mod NumberLaws
+pub mod PartInside

@@ -1,0 +1,5 @@
+pub mod Counts
+pub mod Fronts
+pub mod GapSteps
+pub mod PlainScan
+pub mod TextDocuments

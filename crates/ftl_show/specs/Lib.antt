@@ -1,0 +1,3 @@
+pub mod places
+pub mod lines
+pub mod refusals

@@ -1,0 +1,45 @@
+//! Boxes by their numbers.
+
+/// A box: where it begins, and its size, which may be negative.
+#[derive(Clone, Copy, Debug, PartialEq, Eq)]
+pub struct Rect {
+    pub left: i64,
+    pub top: i64,
+    pub width: i64,
+    pub height: i64,
+}
+
+impl Rect {
+    pub fn right(&self) -> i64 {
+        self.left.saturating_add(self.width)
+    }
+
+    pub fn bottom(&self) -> i64 {
+        self.top.saturating_add(self.height)
+    }
+
+    /// The box as far from the beginning of another one as it is from that of the page.
+    pub fn within(&self, around: Rect) -> Rect {
+        Rect {
+            left: self.left.saturating_add(around.left),
+            top: self.top.saturating_add(around.top),
+            ..*self
+        }
+    }
+
+    /// Whether it has a negative size, or goes over the edge of the box around.
+    pub fn sticks_out(&self, around: Option<Rect>) -> bool {
+        if self.width < 0 || self.height < 0 {
+            return true;
+        }
+        match around {
+            Some(around) => {
+                self.left < around.left
+                    || self.top < around.top
+                    || self.right() > around.right()
+                    || self.bottom() > around.bottom()
+            }
+            None => false,
+        }
+    }
+}

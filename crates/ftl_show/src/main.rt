@@ -1,0 +1,73 @@
+//! Shows pages to people: their nodes as a tree, one node with all it has, or their boxes drawn.
+//! Goes in: the words of a command line, and files. Comes out: text on standard output, and what is
+//! refused, with its place in the file, on standard error.
+//!
+//! - `words`: what the words ask for
+//! - `files`: files as bytes
+//! - `places`: lines and columns of a file, and where its sections begin
+//! - `refusals`: refusals with their places
+//! - `lines`: pages as lines
+//! - `drawing`: pages as drawings
+//! - `showing`: what comes of each file
+#![tactic(auto)]
+
+mod drawing;
+mod files;
+mod lines;
+mod places;
+mod refusals;
+mod showing;
+mod words;
+
+use showing::show_files;
+use std::alloc::AllocError;
+use std::process::ExitCode;
+use std::rt::{Env, Files};
+use std::{env, io};
+use words::{Wanted, show_command, wanted_by};
+
+/// The name of the program and the words after it.
+fn all_words(rt: &(impl Env + AllocGlobal)) -> io::Result<Vec<String>> {
+    let mut words = Vec::new(rt.alloc());
+    words.push(String::from_str(rt.alloc(), "show")?)?;
+    for word in env::args(rt)?.skip(1) {
+        words.push(word)?;
+    }
+    Ok(words)
+}
+
+/// Does what the words say, and gives the status to end with.
+fn status_of<R: Files + Env + Input + Print + Eprint + AllocGlobal>(
+    rt: &R,
+    words: &[String],
+) -> Result<u8, AllocError> {
+    match show_command(rt.alloc())?.try_get_matches_from(words) {
+        Ok(matches) => Ok(status_of_wanted(rt, wanted_by(&matches))),
+        Err(error) => {
+            let _ = error.print(rt);
+            Ok(error.exit_code() as u8)
+        }
+    }
+}
+
+/// Shows what is wanted, or tells what is wrong with the words.
+fn status_of_wanted<R: Files + Input + Print + Eprint + AllocGlobal>(
+    rt: &R,
+    wanted: Option<Wanted<'_, '_>>,
+) -> u8 {
+    match wanted {
+        Some(wanted) => show_files(rt, wanted).0,
+        None => {
+            let _ = rt.eprintln("show: --box wants four names, as x,y,w,h, and --svg one file");
+            2
+        }
+    }
+}
+
+fn main(rt: HostRuntime) -> ExitCode {
+    let status = match all_words(&rt) {
+        Ok(words) => status_of(&rt, words.as_slice()).unwrap_or(9),
+        Err(_) => 2,
+    };
+    ExitCode::from(status)
+}

@@ -1,0 +1,126 @@
+//! What comes of a file.
+
+ghost use Rattle.maugzeris.specs.pages.PageState.{IsLaidOut};
+
+use crate::drawing::drawn_page;
+use crate::lines::{Style, node_lines, styled, tree_text};
+use crate::showing::texts::{Texts, texts_of};
+use crate::showing::told::{page_told, refusal_told};
+use crate::words::View;
+use ftl_requests::{Decided, Undecided};
+use maugzeris::{Grammar, Page, Rules, Status};
+use std::alloc::{AllocError, Global};
+
+/// A file: its name and its bytes.
+#[derive(Clone, Copy)]
+pub struct File<'f> {
+    pub name: &'f str,
+    pub bytes: &'f [u8],
+}
+
+/// What comes of a file.
+#[derive(Drop)]
+pub enum Answer {
+    /// The text is written. The status is that of an Overflow where a shown value is one.
+    Shown { status: Status, text: String },
+    /// The page is refused; the text is told.
+    Refused { status: Status, text: String },
+    /// The page has so many nodes, and not the one that is asked for.
+    NoNode { count: u32 },
+}
+
+/// What comes of a file.
+pub fn answer_to(
+    alloc: Global,
+    file: File<'_>,
+    view: View<'_>,
+    style: Style,
+) -> Result<Answer, AllocError> {
+    match texts_of(alloc, file.bytes) {
+        Ok(texts) => answer_of_texts(alloc, file, &texts, view, style),
+        Err(Undecided::Refused(Decided { status, text })) => {
+            page_told(alloc, file, status, text.as_slice())
+        }
+        Err(Undecided::OutOfMemory) => Err(AllocError),
+    }
+}
+
+fn answer_of_texts(
+    alloc: Global,
+    file: File<'_>,
+    texts: &Texts,
+    view: View<'_>,
+    style: Style,
+) -> Result<Answer, AllocError> {
+    match Grammar::new(alloc, texts.grammar.as_str(), texts.width) {
+        Ok(grammar) => answer_of_grammar(alloc, file, texts, &grammar, view, style),
+        Err(refusal) => refusal_told(alloc, file, texts, &refusal),
+    }
+}
+
+fn answer_of_grammar(
+    alloc: Global,
+    file: File<'_>,
+    texts: &Texts,
+    grammar: &Grammar,
+    view: View<'_>,
+    style: Style,
+) -> Result<Answer, AllocError> {
+    match Rules::new(alloc, grammar, texts.schedule_text()) {
+        Ok(rules) => answer_of_rules(alloc, file, texts, &rules, view, style),
+        Err(refusal) => refusal_told(alloc, file, texts, &refusal),
+    }
+}
+
+fn answer_of_rules(
+    alloc: Global,
+    file: File<'_>,
+    texts: &Texts,
+    rules: &Rules<'_>,
+    view: View<'_>,
+    style: Style,
+) -> Result<Answer, AllocError> {
+    match Page::new(alloc, rules, texts.document.as_str()) {
+        Ok(page) => answer_of_page(alloc, page, view, style),
+        Err(refusal) => refusal_told(alloc, file, texts, &refusal),
+    }
+}
+
+fn answer_of_page(
+    alloc: Global,
+    page: Page<'_>,
+    view: View<'_>,
+    style: Style,
+) -> Result<Answer, AllocError> {
+    let mut page = page;
+    page.lay_out(alloc)?;
+    answer_of_values(alloc, &page, view, style)
+}
+
+fn answer_of_values(
+    alloc: Global,
+    page: &Page<'_>,
+    view: View<'_>,
+    style: Style,
+) -> Result<Answer, AllocError>
+    requires laid_out { IsLaidOut page.now }
+{
+    let text = match view {
+        View::Tree(fields) => styled(alloc, tree_text(alloc, page, fields)?, style)?,
+        View::Drawing(how) => drawn_page(alloc, page, how)?,
+        View::Node(node) if node < page.node_count() => {
+            styled(alloc, node_lines(alloc, page, node)?, style)?
+        }
+        View::Node(_) => {
+            return Ok(Answer::NoNode {
+                count: page.node_count(),
+            });
+        }
+    };
+    let status = if page.shows_overflow(alloc)? {
+        Status::OVERFLOW
+    } else {
+        Status::DONE
+    };
+    Ok(Answer::Shown { status, text })
+}

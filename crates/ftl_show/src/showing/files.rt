@@ -1,0 +1,115 @@
+//! Files, one after the other.
+
+use crate::files::{Unread, read_file};
+use crate::showing::answer::{Answer, File, answer_to};
+use crate::words::Wanted;
+use ftl_edge::{StdSink, write_whole};
+use maugzeris::Status;
+use std::alloc::AllocError;
+use std::rt::Files;
+
+/// Shows the files that are asked for. The status is that of the first file whose status is not 0;
+/// where writing fails, nothing more is done.
+pub fn show_files<R: Files + Input + Print + Eprint + AllocGlobal>(
+    rt: &R,
+    wanted: Wanted<'_, '_>,
+) -> Status {
+    let mut first = Status::DONE;
+    for (place, name) in wanted.files.iter().enumerate() {
+        let status = show_file(rt, name, place, wanted);
+        if first == Status::DONE {
+            first = status;
+        }
+        if status == Status::WRITE_FAULT {
+            return first;
+        }
+    }
+    first
+}
+
+/// Shows a file. Of several files each begins with a line that has its name.
+fn show_file<R: Files + Input + Print + Eprint + AllocGlobal>(
+    rt: &R,
+    name: &str,
+    place: usize,
+    wanted: Wanted<'_, '_>,
+) -> Status {
+    let bytes = match read_file(rt, name) {
+        Ok(bytes) => bytes,
+        Err(Unread::Failed(error)) => {
+            return told(
+                rt,
+                Status::READ_FAULT,
+                format_args!("show: {name}: {error}\n"),
+            );
+        }
+        Err(Unread::OutOfMemory) => return out_of_memory(rt, name),
+    };
+    let file = File {
+        name,
+        bytes: bytes.as_slice(),
+    };
+    match answer_to(rt.alloc(), file, wanted.view, wanted.style) {
+        Ok(answer) => give(rt, name, place, wanted.files.len(), answer),
+        Err(AllocError) => out_of_memory(rt, name),
+    }
+}
+
+/// Writes an answer, or tells it.
+fn give<R: Print + Eprint>(
+    rt: &R,
+    name: &str,
+    place: usize,
+    count: usize,
+    answer: Answer,
+) -> Status {
+    match answer {
+        Answer::Shown { status, text } => {
+            if count > 1 && write_heading(rt, name, place) == Status::WRITE_FAULT {
+                return Status::WRITE_FAULT;
+            }
+            written(rt, status, text.as_str())
+        }
+        Answer::Refused { status, text } => told(rt, status, format_args!("{text}")),
+        Answer::NoNode { count } => told(
+            rt,
+            Status::BAD_WORDS,
+            format_args!(
+                "show: {name}: the nodes are 0 to {}\n",
+                count.saturating_sub(1)
+            ),
+        ),
+    }
+}
+
+fn write_heading<R: Print>(rt: &R, name: &str, place: usize) -> Status {
+    let before = if place > 0 { "\n" } else { "" };
+    for piece in [before, "==> ", name, " <==\n"] {
+        if written(rt, Status::DONE, piece) == Status::WRITE_FAULT {
+            return Status::WRITE_FAULT;
+        }
+    }
+    Status::DONE
+}
+
+/// The status, once the text is written.
+fn written<R: Print>(rt: &R, status: Status, text: &str) -> Status {
+    match write_whole(&mut StdSink::new(rt), text.as_bytes()) {
+        Ok(()) => status,
+        Err(_) => Status::WRITE_FAULT,
+    }
+}
+
+fn out_of_memory<R: Eprint>(rt: &R, name: &str) -> Status {
+    told(
+        rt,
+        Status::OUT_OF_MEMORY,
+        format_args!("show: {name}: out of memory\n"),
+    )
+}
+
+/// The status, once it was tried to tell why.
+fn told<R: Eprint>(rt: &R, status: Status, why: impl std::fmt::Display + Drop) -> Status {
+    let _ = rt.eprint(why);
+    status
+}

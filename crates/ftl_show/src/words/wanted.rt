@@ -1,0 +1,104 @@
+//! What the words ask for.
+
+use crate::lines::{Fields, Style};
+use clap::ArgMatches;
+
+/// The files that are to be shown, and how.
+#[derive(Clone, Copy)]
+pub struct Wanted<'m, 'w> {
+    pub files: &'m [&'w str],
+    pub view: View<'w>,
+    pub style: Style,
+}
+
+/// What is shown of a page.
+#[derive(Clone, Copy)]
+pub enum View<'w> {
+    /// All nodes, as a tree.
+    Tree(Fields),
+    /// One node.
+    Node(u32),
+    /// Its boxes.
+    Drawing(Drawing<'w>),
+}
+
+/// How boxes are placed.
+#[derive(Clone, Copy)]
+pub struct Drawing<'w> {
+    pub names: BoxNames<'w>,
+    /// Whether places count from the box around.
+    pub relative: bool,
+}
+
+/// The names of the attributes that place a box.
+#[derive(Clone, Copy)]
+pub struct BoxNames<'w> {
+    pub left: &'w str,
+    pub top: &'w str,
+    pub width: &'w str,
+    pub height: &'w str,
+}
+
+/// What the words ask for; none where `--box` has not four names, or a drawing is asked for of
+/// several files.
+pub fn wanted_by<'m, 'w>(matches: &'m ArgMatches<'w>) -> Option<Wanted<'m, 'w>> {
+    let files = matches.get_strs("files")?;
+    let view = view_by(matches)?;
+    if is_drawing(view) && files.len() > 1 {
+        return None;
+    }
+    let style = style_by(matches);
+    Some(Wanted { files, view, style })
+}
+
+fn is_drawing(view: View<'_>) -> bool {
+    match view {
+        View::Drawing(_) => true,
+        _ => false,
+    }
+}
+
+fn style_by(matches: &ArgMatches<'_>) -> Style {
+    Style {
+        color: matches.get_flag("color"),
+        width: width(matches),
+    }
+}
+
+fn view_by<'w>(matches: &ArgMatches<'w>) -> Option<View<'w>> {
+    if matches.get_flag("svg") {
+        let names = box_names(matches.get_str("box").unwrap_or("x,y,w,h"))?;
+        let relative = matches.get_flag("relative");
+        return Some(View::Drawing(Drawing { names, relative }));
+    }
+    if let Some(node) = matches.get_one::<u32>("node") {
+        return Some(View::Node(node));
+    }
+    if matches.get_flag("all") {
+        return Some(View::Tree(Fields::All));
+    }
+    Some(View::Tree(Fields::Shown))
+}
+
+fn width(matches: &ArgMatches<'_>) -> Option<usize> {
+    match matches.get_one::<u32>("width") {
+        Some(width) => Some(width.max(1) as usize),
+        None => None,
+    }
+}
+
+/// The four names between commas.
+fn box_names(text: &str) -> Option<BoxNames<'_>> {
+    let (left, rest) = text.split_once(',')?;
+    let (top, rest) = rest.split_once(',')?;
+    let (width, height) = rest.split_once(',')?;
+    if height.contains(',') {
+        return None;
+    }
+    Some(BoxNames {
+        left,
+        top,
+        width,
+        height,
+    })
+}
