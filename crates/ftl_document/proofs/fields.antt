@@ -2,6 +2,7 @@ pub mod ClassNames
 pub mod FilledSlots
 pub mod PlacedNames
 pub mod PlaceFaults
+pub mod ExpectedPlaces
 pub mod FieldSteps
 pub mod NodeFaults
 pub mod RowSteps

@@ -2,4 +2,5 @@ pub mod Counts
 pub mod Fronts
 pub mod GapSteps
 pub mod PlainScan
+pub mod SmallLetters
 pub mod TextDocuments

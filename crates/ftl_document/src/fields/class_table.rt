@@ -1,6 +1,9 @@
 //! The fields that the nodes of a class have.
 
 ghost use Rattle.std.specs.Prelude.{◌≡◌, ◌++◌, ◌<◌, length, map, filter, IfOk, OnOk};
+ghost use Rattle.std.specs.List.{position};
+ghost use Rattle.std.specs.Str.{bytes_eq};
+ghost use Rattle.ftl_model.specs.lists.Lists.{AreDistinct};
 ghost use Rattle.ftl_meaning.specs.faults.Checked.{is_input};
 ghost use Rattle.ftl_meaning.specs.faults.Numbering.{class_at, interface_at, interface_of};
 ghost use Rattle.ftl_document.specs.faults.FirstFault.{input_names, needed_names};
@@ -19,6 +22,20 @@ pub struct ClassFields {
     pub names: NameTable,
     /// How many of them are inputs.
     pub inputs: u32,
+}
+
+impl ClassFields {
+    /// The place of the name with this text. The name at `expected` is tried before it is looked up.
+    pub(crate) fn place(&self, expected: u32, text: &str) -> Option<u32>
+        requires differ { AreDistinct self.now.names }
+        ensures place { result ≡ position (bytes_eq text.now) self.now.names }
+    {
+        let names = self.names.names();
+        if (expected as usize) < names.len() && names[expected as usize].text() == text {
+            return Some(expected);
+        }
+        self.names.place(text)
+    }
 }
 
 /// The names of a class.

@@ -38,6 +38,8 @@ pub struct Slots {
     pub values: Vec<Option<i64>>,
     /// The place of the last child that came; 0 where none did.
     pub latest: u32,
+    /// The place behind that of the field that came last, where the next one is expected.
+    pub next: u32,
 }
 
 impl<'a> KnownNode<'a> {
@@ -57,6 +59,7 @@ impl<'a> KnownNode<'a> {
     {
         slots.values.clear();
         slots.latest = 0;
+        slots.next = 0;
         add_empty(&mut slots.values, self.table.names.names().len())?;
         for field in fields {
             self.place(alloc, field, slots)?;
@@ -126,7 +129,7 @@ impl<'a> KnownNode<'a> {
             → ArePlaced self.now.checked.now.grammar self.now.class (earlier ++ field.now ∷ [])
             slots.new) }
     {
-        let Some(place) = self.table.names.place(field.name.text()) else {
+        let Some(place) = self.table.place(slots.next, field.name.text()) else {
             let name = Name::new(alloc, field.name.text())?;
             return Err(DocFault::UnknownField {
                 node: self.number,
@@ -156,6 +159,7 @@ impl<'a> KnownNode<'a> {
         }
         slots.values[place as usize] = filled(field.value);
         slots.latest = self.latest(place, slots.latest);
+        slots.next = place.wrapping_add(1);
         Ok(())
     }
 

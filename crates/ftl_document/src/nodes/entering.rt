@@ -14,24 +14,33 @@ use crate::faults::DocFault;
 use crate::fields::{KnownNode, OwnField, Slots, known_class, own_fields};
 use crate::nodes::progress::{NextNode, Progress};
 use crate::nodes::walk::Walk;
-use std::alloc::Global;
+use std::alloc::{AllocError, Global};
 
 /// Room for what is known of one node.
 #[derive(Drop)]
 pub(crate) struct Scratch<'a> {
     fields: Vec<OwnField<'a>>,
     slots: Slots,
+    /// The class of the last node of each interface.
+    classes: Vec<u32>,
 }
 
 impl<'a> Scratch<'a> {
-    pub(crate) fn new(alloc: Global) -> Scratch<'a> {
-        Scratch {
+    pub(crate) fn new(alloc: Global, interfaces: u32) -> Result<Scratch<'a>, AllocError> {
+        Ok(Scratch {
             fields: Vec::new(alloc),
             slots: Slots {
                 values: Vec::new(alloc),
                 latest: 0,
+                next: 0,
             },
-        }
+            classes: vec![in alloc; 0; interfaces as usize]?,
+        })
+    }
+
+    /// The class of the last node of this interface, any where none came.
+    fn last_class(&self, interface: u32) -> u32 {
+        self.classes.get(interface as usize).copied().unwrap_or(0)
     }
 }
 
@@ -85,7 +94,9 @@ impl<'a> Walk<'a> {
             → IfOk result (λ k.
             AreFilled self.now.checked.now.grammar k fields scratch.new.slots) }
     {
-        let class = known_class(alloc, self.checked, number, next.wanted, next.class)?;
+        let guess = scratch.last_class(next.wanted);
+        let class = known_class(alloc, self.checked, number, next.wanted, guess, next.class)?;
+        set_class(&mut scratch.classes, next.wanted, class);
         own_fields(&self.rows[next.from..next.end], &mut scratch.fields)?;
         let node = KnownNode {
             checked: self.checked,
@@ -102,5 +113,11 @@ impl<'a> Walk<'a> {
         } = node;
         found?;
         Ok(class)
+    }
+}
+
+fn set_class(classes: &mut [u32], interface: u32, class: u32) {
+    if let Some(last) = classes.get_mut(interface as usize) {
+        *last = class;
     }
 }

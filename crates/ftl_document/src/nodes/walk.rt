@@ -16,7 +16,6 @@ use crate::nodes::progress::{NextNode, Progress};
 use crate::nodes::stack::Region;
 use crate::syntax::{NameRef, WrittenRow};
 use ftl_checked::Checked;
-use ftl_meaning::Field;
 use ftl_tree::Place;
 use std::alloc::Global;
 
@@ -38,7 +37,7 @@ impl<'a> Walk<'a> {
             → Walks self.now.checked.now.grammar node result }
     {
         let mut progress = Progress::new(alloc);
-        let mut scratch = Scratch::new(alloc);
+        let mut scratch = Scratch::new(alloc, self.checked.interface_count())?;
         let root = NextNode {
             class,
             wanted: self.checked.root(),
@@ -120,13 +119,13 @@ impl<'a> Walk<'a> {
                 Ok(())
             }
             WrittenRow::Single { name, class, below } => {
-                let child = child_number(self.checked, region.class, name);
+                let child = self.child_number(region.class, name);
                 let place = Place { child, kid: 0 };
                 let next = self.next_node(region, place, class, *below, progress.at);
                 self.enter(alloc, next, scratch, progress)
             }
             WrittenRow::List { name, below } => {
-                let child = child_number(self.checked, region.class, name);
+                let child = self.child_number(region.class, name);
                 progress.open_list(region, child, *below)?;
                 Ok(())
             }
@@ -170,6 +169,19 @@ impl<'a> Walk<'a> {
             place,
         }
     }
+
+    /// The number of the child that a field of this name is of; 0 where it is none's.
+    fn child_number(&self, class: u32, name: &NameRef<'_>) -> u32
+        requires ready { IsReady self.now }
+        requires within { class < length self.now.checked.now.grammar.classes }
+        ensures child { result ≡ child_number self.now.checked.now.grammar class name.now }
+    {
+        let table = &self.tables[class as usize].fields;
+        match table.place(table.inputs, name.text()) {
+            Some(place) => place.saturating_sub(table.inputs),
+            None => 0,
+        }
+    }
 }
 
 #[tactic(auto, using(crate::proofs::nodes::Rows::next_row))]
@@ -187,16 +199,5 @@ fn place_of_kid(list: Region) -> Place
     Place {
         child: list.child,
         kid: list.kid,
-    }
-}
-
-/// The number of the child that a field of this name is of; 0 where it is none's.
-fn child_number(checked: &Checked, class: u32, name: &NameRef<'_>) -> u32
-    requires within { class < length checked.now.grammar.classes }
-    ensures child { result ≡ child_number checked.now.grammar class name.now }
-{
-    match checked.find_field(class, name.text()) {
-        Some(Field::Child(child)) => child,
-        Some(Field::Input(_)) | None => 0,
     }
 }

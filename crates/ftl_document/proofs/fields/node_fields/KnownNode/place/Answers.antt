@@ -1,14 +1,15 @@
-use Rattle.std.proofs.Common.{◌≡◌, ℕ, ◌+◌, nat_lt, if◌then◌else◌, ◌≤◌, ◌<◌, ◌⊎◌, inl, inr, ◌∙◌, sym, ap, List, length, get_or, set, true, false, Option, Some, None, arith}
+use Rattle.std.proofs.Common.{◌≡◌, ℕ, ◌+◌, nat_lt, if◌then◌else◌, ◌≤◌, ◌<◌, ◌⊎◌, inl, inr, ◌∙◌, sym, ap, subst, List, length, get_or, set, true, false, Option, Some, None, arith}
 use Rattle.std.specs.List.{position}
 use Rattle.std.specs.Option.{is_some}
 use Rattle.std.specs.Str.{bytes_eq}
+use Rattle.ftl_model.specs.lists.Lists.{AreDistinct}
 use Rattle.ftl_document.specs.syntax.Written.{NameText}
 use Rattle.ftl_document.specs.declared.faults.fault.DocFault.TheVariants as fault
 use Rattle.ftl_document.specs.faults.FirstFault.{input_names, needed_names}
 use Rattle.ftl_document.specs.fields.OwnFields.{form_of}
 use Rattle.ftl_document.specs.fields.Placed.{place_has_form}
 use Rattle.ftl_document.proofs.fields.PlaceFaults as faults
-use Rattle.ftl_document.proofs.fields.PlacedNames.{is_at}
+use Rattle.ftl_document.proofs.fields.PlacedNames.{is_at, needed_differ}
 use Rattle.ftl_document.proofs.fields.node_fields.KnownNode.place.Goals as goal
 use Rattle.ftl_document.proofs.fields.node_fields.KnownNode.place.Goals.{else-place-self-via-then-place-self+else-place-slots, else-place-self-via-else-place-self}
 
@@ -16,6 +17,12 @@ use Rattle.ftl_document.proofs.fields.node_fields.KnownNode.place.Goals.{else-pl
 as_needed : (t name : NameText) (names needed : List NameText) (o r : Option ℕ) → o ≡ position (bytes_eq t) names
     → t ≡ name → names ≡ needed → o ≡ r → position (bytes_eq name) needed ≡ r
 as_needed t name names needed o r found text all is = cc
+
+pub place-requires : goal.place-requires
+place-requires c =
+    let known = c.requires.known in
+    let n = c.args.self.now in
+    record { differ = subst AreDistinct (sym known.names) (needed_differ n.checked.now.grammar known.lawful n.class known.known) }
 
 pub returns-in_default-clause-exact : goal.returns-in_default-clause-exact
 returns-in_default-clause-exact c earlier placed memory =

@@ -20,7 +20,7 @@ returns-in_err-enter c =
     let w = c.requires.written in
     record {
       exact = λ node is.
-          walked_on g node c.in_err-enter.field-0.0 c.from_residual.result c.from_residual.ensures.1
+          walked_on g node c.in_err-enter.field-0.0 c.from_residual-in_err-enter.result c.from_residual-in_err-enter.ensures.1
           (c.in_err-enter.ensures.exact node
           (root_next g xs c.args.class.now c.new-progress.result c.new-progress.ensures.first w.node node w.is w.few is
           c.root.result c.root.ensures.root));

@@ -14,6 +14,7 @@ pub child_number-child-requires : goal.child_number-child-requires
 child_number-child-requires c =
     let w = c.requires.walked in
     record {
+      ready = c.requires.ready;
       within = class_known c.args.self.now.checked.now.grammar w.node c.args.self.now.rows.now
           c.args.progress.now c.args.region c.requires.within w.walked;
     }
@@ -88,6 +89,7 @@ pub child_number-child-requires-in-List : goal.child_number-child-requires-in-Li
 child_number-child-requires-in-List c =
     let w = c.requires.walked in
     record {
+      ready = c.requires.ready;
       within = class_known c.args.self.now.checked.now.grammar w.node c.args.self.now.rows.now
           c.args.progress.now c.args.region c.requires.within w.walked;
     }
