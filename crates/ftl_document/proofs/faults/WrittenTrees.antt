@@ -3,7 +3,7 @@ use Rattle.std.proofs.Common.{◌≡◌, ℕ, zero, suc, ◌+◌, ◌<◌, ◌�
 use Rattle.std.specs.List.{position_or_len}
 use Rattle.std.specs.Str.{bytes_eq}
 use Rattle.std.proofs.lemmas.Bool.{eqb-true, lt-ltb}
-use Rattle.std.proofs.lemmas.List.{length-map}
+use Rattle.std.proofs.lemmas.List.{get_or-map, length-map}
 use Rattle.std.proofs.lemmas.List.Elements.{Contains-get_or}
 use Rattle.ftl_model.specs.lists.Lists.{AreDistinct, NoneFalls}
 use Rattle.ftl_model.proofs.lists.Elements.{distinct_left, here_in, in_cases, in_filter, later_in, nothing_in}
@@ -29,6 +29,7 @@ use Rattle.ftl_document.specs.faults.WrittenOf.{WrittenKid, child_field, child_f
 use Rattle.ftl_document.proofs.faults.ChildNames.{attribute_names_of, child_found, child_names_of, class_names_differ, class_names_once}
 use Rattle.ftl_meaning.proofs.names.Names.{name_itself, names_differ}
 use Rattle.ftl_document.proofs.faults.Groups.{groups_are_all}
+use Rattle.ftl_document.proofs.fields.ExpectedPlaces.{own_place}
 use Rattle.ftl_document.proofs.faults.RightInputs.{inputs_counted}
 
 -- ---- inputs
@@ -71,26 +72,14 @@ distinct_filtered f p (x ∷ xs) h = by_test (p x) (distinct_filtered f p xs h.1
 
 -- ---- places of names
 
--- the place of a name among those of classes
-class_place : (xs : List Class) (i : ℕ) (d : Class) → AreDistinct (map (λ x. x.name) xs) → i < length xs
-    → position_or_len (bytes_eq (get_or xs i d).name) (map (λ x. x.name) xs) ≡ i
-class_place [] i d differ below = absurd (let z : ⊥ = omega (arith, below) in z)
-class_place (x ∷ xs) zero d differ below =
-    ap (λ b. cond (not b) (1 + position_or_len (bytes_eq x.name) (map (λ (y : Class). y.name) xs)) 0) (name_itself x.name)
-class_place (x ∷ xs) (suc i) d differ below =
-    let within : i < length xs = omega (arith, below) in
-    let name = (get_or xs i d).name in
-    ap (λ b. cond (not b) (1 + position_or_len (bytes_eq name) (map (λ (y : Class). y.name) xs)) 0)
-    (names_differ name x.name
-    (λ same. differ.0
-    (subst (Contains (map (λ (y : Class). y.name) xs)) same (map_has (λ (y : Class). y.name) xs (get_or xs i d) (Contains-get_or xs i d within)))))
-    ∙ ap (λ n. 1 + n) (class_place xs i d differ.1 within)
-    ∙ (let z : 1 + i ≡ suc i = omega arith in z)
-
 module _ (g : Grammar) (lawful : grammars.first_fault g ≡ None) where
   -- the name of each class stands for the class
   pub class_back : (k : ℕ) → k < length g.classes → class_number g (class_at g k).name ≡ k
-  class_back k below = class_place g.classes k (trees.class [] [] [] [] []) (class_names_once g lawful) below
+  class_back k below =
+      let counted : k < length (class_names g) = omega (arith, below, length-map g.classes (λ (x : Class). x.name)) in
+      ap (λ name. position_or_len (bytes_eq name) (class_names g))
+      (sym (get_or-map (λ (x : Class). x.name) g.classes k (trees.class [] [] [] [] []) [] below))
+      ∙ own_place (class_names g) k (class_names_once g lawful) counted
 
   pub class_found : (k : ℕ) → k < length g.classes → class_named g (class_at g k).name ≡ Some k
   class_found k below =

@@ -19,7 +19,7 @@ use Rattle.ftl_document.proofs.fields.PlaceFaults.{same_at}
 use Rattle.ftl_meaning.proofs.names.Names.{name_itself, names_differ}
 
 -- each of names that differ has its own place
-own_place : (names : List NameText) (i : ℕ) → AreDistinct names → i < length names
+pub own_place : (names : List NameText) (i : ℕ) → AreDistinct names → i < length names
     → position_or_len (bytes_eq (get_or names i [])) names ≡ i
 own_place [] i differ below = absurd (let z : ⊥ = omega (arith, below) in z)
 own_place (x ∷ names) zero differ below =

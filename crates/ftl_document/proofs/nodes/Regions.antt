@@ -147,10 +147,6 @@ module _ (g : Grammar) (node : WrittenNode) (xs : List WrittenRow) (p : Progress
           absurd (let z : ⊥ = omega (arith, ends, same, past) in z)
 
 module _ (g : Grammar) (node : WrittenNode) (xs : List WrittenRow) (p : Progress) (h : IsWalked g node xs p) where
-  -- the same with equal regions
-  pub restacked : (regions : List Region) → p.stack ≡ regions → IsWalked g node xs (record p { stack = regions })
-  restacked regions same = subst (λ rs. IsWalked g node xs (record p { stack = rs })) same h
-
   -- at the end nothing is left
   pub walk_ended : p.stack ≡ [] → IsWhole g node p
   walk_ended empty = by_lefts h.lefts (sym empty ∙ h.stack) h.faults h.count h.node_rows h.inputs

@@ -64,6 +64,14 @@ impl Stack {
         Ok(())
     }
 
+    /// The innermost region.
+    pub(crate) fn innermost(&self) -> Option<Region>
+        ensures innermost { self.now ≡ option_to_list result ++ drop 1 self.now }
+        ensures ended { IsNone result → self.now ≡ [] }
+    {
+        self.regions.last().copied()
+    }
+
     /// Takes the innermost region.
     pub(crate) fn pop(&mut self) -> Option<Region>
         ensures popped { self.old ≡ option_to_list result ++ self.new }

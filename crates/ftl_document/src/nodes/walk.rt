@@ -64,10 +64,11 @@ impl<'a> Walk<'a> {
             → IsWalked self.now.checked.now.grammar node self.now.rows.now progress.old
             → Ends self.now.checked.now.grammar node result progress.new }
     {
-        while let Some(region) = progress.stack.pop() {
+        while let Some(region) = progress.stack.innermost() {
             if progress.at < region.end {
-                progress.stack.push(region)?;
                 self.step(alloc, region, scratch, progress)?;
+            } else {
+                progress.stack.pop();
             }
         }
         Ok(())
