@@ -7,8 +7,9 @@ usage: bench/library.py [PROGRAM]     wants crates/maugzeris_c/out/libmaugzeris_
 For samples of 20,000 and 200,000 pieces of each grammar it prints the processor milliseconds of a whole run of the program,
 and of the library's calls that read the document, lay the page out and give the boxes; and then for a thousand changes each
 of one input, all of them at the front, in the middle or at the end of the page, the mean microseconds of one change laid
-out anew, and how many instances it touches. Each change is one call that sets the input and one that lays out anew, and
-gives the input one more than it has.
+out anew, how many instances it touches, and how many kids the folds among these go over; and whether that is within 0.6
+microseconds for each touched instance and 0.2 for each of these kids. Each change is one call that sets the input and one
+that lays out anew, and gives the input one more than it has.
 """
 import os
 import subprocess
@@ -17,7 +18,7 @@ import tempfile
 
 from examples import HEAP, LIBRARY, TOP, run
 from parts import SIZES
-from plain_layout import GRAMMARS, sample, shipped
+from plain_layout import GRAMMARS, sample, shipped, solved
 from program import program_at
 from relayout import first_inputs
 from timing import processor_seconds
@@ -25,6 +26,8 @@ from timing import processor_seconds
 CHANGES = 1000
 RUNS = 3
 PLACES = ["front", "middle", "end"]
+# What a relayout may take: so many microseconds for each touched instance, and for each kid of a touched fold.
+A_TOUCHED, A_KID = 0.6, 0.2
 
 
 def compiled(folder):
@@ -41,36 +44,62 @@ def changes_of(page):
     return "".join(f"{node} {name} {value + 1}\n" for at in starts for node, name, value in found[at : at + CHANGES])
 
 
+def fold_kids(page):
+    """For each instance, by its number, how many kids its rule goes over: none where it is no fold."""
+    grammar, nodes, _ = solved(page)
+    found = []
+    for node in nodes:
+        of = grammar.classes[node.name]
+        for name in [*grammar.interfaces[of["of"]]["attributes"], *of["input"], *of["local"]]:
+            rule = of["rules"].get(("self", name), ["none"])
+            found.append(len(node.children[rule[1]]) if rule[0] == "fold" else 0)
+    return found
+
+
 def timed(library, folder, grammar, page):
-    """What the C program prints, the least of some runs, by its first word."""
+    """What the C program tells by the first word of a line, the least numbers of some runs; and for each place the mean
+    count of touched instances and of the kids of the folds among these."""
     texts = [os.path.join(folder, name) for name in ("grammar", "document")]
     for path, text in zip(texts, [shipped(grammar), page[page.index("%document\n") + 10 :]]):
         with open(path, "w", encoding="utf-8") as file:
             file.write(text)
-    found = {}
+    found, touched = {}, []
     for _ in range(RUNS):
-        for line in run(library, *texts, input=changes_of(page)).splitlines():
-            name, *numbers = line.split()
-            numbers = [float(it) for it in numbers]
-            found[name] = min(found.get(name, numbers), numbers)
-    return found
+        told = [line.split() for line in run(library, *texts, input=changes_of(page)).splitlines()]
+        touched = [[int(it) for it in row] for name, *row in told if name == "touched"]
+        for name, number in (row for row in told if row[0] != "touched"):
+            found[name] = min(found.get(name, float(number)), float(number))
+    kids = fold_kids(page)
+    third = len(touched) // len(PLACES)
+    counts = []
+    for at in range(len(PLACES)):
+        rows = touched[at * third : (at + 1) * third]
+        counts.append([sum(map(len, rows)) / third, sum(kids[it] for row in rows for it in row) / third])
+    return found, counts
 
 
 def main():
     if not os.path.exists(LIBRARY):
         sys.exit(f"{LIBRARY} is not built: run rt lib in crates/maugzeris_c first")
     program = program_at(1)
-    print(f"{'page':14} {'program':>9} {'read':>9} {'lay out':>9} {'boxes':>9} " + " ".join(f"{it:>9} {'touched':>8}" for it in PLACES))
+    heads = [f"{'program':>9}", f"{'read':>9}", f"{'lay out':>9}", f"{'boxes':>9}"]
+    heads += [f"{place:>9} {'touched':>8} {'kids':>8}" for place in PLACES]
+    print(f"{'page':14} " + " ".join(heads))
+    late = 0
     with tempfile.TemporaryDirectory() as folder:
         library = compiled(folder)
         for grammar in GRAMMARS:
             for size in SIZES:
                 page = sample(grammar, size)
                 whole = processor_seconds([program, "run", "--workers", "1"], page, (0, 8), RUNS) * 1000
-                found = timed(library, folder, grammar, page)
-                parts = [whole, *(found[it][0] for it in ("read", "laid_out", "boxes"))]
-                means = " ".join(f"{found[it][0]:9.2f} {found[it][1]:8.1f}" for it in PLACES)
-                print(f"{grammar + ' ' + str(size):14} " + " ".join(f"{it:9.1f}" for it in parts) + f" {means}", flush=True)
+                found, counts = timed(library, folder, grammar, page)
+                cells = [f"{it:9.1f}" for it in (whole, *(found[name] for name in ("read", "laid_out", "boxes")))]
+                for place, (touched, kids) in zip(PLACES, counts):
+                    is_late = found[place] > A_TOUCHED * touched + A_KID * kids
+                    late += is_late
+                    cells.append(f"{found[place]:8.2f}{'!' if is_late else ' '} {touched:8.1f} {kids:8.1f}")
+                print(f"{grammar + ' ' + str(size):14} " + " ".join(cells), flush=True)
+    print(f"later than allowed: {late}")
 
 
 if __name__ == "__main__":

@@ -88,19 +88,36 @@ static size_t changes_of(uint32_t page, struct change *changes, size_t most)
     return count;
 }
 
+/* Lays out anew after one change, which adds so much to the number that it names. */
+static size_t changed(uint32_t page, const struct change *it, int64_t more)
+{
+    size_t touched;
+    done("set", maugzeris_page_set_input(&context, page, it->node, it->attribute, it->value + more));
+    done("relayout", maugzeris_page_relayout(&context, page, &touched));
+    return touched;
+}
+
 /* Makes each change alone, and tells the mean of one. */
 static void change(const char *which, uint32_t page, const struct change *changes, size_t count)
 {
-    size_t all = 0;
     double began = seconds();
+    for (size_t k = 0; k < count; k++)
+        changed(page, &changes[k], 0);
+    printf("%s %.3f\n", which, (seconds() - began) * 1e6 / (double)count);
+}
+
+/* Makes each change again, and tells what it touches. */
+static void tell_touched(uint32_t page, const struct change *changes, size_t count)
+{
+    static uint32_t instances[1 << 20];
     for (size_t k = 0; k < count; k++) {
-        size_t touched;
-        done("set", maugzeris_page_set_input(&context, page, changes[k].node, changes[k].attribute, changes[k].value));
-        done("relayout", maugzeris_page_relayout(&context, page, &touched));
-        all += touched;
+        size_t touched = changed(page, &changes[k], 1);
+        done("touched", maugzeris_page_touched(&context, page, instances, sizeof instances / sizeof *instances, &touched));
+        printf("touched");
+        for (size_t i = 0; i < touched; i++)
+            printf(" %" PRIu32, instances[i]);
+        printf("\n");
     }
-    double spent = seconds() - began;
-    printf("%s %.3f %.2f\n", which, spent * 1e6 / (double)count, (double)all / (double)count);
 }
 
 int main(int words, char **paths)
@@ -116,5 +133,6 @@ int main(int words, char **paths)
     change("front", page, changes, third);
     change("middle", page, changes + third, third);
     change("end", page, changes + 2 * third, count - 2 * third);
+    tell_touched(page, changes, count);
     return 0;
 }
