@@ -1,3 +1,1 @@
-pub mod places
 pub mod lines
-pub mod refusals

@@ -4,25 +4,26 @@
 //!
 //! - `words`: what the words ask for
 //! - `files`: files as bytes
-//! - `places`: lines and columns of a file, and where its sections begin
-//! - `refusals`: refusals with their places
 //! - `lines`: pages as lines
 //! - `drawing`: pages as drawings
+//! - `formats`: pages in canonical form
+//! - `html`: pages as one HTML file
 //! - `showing`: what comes of each file
 #![tactic(auto)]
 
 mod drawing;
 mod files;
+mod formats;
+mod html;
 mod lines;
-mod places;
-mod refusals;
 mod showing;
 mod words;
 
-use showing::show_files;
+use showing::{show_files, show_grammar, watch_file};
 use std::alloc::AllocError;
 use std::process::ExitCode;
 use std::rt::{Env, Files};
+use std::time::Clock;
 use std::{env, io};
 use words::{Wanted, show_command, wanted_by};
 
@@ -37,12 +38,15 @@ fn all_words(rt: &(impl Env + AllocGlobal)) -> io::Result<Vec<String>> {
 }
 
 /// Does what the words say, and gives the status to end with.
-fn status_of<R: Files + Env + Input + Print + Eprint + AllocGlobal>(
+fn status_of<R: Files + Env + Clock + Input + Print + Eprint + AllocGlobal>(
     rt: &R,
     words: &[String],
 ) -> Result<u8, AllocError> {
     match show_command(rt.alloc())?.try_get_matches_from(words) {
-        Ok(matches) => Ok(status_of_wanted(rt, wanted_by(&matches))),
+        Ok(matches) => match matches.get_str("grammar") {
+            Some(name) => Ok(show_grammar(rt, name).0),
+            None => Ok(status_of_wanted(rt, wanted_by(&matches))),
+        },
         Err(error) => {
             let _ = error.print(rt);
             Ok(error.exit_code() as u8)
@@ -50,15 +54,19 @@ fn status_of<R: Files + Env + Input + Print + Eprint + AllocGlobal>(
     }
 }
 
+const WANTED: &str = "show: --box wants four names, as x,y,w,h, --svg and --html one file, and \
+--watch one file with a name";
+
 /// Shows what is wanted, or tells what is wrong with the words.
-fn status_of_wanted<R: Files + Input + Print + Eprint + AllocGlobal>(
+fn status_of_wanted<R: Files + Clock + Input + Print + Eprint + AllocGlobal>(
     rt: &R,
     wanted: Option<Wanted<'_, '_>>,
 ) -> u8 {
     match wanted {
+        Some(wanted) if wanted.watch => watch_file(rt, wanted).0,
         Some(wanted) => show_files(rt, wanted).0,
         None => {
-            let _ = rt.eprintln("show: --box wants four names, as x,y,w,h, and --svg one file");
+            let _ = rt.eprintln(WANTED);
             2
         }
     }

@@ -4,3 +4,6 @@ mod SameTree
 mod Anew
 mod Written
 mod Parents
+mod InstanceNumbers
+mod Rules
+mod Writers

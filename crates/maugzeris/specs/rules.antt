@@ -1,2 +1,3 @@
 pub mod RuleTexts
 pub mod Kept
+pub mod Spoken

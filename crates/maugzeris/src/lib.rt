@@ -4,7 +4,8 @@
 //!
 //! - `refusals`: `Refusal`: why a text is refused
 //! - `rules`: `Grammar`, `Rules`: a grammar, and a schedule that computes it
-//! - `pages`: `Page`: a document, laid out, changed and laid out anew; `Node`, `Nodes`: its nodes
+//! - `pages`: `Page`: a document, laid out, changed and laid out anew; `Node`, `Nodes`: its nodes;
+//!   `Reads`: what its values are computed from
 //! - `building`: `Builder`: a page built by calls, without a text
 #![tactic(auto)]
 
@@ -15,9 +16,10 @@ pub mod rules;
 
 pub use building::Builder;
 pub use ftl_base::{Val, Width};
+pub use ftl_edits::{Edit, EditList};
 pub use ftl_page::Section;
 pub use ftl_requests::Status;
 pub use ftl_tree::InstanceList;
-pub use pages::{Node, Nodes, Page};
+pub use pages::{Node, Nodes, Page, Reads};
 pub use refusals::Refusal;
 pub use rules::{Grammar, Rules};

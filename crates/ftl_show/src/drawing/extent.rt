@@ -6,6 +6,9 @@ use crate::drawing::rect::Rect;
 /// The largest side of a drawing, in points, that small pages are enlarged to.
 const SIDE: i64 = 800;
 
+/// The widest margin, in points.
+const MARGIN: i64 = 16;
+
 /// The edges of what is drawn.
 #[derive(Clone, Copy, Debug, PartialEq, Eq)]
 pub struct Extent {
@@ -48,6 +51,11 @@ impl Extent {
     /// How many points of the drawing one of the page takes.
     pub fn scale(&self) -> i64 {
         (SIDE / self.side().clamp(1, SIDE)).max(1)
+    }
+
+    /// The margin around what is drawn, at least a point.
+    pub fn margin(&self) -> i64 {
+        (self.side() / 50).clamp(1, MARGIN)
     }
 }
 

@@ -27,6 +27,24 @@ impl Rect {
         }
     }
 
+    /// The box so many times as large, from the beginning of the page on.
+    pub fn enlarged(&self, times: i64) -> Rect {
+        Rect {
+            left: self.left.saturating_mul(times),
+            top: self.top.saturating_mul(times),
+            width: self.width.saturating_mul(times),
+            height: self.height.saturating_mul(times),
+        }
+    }
+
+    /// Whether the two have a place in common.
+    pub fn meets(&self, other: &Rect) -> bool {
+        self.left < other.right()
+            && other.left < self.right()
+            && self.top < other.bottom()
+            && other.top < self.bottom()
+    }
+
     /// Whether it has a negative size, or goes over the edge of the box around.
     pub fn sticks_out(&self, around: Option<Rect>) -> bool {
         if self.width < 0 || self.height < 0 {

@@ -4,8 +4,10 @@ ghost use Rattle.std.specs.Prelude.{◌<◌};
 ghost use Rattle.ftl_model.specs.layout.Tree.{size};
 ghost use Rattle.maugzeris.specs.pages.PageState.{IsLaidOut};
 
-use crate::drawing::extent::Extent;
+use crate::drawing::cross::Crosses;
+use crate::drawing::labels::push_labels;
 use crate::drawing::placed::{Placed, boxes_of};
+use crate::drawing::plot::Plot;
 use crate::drawing::rect::Rect;
 use crate::lines::{Fields, push_node};
 use crate::words::Drawing;
@@ -14,27 +16,26 @@ use std::alloc::{AllocError, Global};
 use std::fmt::Write;
 
 /// The styles of all drawings. Lines keep their width however much a drawing is enlarged.
-const STYLE: &str = "path{vector-effect:non-scaling-stroke;fill-opacity:.12}
+const STYLE: &str = "path{vector-effect:non-scaling-stroke;fill-opacity:.08}
+path.leaf{fill-opacity:.3}
 path.out{stroke:#d00;stroke-width:2;stroke-dasharray:5 3}
 path.unknown{fill:none;stroke:#d00;stroke-width:3}
 ";
 
-/// The boxes of a page as an SVG: coloured by class, each with what its node shows as a title. A
-/// box that sticks out of the box around has a broken red edge, and a red cross stands for one that
-/// Overflow hides.
+/// The boxes of a page as an SVG: coloured by class, those of leaves filled, each with what its
+/// node shows as a title. A box that sticks out of the box around has a broken red edge, and a red
+/// cross stands for one that Overflow hides.
 pub fn drawn_page(alloc: Global, page: &Page<'_>, how: Drawing<'_>) -> Result<String, AllocError>
     requires laid_out { IsLaidOut page.now }
 {
-    let placed = boxes_of(alloc, page, how)?;
-    let extent = Extent::of(placed.as_slice());
+    let boxes = boxes_of(alloc, page, how)?;
+    let placed = boxes.as_slice();
+    let plot = Plot::of(placed);
     let mut out = String::new(alloc);
-    push_opening(&mut out, &extent)?;
-    push_styles(&mut out, &extent, classes(placed.as_slice()))?;
-    for it in placed.iter() {
-        if it.node < page.node_count() {
-            push_box(&mut out, page, &extent, it)?;
-        }
-    }
+    push_opening(&mut out, &plot)?;
+    push_styles(&mut out, &plot, classes(placed))?;
+    push_boxes(&mut out, page, &plot, placed)?;
+    push_labels(alloc, &mut out, page, &plot, placed, how.labels)?;
     out.push_str("</svg>\n")?;
     Ok(out)
 }
@@ -48,39 +49,40 @@ fn classes(placed: &[Placed]) -> u32 {
     count
 }
 
-fn push_opening(out: &mut String, extent: &Extent) -> Result<(), AllocError> {
-    let margin = (extent.side() / 50).max(1);
-    let width = extent.width().saturating_add(margin.saturating_mul(2));
-    let height = extent.height().saturating_add(margin.saturating_mul(2));
-    let scale = extent.scale();
-    let left = extent.left.saturating_sub(margin);
-    let top = extent.top.saturating_sub(margin);
-    let shown_width = width.saturating_mul(scale);
-    let shown_height = height.saturating_mul(scale);
+fn push_opening(out: &mut String, plot: &Plot) -> Result<(), AllocError> {
+    let Rect {
+        left,
+        top,
+        width,
+        height,
+    } = plot.view();
+    let shown_width = width.saturating_mul(plot.extent.scale());
+    let shown_height = height.saturating_mul(plot.extent.scale());
     write!(
         out,
         "<svg xmlns=\"http://www.w3.org/2000/svg\" width=\"{shown_width}\" "
     )?;
     write!(out, "height=\"{shown_height}\" ")?;
     writeln!(out, "viewBox=\"{left} {top} {width} {height}\">")?;
+    if !plot.is_true_to_scale {
+        out.push_str("<desc>Not true to scale</desc>\n")?;
+    }
     write!(out, "<rect x=\"{left}\" y=\"{top}\" width=\"{width}\" ")?;
     writeln!(out, "height=\"{height}\" fill=\"#fff\"/>")?;
     Ok(())
 }
 
-/// Appends the styles: a colour for each class, far from those of the classes beside it.
-fn push_styles(out: &mut String, extent: &Extent, classes: u32) -> Result<(), AllocError> {
-    let hundredths = 1100 / extent.scale().max(1);
+/// Appends the styles, with a colour for each class.
+fn push_styles(out: &mut String, plot: &Plot, classes: u32) -> Result<(), AllocError> {
+    let hundredths = 1100 / plot.extent.scale().max(1);
     let units = hundredths / 100;
     let parts = hundredths % 100;
     out.push_str("<style>\n")?;
     out.push_str(STYLE)?;
-    writeln!(
-        out,
-        "text{{font:{units}.{parts:02}px sans-serif;fill:#222}}"
-    )?;
+    write!(out, "text{{font:{units}.{parts:02}px sans-serif;")?;
+    out.push_str("fill:#222;pointer-events:none}\n")?;
     for class in 0..classes {
-        let hue = u64::from(class) * 137 % 360;
+        let hue = hue(class);
         writeln!(
             out,
             ".c{class}{{color:hsl({hue},70%,40%);fill:currentColor;stroke:currentColor}}"
@@ -89,94 +91,79 @@ fn push_styles(out: &mut String, extent: &Extent, classes: u32) -> Result<(), Al
     out.push_str("</style>\n")
 }
 
+/// The hue of a class, far from those of the classes beside it; that of the first ones is no red.
+pub fn hue(class: u32) -> u64 {
+    (u64::from(class) * 137 + 130) % 360
+}
+
+fn push_boxes(
+    out: &mut String,
+    page: &Page<'_>,
+    plot: &Plot,
+    placed: &[Placed],
+) -> Result<(), AllocError>
+    requires laid_out { IsLaidOut page.now }
+{
+    let mut crosses = Crosses::none();
+    for it in placed {
+        crosses = crosses.after(it);
+        if it.node < page.node_count() {
+            push_box(out, page, plot, it, crosses)?;
+        }
+    }
+    Ok(())
+}
+
 fn push_box(
     out: &mut String,
     page: &Page<'_>,
-    extent: &Extent,
+    plot: &Plot,
     it: &Placed,
+    crosses: Crosses,
 ) -> Result<(), AllocError>
     requires laid_out { IsLaidOut page.now }
     requires node { it.now.node < size page.now.tree }
 {
-    out.push_str("<g><title>")?;
-    push_node(out, page, it.node, Fields::Shown)?;
-    out.push_str("</title>")?;
+    write!(out, "<path id=\"n{}\" class=\"", it.node)?;
     match it.rect {
-        Some(rect) => {
-            push_rect(out, it, &rect)?;
-            push_label(out, page, extent, it.node, &rect)?;
-        }
-        None => push_cross(out, extent, it)?,
+        Some(rect) => push_rect(out, it, &plot.rect(rect))?,
+        None => push_cross(out, &crosses.rect(plot, it))?,
     }
-    out.push_str("</g>\n")
+    out.push_str("\"><title>")?;
+    push_node(out, page, it.node, Fields::Shown)?;
+    out.push_str("</title></path>\n")
 }
 
+/// Appends the classes of a box and its path.
 fn push_rect(out: &mut String, it: &Placed, rect: &Rect) -> Result<(), AllocError> {
-    let Placed { class, .. } = *it;
-    let out_class = if rect.sticks_out(it.around) {
-        " out"
-    } else {
-        ""
-    };
+    write!(out, "c{}", it.class)?;
+    if it.is_leaf {
+        out.push_str(" leaf")?;
+    }
+    if it.sticks_out() {
+        out.push_str(" out")?;
+    }
     let Rect {
         left,
         top,
         width,
         height,
     } = *rect;
-    write!(out, "<path class=\"c{class}{out_class}\" ")?;
-    writeln!(out, "d=\"M{left} {top}h{width}v{height}H{left}z\"/>")?;
+    write!(out, "\" d=\"M{left} {top}h{width}v{height}H{left}z")?;
     Ok(())
 }
 
-/// Appends a cross at the beginning of the box around.
-fn push_cross(out: &mut String, extent: &Extent, it: &Placed) -> Result<(), AllocError> {
-    let size = (extent.side() / 30).max(1);
-    let (left, top) = match it.around {
-        Some(around) => (around.left, around.top),
-        None => (extent.left, extent.top),
-    };
+/// Appends a cross over this square.
+fn push_cross(out: &mut String, rect: &Rect) -> Result<(), AllocError> {
+    let Rect {
+        left,
+        top,
+        width: size,
+        ..
+    } = *rect;
     write!(
         out,
-        "<path class=\"unknown\" d=\"M{left} {top}l{size} {size}"
+        "unknown\" d=\"M{left} {top}l{size} {size}m0 -{size}l-{size} {size}"
     )?;
-    writeln!(out, "m0 -{size}l-{size} {size}\"/>")?;
     Ok(())
-}
-
-/// Appends the number and the class of a node that has no kids, as far as its box has room.
-fn push_label(
-    out: &mut String,
-    page: &Page<'_>,
-    extent: &Extent,
-    node: u32,
-    rect: &Rect,
-) -> Result<(), AllocError>
-    requires node { node < size page.now.tree }
-{
-    let room = rect.width.saturating_mul(extent.scale()) / 7;
-    let lines = rect.height.saturating_mul(extent.scale()) / 14;
-    if has_kids(page, node) || lines < 1 || room < 3 {
-        return Ok(());
-    }
-    let Rect { left, top, .. } = *rect;
-    write!(
-        out,
-        "<text x=\"{left}\" y=\"{top}\" dx=\".3em\" dy=\"1.1em\">{node}"
-    )?;
-    let name = page.class_name(node);
-    if i64::try_from(name.chars().count().saturating_add(3)).unwrap_or(i64::MAX) <= room {
-        write!(out, " {name}")?;
-    }
-    out.push_str("</text>")
-}
-
-/// Whether a node has kids: the node behind it is one.
-fn has_kids(page: &Page<'_>, node: u32) -> bool
-    requires node { node < size page.now.tree }
-{
-    let Some(next) = node.checked_add(1) else {
-        return false;
-    };
-    next < page.node_count() && page.parent(next) == Some(node)
 }

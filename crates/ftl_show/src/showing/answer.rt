@@ -3,10 +3,13 @@
 ghost use Rattle.maugzeris.specs.pages.PageState.{IsLaidOut};
 
 use crate::drawing::drawn_page;
+use crate::formats::formatted;
+use crate::html::{refused_html, shown_html};
 use crate::lines::{Style, node_lines, styled, tree_text};
 use crate::showing::texts::{Texts, texts_of};
 use crate::showing::told::{page_told, refusal_told};
 use crate::words::View;
+use ftl_refusals::Spot;
 use ftl_requests::{Decided, Undecided};
 use maugzeris::{Grammar, Page, Rules, Status};
 use std::alloc::{AllocError, Global};
@@ -18,15 +21,32 @@ pub struct File<'f> {
     pub bytes: &'f [u8],
 }
 
+impl<'f> File<'f> {
+    /// Its text; none at all where its bytes are no text.
+    pub fn text(&self) -> &'f str {
+        str::from_utf8(self.bytes).unwrap_or("")
+    }
+}
+
 /// What comes of a file.
 #[derive(Drop)]
 pub enum Answer {
     /// The text is written. The status is that of an Overflow where a shown value is one.
-    Shown { status: Status, text: String },
-    /// The page is refused; the text is told.
-    Refused { status: Status, text: String },
+    Shown {
+        status: Status,
+        text: String,
+    },
+    /// The page is refused; the text is told. `html` is written, where that was asked for.
+    Refused {
+        status: Status,
+        text: String,
+        spot: Option<Spot>,
+        html: Option<String>,
+    },
     /// The page has so many nodes, and not the one that is asked for.
-    NoNode { count: u32 },
+    NoNode {
+        count: u32,
+    },
 }
 
 /// What comes of a file.
@@ -36,7 +56,41 @@ pub fn answer_to(
     view: View<'_>,
     style: Style,
 ) -> Result<Answer, AllocError> {
-    match texts_of(alloc, file.bytes) {
+    let answer = answer_of_file(alloc, file, view, style)?;
+    match view {
+        View::Html(_) => with_html(alloc, file, answer),
+        _ => Ok(answer),
+    }
+}
+
+/// The answer, where it refuses the page with that as HTML.
+fn with_html(alloc: Global, file: File<'_>, answer: Answer) -> Result<Answer, AllocError> {
+    match answer {
+        Answer::Refused {
+            status,
+            text,
+            spot,
+            html: _,
+        } => {
+            let html = refused_html(alloc, file.name, file.text(), spot, text.as_str())?;
+            Ok(Answer::Refused {
+                status,
+                text,
+                spot,
+                html: Some(html),
+            })
+        }
+        other => Ok(other),
+    }
+}
+
+fn answer_of_file(
+    alloc: Global,
+    file: File<'_>,
+    view: View<'_>,
+    style: Style,
+) -> Result<Answer, AllocError> {
+    match texts_of(alloc, file.bytes, is_format(view)) {
         Ok(texts) => answer_of_texts(alloc, file, &texts, view, style),
         Err(Undecided::Refused(Decided { status, text })) => {
             page_told(alloc, file, status, text.as_slice())
@@ -81,24 +135,51 @@ fn answer_of_rules(
     style: Style,
 ) -> Result<Answer, AllocError> {
     match Page::new(alloc, rules, texts.document.as_str()) {
-        Ok(page) => answer_of_page(alloc, page, view, style),
+        Ok(page) if is_format(view) => answer_of_format(alloc, file, texts, rules, &page),
+        Ok(page) => answer_of_page(alloc, file, page, view, style),
         Err(refusal) => refusal_told(alloc, file, texts, &refusal),
+    }
+}
+
+fn answer_of_format(
+    alloc: Global,
+    file: File<'_>,
+    texts: &Texts,
+    rules: &Rules<'_>,
+    page: &Page<'_>,
+) -> Result<Answer, AllocError> {
+    match page.edits_of(alloc, texts.edits.as_str()) {
+        Ok(edits) => {
+            let status = Status::DONE;
+            let text = formatted(alloc, file.bytes, rules, page, edits.as_slice())?;
+            Ok(Answer::Shown { status, text })
+        }
+        Err(refusal) => refusal_told(alloc, file, texts, &refusal),
+    }
+}
+
+fn is_format(view: View<'_>) -> bool {
+    match view {
+        View::Format => true,
+        _ => false,
     }
 }
 
 fn answer_of_page(
     alloc: Global,
+    file: File<'_>,
     page: Page<'_>,
     view: View<'_>,
     style: Style,
 ) -> Result<Answer, AllocError> {
     let mut page = page;
     page.lay_out(alloc)?;
-    answer_of_values(alloc, &page, view, style)
+    answer_of_values(alloc, file, &page, view, style)
 }
 
 fn answer_of_values(
     alloc: Global,
+    file: File<'_>,
     page: &Page<'_>,
     view: View<'_>,
     style: Style,
@@ -108,10 +189,11 @@ fn answer_of_values(
     let text = match view {
         View::Tree(fields) => styled(alloc, tree_text(alloc, page, fields)?, style)?,
         View::Drawing(how) => drawn_page(alloc, page, how)?,
+        View::Html(how) => shown_html(alloc, file.name, file.text(), page, how)?,
         View::Node(node) if node < page.node_count() => {
             styled(alloc, node_lines(alloc, page, node)?, style)?
         }
-        View::Node(_) => {
+        View::Node(_) | View::Format => {
             return Ok(Answer::NoNode {
                 count: page.node_count(),
             });

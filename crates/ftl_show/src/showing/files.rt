@@ -34,24 +34,36 @@ fn show_file<R: Files + Input + Print + Eprint + AllocGlobal>(
     place: usize,
     wanted: Wanted<'_, '_>,
 ) -> Status {
-    let bytes = match read_file(rt, name) {
-        Ok(bytes) => bytes,
-        Err(Unread::Failed(error)) => {
-            return told(
-                rt,
-                Status::READ_FAULT,
-                format_args!("show: {name}: {error}\n"),
-            );
-        }
-        Err(Unread::OutOfMemory) => return out_of_memory(rt, name),
-    };
-    let file = File {
-        name,
-        bytes: bytes.as_slice(),
-    };
+    match read_file(rt, name) {
+        Ok(bytes) => show_bytes(rt, name, bytes.as_slice(), place, wanted),
+        Err(unread) => unread_told(rt, name, unread),
+    }
+}
+
+/// Shows the bytes of a file.
+pub fn show_bytes<R: Print + Eprint + AllocGlobal>(
+    rt: &R,
+    name: &str,
+    bytes: &[u8],
+    place: usize,
+    wanted: Wanted<'_, '_>,
+) -> Status {
+    let file = File { name, bytes };
     match answer_to(rt.alloc(), file, wanted.view, wanted.style) {
         Ok(answer) => give(rt, name, place, wanted.files.len(), answer),
         Err(AllocError) => out_of_memory(rt, name),
+    }
+}
+
+/// Tells why a file was not read.
+pub fn unread_told<R: Eprint>(rt: &R, name: &str, unread: Unread) -> Status {
+    match unread {
+        Unread::Failed(error) => told(
+            rt,
+            Status::READ_FAULT,
+            format_args!("show: {name}: {error}\n"),
+        ),
+        Unread::OutOfMemory => out_of_memory(rt, name),
     }
 }
 
@@ -70,7 +82,12 @@ fn give<R: Print + Eprint>(
             }
             written(rt, status, text.as_str())
         }
-        Answer::Refused { status, text } => told(rt, status, format_args!("{text}")),
+        Answer::Refused {
+            status,
+            text,
+            html,
+            spot: _,
+        } => give_refusal(rt, status, text, html),
         Answer::NoNode { count } => told(
             rt,
             Status::BAD_WORDS,
@@ -80,6 +97,21 @@ fn give<R: Print + Eprint>(
             ),
         ),
     }
+}
+
+/// Tells a refusal, and writes it as HTML where that was asked for.
+fn give_refusal<R: Print + Eprint>(
+    rt: &R,
+    status: Status,
+    text: String,
+    html: Option<String>,
+) -> Status {
+    if let Some(html) = html
+        && written(rt, status, html.as_str()) == Status::WRITE_FAULT
+    {
+        return Status::WRITE_FAULT;
+    }
+    told(rt, status, format_args!("{text}"))
 }
 
 fn write_heading<R: Print>(rt: &R, name: &str, place: usize) -> Status {
@@ -93,7 +125,7 @@ fn write_heading<R: Print>(rt: &R, name: &str, place: usize) -> Status {
 }
 
 /// The status, once the text is written.
-fn written<R: Print>(rt: &R, status: Status, text: &str) -> Status {
+pub fn written<R: Print>(rt: &R, status: Status, text: &str) -> Status {
     match write_whole(&mut StdSink::new(rt), text.as_bytes()) {
         Ok(()) => status,
         Err(_) => Status::WRITE_FAULT,
@@ -109,7 +141,7 @@ fn out_of_memory<R: Eprint>(rt: &R, name: &str) -> Status {
 }
 
 /// The status, once it was tried to tell why.
-fn told<R: Eprint>(rt: &R, status: Status, why: impl std::fmt::Display + Drop) -> Status {
+pub fn told<R: Eprint>(rt: &R, status: Status, why: impl std::fmt::Display + Drop) -> Status {
     let _ = rt.eprint(why);
     status
 }

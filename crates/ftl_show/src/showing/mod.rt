@@ -4,7 +4,11 @@
 
 mod answer;
 mod files;
+mod shipped;
 mod texts;
 mod told;
+mod watching;
 
 pub use files::show_files;
+pub use shipped::show_grammar;
+pub use watching::watch_file;

@@ -1,15 +1,9 @@
 //! The texts of a page.
 
-use ftl_page::{Need, Page, Section, Text};
+use ftl_page::{Need, Page, Text};
 use ftl_requests::{Undecided, read_page};
 use maugzeris::Width;
 use std::alloc::Global;
-
-const NEEDED: Need = Need {
-    schedule: true,
-    document: true,
-    edits: false,
-};
 
 /// The width of a page and the texts of its sections; of the automatic schedule none.
 #[derive(Drop)]
@@ -18,24 +12,38 @@ pub struct Texts {
     pub grammar: String,
     pub schedule: Option<String>,
     pub document: String,
+    pub edits: String,
 }
 
-/// The texts of the page of these bytes.
-pub fn texts_of(alloc: Global, bytes: &[u8]) -> Result<Texts, Undecided> {
-    let page = read_page(alloc, bytes, NEEDED)?;
+/// The texts of the page of these bytes; those of the edits only where they are asked for and there
+/// are some.
+pub fn texts_of(alloc: Global, bytes: &[u8], edits: bool) -> Result<Texts, Undecided> {
+    let need = Need {
+        schedule: true,
+        document: true,
+        edits: edits && has_edits(bytes),
+    };
+    let page = read_page(alloc, bytes, need)?;
     let Page {
         width,
         grammar,
         schedule,
         document,
-        edits: _,
+        edits,
     } = page;
     Ok(Texts {
         width,
         grammar: grammar.into_string(),
         schedule: schedule.map(Text::into_string),
         document: string_of(alloc, document),
+        edits: string_of(alloc, edits),
     })
+}
+
+/// Whether a heading names edits.
+fn has_edits(bytes: &[u8]) -> bool {
+    let text = str::from_utf8(bytes).unwrap_or("");
+    text.lines().any(|line| line.starts_with("%edits"))
 }
 
 /// The text, or none at all where there is no such section.
@@ -47,31 +55,11 @@ fn string_of(alloc: Global, text: Option<Text>) -> String {
 }
 
 impl Texts {
-    /// The text of a section that is shown.
-    pub fn of(&self, section: Section) -> Option<&str> {
-        match section {
-            Section::Grammar => Some(self.grammar.as_str()),
-            Section::Schedule => self.schedule_text(),
-            Section::Document => Some(self.document.as_str()),
-            Section::Edits => None,
-        }
-    }
-
     /// The text of the schedule, unless it is the automatic one.
     pub fn schedule_text(&self) -> Option<&str> {
         match &self.schedule {
             Some(text) => Some(text.as_str()),
             None => None,
         }
-    }
-}
-
-/// The first word of the heading of a section.
-pub fn heading_word(section: Section) -> &'static str {
-    match section {
-        Section::Grammar => "%grammar",
-        Section::Schedule => "%schedule",
-        Section::Document => "%document",
-        Section::Edits => "%edits",
     }
 }

@@ -9,6 +9,8 @@ pub struct Wanted<'m, 'w> {
     pub files: &'m [&'w str],
     pub view: View<'w>,
     pub style: Style,
+    /// Whether the file is shown anew each time that it changes.
+    pub watch: bool,
 }
 
 /// What is shown of a page.
@@ -18,16 +20,29 @@ pub enum View<'w> {
     Tree(Fields),
     /// One node.
     Node(u32),
+    /// The page in canonical form.
+    Format,
     /// Its boxes.
     Drawing(Drawing<'w>),
+    /// Its boxes, its text, and all its values.
+    Html(Drawing<'w>),
 }
 
-/// How boxes are placed.
+/// How boxes are drawn.
 #[derive(Clone, Copy)]
 pub struct Drawing<'w> {
     pub names: BoxNames<'w>,
     /// Whether places count from the box around.
     pub relative: bool,
+    pub labels: Labels,
+}
+
+/// Which boxes tell their number and class, as far as they have room.
+#[derive(Clone, Copy, Debug, PartialEq, Eq)]
+pub enum Labels {
+    /// Those of nodes without kids.
+    Leaves,
+    All,
 }
 
 /// The names of the attributes that place a box.
@@ -39,21 +54,30 @@ pub struct BoxNames<'w> {
     pub height: &'w str,
 }
 
-/// What the words ask for; none where `--box` has not four names, or a drawing is asked for of
-/// several files.
+/// What the words ask for; none where `--box` has not four names, or where a drawing is asked for of
+/// several files, or watching of any but one with a name.
 pub fn wanted_by<'m, 'w>(matches: &'m ArgMatches<'w>) -> Option<Wanted<'m, 'w>> {
     let files = matches.get_strs("files")?;
     let view = view_by(matches)?;
     if is_drawing(view) && files.len() > 1 {
         return None;
     }
+    let watch = matches.get_flag("watch");
+    if watch && (files.len() > 1 || files.contains(&"-")) {
+        return None;
+    }
     let style = style_by(matches);
-    Some(Wanted { files, view, style })
+    Some(Wanted {
+        files,
+        view,
+        style,
+        watch,
+    })
 }
 
 fn is_drawing(view: View<'_>) -> bool {
     match view {
-        View::Drawing(_) => true,
+        View::Drawing(_) | View::Html(_) => true,
         _ => false,
     }
 }
@@ -67,17 +91,34 @@ fn style_by(matches: &ArgMatches<'_>) -> Style {
 
 fn view_by<'w>(matches: &ArgMatches<'w>) -> Option<View<'w>> {
     if matches.get_flag("svg") {
-        let names = box_names(matches.get_str("box").unwrap_or("x,y,w,h"))?;
-        let relative = matches.get_flag("relative");
-        return Some(View::Drawing(Drawing { names, relative }));
+        return Some(View::Drawing(drawing_by(matches)?));
+    }
+    if matches.get_flag("html") {
+        return Some(View::Html(drawing_by(matches)?));
     }
     if let Some(node) = matches.get_one::<u32>("node") {
         return Some(View::Node(node));
+    }
+    if matches.get_flag("format") {
+        return Some(View::Format);
     }
     if matches.get_flag("all") {
         return Some(View::Tree(Fields::All));
     }
     Some(View::Tree(Fields::Shown))
+}
+
+fn drawing_by<'w>(matches: &ArgMatches<'w>) -> Option<Drawing<'w>> {
+    let names = box_names(matches.get_str("box").unwrap_or("x,y,w,h"))?;
+    Some(Drawing {
+        names,
+        relative: matches.get_flag("relative"),
+        labels: if matches.get_flag("names") {
+            Labels::All
+        } else {
+            Labels::Leaves
+        },
+    })
 }
 
 fn width(matches: &ArgMatches<'_>) -> Option<usize> {

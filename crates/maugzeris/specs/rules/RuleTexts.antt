@@ -1,6 +1,7 @@
 -- What the texts of a grammar, of a schedule and of a document come to, each on its own.
 use Rattle.std.specs.Prelude.{ℕ, List, Option, Some, None}
 use Rattle.ftl_base.specs.declared.width.Width.{Width}
+use Rattle.ftl_edits.specs.declared.meaning.types.Edit.{Edit}
 use Rattle.ftl_meaning.specs.faults.Checked.{CheckedGrammar}
 use Rattle.ftl_model.specs.layout.Tree.{Forest}
 use Rattle.ftl_nest_check.specs.declared.stages.types.NestingSchedule.{NestingSchedule}
@@ -20,3 +21,7 @@ schedule_text c (Some text) = Then (short_text text) (λ t. texts.schedule c (So
 -- the tree of a document, which the schedule can solve
 abbrev pub document_text : CheckedGrammar → NestingSchedule → (text : List ℕ) → Stage Forest
 document_text c s text = Then (short_text text) (texts.tree c s)
+
+-- the edits of a text, at the tree
+abbrev pub edits_text : CheckedGrammar → Forest → (text : List ℕ) → Stage (List Edit)
+edits_text c t text = Then (short_text text) (texts.edits c t)

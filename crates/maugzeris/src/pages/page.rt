@@ -73,8 +73,8 @@ impl<'a> Page<'a> {
         }
     }
 
-    /// The grammar with the code of its rules.
-    pub(crate) fn grammar(&self) -> &Grammar
+    /// The grammar.
+    pub fn grammar(&self) -> &'a Grammar
         ensures grammar { result.now ≡ self.now.checked }
     {
         self.rules.grammar()

@@ -1,0 +1,3 @@
+pub mod places
+pub mod tokens
+pub mod marks
