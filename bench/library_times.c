@@ -109,7 +109,7 @@ static void change(const char *which, uint32_t page, const struct change *change
 /* Makes each change again, and tells what it touches. */
 static void tell_touched(uint32_t page, const struct change *changes, size_t count)
 {
-    static uint32_t instances[1 << 20];
+    static uint32_t instances[1 << 25]; /* as many as a page has at most */
     for (size_t k = 0; k < count; k++) {
         size_t touched = changed(page, &changes[k], 1);
         done("touched", maugzeris_page_touched(&context, page, instances, sizeof instances / sizeof *instances, &touched));
