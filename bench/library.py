@@ -58,25 +58,18 @@ def fold_kids(page):
 
 
 def timed(library, folder, grammar, page):
-    """What the C program tells by the first word of a line, the least numbers of some runs; and for each place the mean
-    count of touched instances and of the kids of the folds among these."""
-    texts = [os.path.join(folder, name) for name in ("grammar", "document")]
-    for path, text in zip(texts, [shipped(grammar), page[page.index("%document\n") + 10 :]]):
-        with open(path, "w", encoding="utf-8") as file:
+    """What the C program tells, the least of some runs, by the word in front of it."""
+    texts = {"grammar": shipped(grammar), "document": page[page.index("%document\n") + 10 :]}
+    texts["kids"] = "".join(f"{it}\n" for it in fold_kids(page))
+    for name, text in texts.items():
+        with open(os.path.join(folder, name), "w", encoding="utf-8") as file:
             file.write(text)
-    found, touched = {}, []
+    found = {}
     for _ in range(RUNS):
-        told = [line.split() for line in run(library, *texts, input=changes_of(page)).splitlines()]
-        touched = [[int(it) for it in row] for name, *row in told if name == "touched"]
-        for name, number in (row for row in told if row[0] != "touched"):
+        words = run(library, *(os.path.join(folder, name) for name in texts), input=changes_of(page)).split()
+        for name, number in zip(words[::2], words[1::2]):
             found[name] = min(found.get(name, float(number)), float(number))
-    kids = fold_kids(page)
-    third = len(touched) // len(PLACES)
-    counts = []
-    for at in range(len(PLACES)):
-        rows = touched[at * third : (at + 1) * third]
-        counts.append([sum(map(len, rows)) / third, sum(kids[it] for row in rows for it in row) / third])
-    return found, counts
+    return found
 
 
 def main():
@@ -93,9 +86,10 @@ def main():
             for size in SIZES:
                 page = sample(grammar, size)
                 whole = processor_seconds([program, "run", "--workers", "1"], page, (0, 8), RUNS) * 1000
-                found, counts = timed(library, folder, grammar, page)
+                found = timed(library, folder, grammar, page)
                 cells = [f"{it:9.1f}" for it in (whole, *(found[name] for name in ("read", "laid_out", "boxes")))]
-                for place, (touched, kids) in zip(PLACES, counts):
+                for place in PLACES:
+                    touched, kids = found[f"{place}_touched"], found[f"{place}_kids"]
                     is_late = found[place] > CALLS + A_TOUCHED * touched + A_KID * kids
                     late += is_late
                     cells.append(f"{found[place]:8.2f}{'!' if is_late else ' '} {touched:8.1f} {kids:8.1f}")

@@ -1,5 +1,5 @@
-/* Times calls of the static library for bench/library.py, which gives it the names of files with a grammar and a document,
-   and on standard input a line NODE NAME VALUE for each change. Prints the milliseconds of reading, of laying out and of
+/* Times calls of the static library for bench/library.py, which gives it the names of files with a grammar, a document and,
+   for each instance, how many kids its rule goes over, and on standard input a line NODE NAME VALUE for each change. Prints the milliseconds of reading, of laying out and of
    the boxes, and for the first, the middle and the last third of the changes, and for all, the mean microseconds of a call
    of maugzeris_page_set_input with one of maugzeris_page_relayout, and the mean count of touched instances. */
 #include <inttypes.h>
@@ -14,6 +14,11 @@ struct change {
     uint32_t node, attribute;
     int64_t value;
 };
+
+/* How many instances a page has at most. */
+#define MOST (1u << 25)
+
+static uint32_t kids_of[MOST];
 
 static struct maugzeris_context context = MAUGZERIS_CONTEXT_NONE;
 
@@ -106,25 +111,37 @@ static void change(const char *which, uint32_t page, const struct change *change
     printf("%s %.3f\n", which, (seconds() - began) * 1e6 / (double)count);
 }
 
-/* Makes each change again, and tells what it touches. */
-static void tell_touched(uint32_t page, const struct change *changes, size_t count)
+/* Makes each change again, and tells the means of what it touches, and of the kids that the rules of these go over. */
+static void tell_touched(const char *which, uint32_t page, const struct change *changes, size_t count)
 {
-    static uint32_t instances[1 << 25]; /* as many as a page has at most */
+    static uint32_t instances[MOST]; /* as many as a page has at most */
+    double all = 0, kids = 0;
     for (size_t k = 0; k < count; k++) {
         size_t touched = changed(page, &changes[k], 1);
-        done("touched", maugzeris_page_touched(&context, page, instances, sizeof instances / sizeof *instances, &touched));
-        printf("touched");
+        done("touched", maugzeris_page_touched(&context, page, instances, MOST, &touched));
+        all += (double)touched;
         for (size_t i = 0; i < touched; i++)
-            printf(" %" PRIu32, instances[i]);
-        printf("\n");
+            kids += kids_of[instances[i]];
     }
+    printf("%s_touched %.2f\n%s_kids %.2f\n", which, all / (double)count, which, kids / (double)count);
+}
+
+static void read_kids(const char *path)
+{
+    FILE *file = fopen(path, "r");
+    if (file == NULL)
+        exit(1);
+    for (size_t k = 0; k < MOST && fscanf(file, "%" SCNu32, &kids_of[k]) == 1; k++)
+        ;
+    fclose(file);
 }
 
 int main(int words, char **paths)
 {
     static struct change changes[1 << 16];
-    if (words != 3)
+    if (words != 4)
         return 1;
+    read_kids(paths[3]);
     done("context", maugzeris_context_new(&context));
     uint32_t page = page_of(paths);
     lay_out(page);
@@ -133,6 +150,8 @@ int main(int words, char **paths)
     change("front", page, changes, third);
     change("middle", page, changes + third, third);
     change("end", page, changes + 2 * third, count - 2 * third);
-    tell_touched(page, changes, count);
+    tell_touched("front", page, changes, third);
+    tell_touched("middle", page, changes + third, third);
+    tell_touched("end", page, changes + 2 * third, count - 2 * third);
     return 0;
 }

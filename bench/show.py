@@ -191,16 +191,12 @@ CASES = [
 """, ""),
     (["--node", "2", "a"], {"a": FRAME}, 2, "", "show: a: the nodes are 0 to 1\n"),
     (["--node=1", "a"], {"a": OVERFLOW}, 8, """1 Box body
-  x=3         Frame: body.x := self.slack
-              read 0.slack=3
-  y=3         Frame: body.y := self.slack
-              read 0.slack=3
-  w=overflow  Box: self.w := self.bw * 2147483647
-              read 1.bw=20
-  h=10        Box: self.h := self.bh
-              read 1.bh=10
-  bw=20       input
-  bh=10       input
+  x=3
+  y=3
+  w=overflow
+  h=10
+  bw=20
+  bh=10
 """, ""),
     (["--format", "a"], {"a": FRAME}, 0, FRAME_FORMATTED, ""),
     (["--format", "a"], {"a": FRAME_FORMATTED}, 0, FRAME_FORMATTED, ""),
@@ -306,7 +302,7 @@ def watched(show):
             if running is None:
                 running = subprocess.Popen([show, "--watch", "a"], cwd=room, text=True, stdout=subprocess.PIPE,
                                            stderr=subprocess.STDOUT)
-            lines = 4 if text == BROKEN else 1 if text is None else 2
+            lines = 6 if text == BROKEN else 1 if text is None else 2
             told.append("".join(running.stdout.readline() for _ in range(lines)))
         running.kill()
         running.wait()
@@ -316,7 +312,8 @@ def watched(show):
 WATCHED = [
     "0 Frame w=26 h=16\n  1 Box body x=3 y=3 w=20 h=10\n",
     "0 Frame w=36 h=16\n  1 Box body x=3 y=3 w=30 h=10\n",
-    "a:9:14:\n    9 |   self.slack : 3;\n      |              ^\nrefused grammar: syntax at 177\n",
+    "a:9:14:\n    9 |   self.slack : 3;\n      |              ^\n      = expected `:=`\n      = hint: a rule is written with `:=`\n"
+    "refused grammar: syntax at 177\n",
     "show: a: No such file or directory (os error 2)\n",
     "0 Frame w=26 h=16\n  1 Box body x=3 y=3 w=20 h=10\n",
 ]
@@ -451,7 +448,7 @@ def html_of_refusals(show):
         yield "refusal", made.of("pre", "refusal"), ["\n" + made.told]
         yield "marked line", [marked, made.of("mark")], [[line], mark]
         yield "place of the marked line", lines.split("\n").index(line) + 1, number
-    yield "text that is no page", Html(show, FRAME.replace("bw = 20 ", "")).of("mark"), []
+    yield "first letter of the node that lacks a field", Html(show, FRAME.replace("bw = 20 ", "")).of("mark"), ["B"]
 
 
 def main():
