@@ -6,10 +6,10 @@ usage: bench/library.py [PROGRAM]     wants crates/maugzeris_c/out/libmaugzeris_
 
 For samples of 20,000 and 200,000 pieces of each grammar it prints the processor milliseconds of a whole run of the program,
 and of the library's calls that read the document, lay the page out and give the boxes; and then for a thousand changes each
-of one input, all of them at the front, in the middle or at the end of the page, the mean microseconds of one change laid
-out anew, how many instances it touches, and how many kids the folds among these go over; and whether that is within one
-microsecond for the calls, 0.6 for each touched instance and 0.2 for each of these kids. Each change is one call that sets the input and one
-that lays out anew, and gives the input one more than it has.
+of one input (fewer where one moves most of what stands behind it), all of them at the front, in the middle or at the end of
+the page, the mean microseconds of one change laid out anew, how many instances it touches, and how many kids the folds among
+these go over; and whether that is within one microsecond for the calls, 0.6 for each touched instance and 0.2 for each of
+these kids. Each change is one call that sets the input and one that lays out anew, and gives the input one more than it has.
 """
 import os
 import subprocess
@@ -24,7 +24,9 @@ from relayout import first_inputs
 from timing import processor_seconds
 
 CHANGES = 1000
-RUNS = 5
+# Where a change moves most of what stands behind it.
+FEWER = {"float": 10, "table": 100, "inline": 100}
+RUNS = 3
 PLACES = ["front", "middle", "end"]
 # What a change may take: so many microseconds for its two calls, for each touched instance, and for each kid of a touched
 # fold.
@@ -38,11 +40,11 @@ def compiled(folder):
     return path
 
 
-def changes_of(page):
-    """Changes of one input each: a thousand from the first input on, a thousand in the middle, and the last thousand."""
+def changes_of(page, count):
+    """Changes of one input each: so many from the first input on, as many in the middle, and the last ones."""
     found = [it for it in first_inputs(page) if it[1] in ("iw", "ih")]
-    starts = [0, (len(found) - CHANGES) // 2, len(found) - CHANGES]
-    return "".join(f"{node} {name} {value + 1}\n" for at in starts for node, name, value in found[at : at + CHANGES])
+    starts = [0, (len(found) - count) // 2, len(found) - count]
+    return "".join(f"{node} {name} {value + 1}\n" for at in starts for node, name, value in found[at : at + count])
 
 
 def fold_kids(page):
@@ -64,9 +66,9 @@ def timed(library, folder, grammar, page):
     for name, text in texts.items():
         with open(os.path.join(folder, name), "w", encoding="utf-8") as file:
             file.write(text)
-    found = {}
+    found, changes = {}, changes_of(page, FEWER.get(grammar, CHANGES))
     for _ in range(RUNS):
-        words = run(library, *(os.path.join(folder, name) for name in texts), input=changes_of(page)).split()
+        words = run(library, *(os.path.join(folder, name) for name in texts), input=changes).split()
         for name, number in zip(words[::2], words[1::2]):
             found[name] = min(found.get(name, float(number)), float(number))
     return found
