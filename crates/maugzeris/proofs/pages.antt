@@ -6,4 +6,3 @@ mod Written
 mod Parents
 mod InstanceNumbers
 mod Rules
-mod Writers

@@ -21,7 +21,7 @@ use Rattle.ftl_step_value.specs.cells.ReadCells.{read_cells}
 use Rattle.ftl_visit.specs.visits.Visits.{rule_number}
 use Rattle.maugzeris.specs.pages.Instances.{Computes, IsInstanceOn, attribute_of, instance_on, node_of, reads_on, rule_above}
 use Rattle.maugzeris.specs.pages.Instances.{rule_at_node, rule_on}
-use Rattle.maugzeris.proofs.pages.Writers.{inherited_here, kid_writer, own_writer, rule_above as has_rule_above}
+use Rattle.ftl_demand.proofs.demand.Writers.{inherited_here, kid_writer, own_writer, rule_above as has_rule_above}
 use Rattle.maugzeris.specs.pages.PageState.{PageState, class_on}
 
 none_is_not_some : (o : Option ℕ) → o ≡ None → IsSome o → ⊥
