@@ -3,3 +3,5 @@ pub mod ShownAmong
 pub mod Lines
 pub mod ShortNumbers
 pub mod PieceTables
+pub mod Pushed
+pub mod Spliced

@@ -7,6 +7,7 @@ ghost use Rattle.ftl_model.specs.layout.Tree.{size};
 ghost use Rattle.ftl_tree.specs.boxes.LinePieces.{ArePieces, attribute_pieces, class_pieces};
 ghost use Rattle.ftl_tree.specs.boxes.Shows.{node_class, node_shows};
 
+use crate::boxes::piece::Piece;
 use crate::boxes::shown::{shown_by, shown_rows};
 use crate::trees::Tree;
 use ftl_checked::Checked;
@@ -18,8 +19,8 @@ use std::alloc::{AllocError, Global};
 #[derive(Drop)]
 pub(crate) struct Pieces {
     shown: Items<Items<u32>>,
-    classes: Items<Items<u8>>,
-    attributes: Items<Items<u8>>,
+    classes: Items<Piece>,
+    attributes: Items<Piece>,
 }
 
 pub(crate) fn pieces_of(alloc: Global, checked: &Checked) -> Result<Pieces, AllocError>
@@ -42,52 +43,46 @@ pub(crate) fn shown_at<'p>(pieces: &'p Pieces, tree: &Tree, node: u32) -> &'p [u
 }
 
 /// The piece of a node's class.
-pub(crate) fn class_piece<'p>(pieces: &'p Pieces, tree: &Tree, node: u32) -> &'p [u8]
+pub(crate) fn class_piece<'p>(pieces: &'p Pieces, tree: &Tree, node: u32) -> &'p Piece
     requires pieces { ArePieces tree.now.checked.grammar pieces.now }
     requires node { node < size tree.now.tree }
     ensures piece { result.now ≡ codes " "
         ++ (names_of tree.now.checked.grammar).class_name (node_class tree.now node) }
 {
-    pieces.classes.as_slice()[tree.row(node).class as usize].as_slice()
+    &pieces.classes.as_slice()[tree.row(node).class as usize]
 }
 
 /// The piece of an attribute that the node shows.
-pub(crate) fn attribute_piece<'p>(pieces: &'p Pieces, tree: &Tree, node: u32, attr: u32) -> &'p [u8]
+pub(crate) fn attribute_piece<'p>(
+    pieces: &'p Pieces,
+    tree: &Tree,
+    node: u32,
+    attr: u32,
+) -> &'p Piece
     requires pieces { ArePieces tree.now.checked.grammar pieces.now }
     requires attr { Contains (node_shows tree.now node) attr }
     ensures piece { result.now ≡ codes " "
         ++ (names_of tree.now.checked.grammar).attribute_name attr ++ codes "=" }
 {
-    pieces.attributes.as_slice()[attr as usize].as_slice()
+    &pieces.attributes.as_slice()[attr as usize]
 }
 
-fn class_pieces(alloc: Global, checked: &Checked) -> Result<Items<Items<u8>>, AllocError>
+fn class_pieces(alloc: Global, checked: &Checked) -> Result<Items<Piece>, AllocError>
     ensures pieces { IfOk result (λ p. p ≡ class_pieces checked.now.grammar) }
 {
     let mut pieces = Items::new(alloc);
     for class in checked.grammar().classes.as_slice() {
-        pieces.push(piece(alloc, class.name.text().as_bytes(), b"")?)?;
+        pieces.push(Piece::new(alloc, class.name.text().as_bytes(), b"")?)?;
     }
     Ok(pieces)
 }
 
-fn attribute_pieces(alloc: Global, checked: &Checked) -> Result<Items<Items<u8>>, AllocError>
+fn attribute_pieces(alloc: Global, checked: &Checked) -> Result<Items<Piece>, AllocError>
     ensures pieces { IfOk result (λ p. p ≡ attribute_pieces checked.now.grammar) }
 {
     let mut pieces = Items::new(alloc);
     for attr in 0..checked.attr_count() {
-        pieces.push(piece(alloc, checked.attr_name(attr).text().as_bytes(), b"=")?)?;
+        pieces.push(Piece::new(alloc, checked.attr_name(attr).text().as_bytes(), b"=")?)?;
     }
     Ok(pieces)
-}
-
-// A space, a name, and what ends it.
-fn piece(alloc: Global, name: &[u8], end: &[u8]) -> Result<Items<u8>, AllocError>
-    ensures piece { IfOk result (λ p. p ≡ codes " " ++ name.now ++ end.now) }
-{
-    let mut bytes = Vec::new(alloc);
-    bytes.extend_from_slice(b" ")?;
-    bytes.extend_from_slice(name)?;
-    bytes.extend_from_slice(end)?;
-    Ok(Items::from_vec(bytes))
 }

@@ -1,6 +1,6 @@
 //! The printer.
 
-ghost use Rattle.std.specs.Prelude.{◌≡◌, ◌<◌, ◌++◌, length, OnOk, IfOk};
+ghost use Rattle.std.specs.Prelude.{◌≡◌, ◌<◌, ◌≤◌, ◌++◌, length, OnOk, IfOk};
 ghost use Rattle.std.specs.List.{list_any};
 ghost use Rattle.ftl_model.specs.layout.Boxes.{boxes, is_overflow, shows_overflow};
 ghost use Rattle.ftl_model.specs.layout.Boxes.{value_text};
@@ -15,7 +15,9 @@ ghost use Rattle.ftl_tree.specs.boxes.Shows.{HasWords, fields_text, line_text, n
 ghost use Rattle.ftl_tree.specs.boxes.Shows.{shows_in};
 ghost use Rattle.ftl_tree.specs.boxes.WordValues.{table_of_words, value_of_word};
 
+use crate::boxes::buffer::TextBuffer;
 use crate::boxes::digits::push_number;
+use crate::boxes::piece::Piece;
 use crate::boxes::pieces::{Pieces, attribute_piece, class_piece, pieces_of, shown_at};
 use crate::boxes::shown::{shown_by, shown_rows};
 use crate::boxes::word::{number_of_word, word_at};
@@ -44,12 +46,15 @@ pub fn print_boxes(alloc: Global, tree: &Tree, words: &[u64]) -> Result<Printed,
 {
     let pieces = pieces_of(alloc, tree.checked())?;
     let count = tree.node_count();
-    let mut text = Vec::with_capacity(alloc, LINE_BYTES * count as usize)?;
+    let mut text = TextBuffer::new(alloc, LINE_BYTES * count as usize)?;
     let mut overflows = false;
     for node in 0..count {
         overflows |= print_line(&mut text, &pieces, tree, words, node)?;
     }
-    Ok(Printed { text, overflows })
+    Ok(Printed {
+        text: text.into_text(),
+        overflows,
+    })
 }
 
 /// Whether a shown value of the tree is Overflow. The memory is for a small table of what each
@@ -70,7 +75,7 @@ pub fn shows_overflow(alloc: Global, tree: &Tree, words: &[u64]) -> Result<bool,
 
 // Tells whether the line shows Overflow.
 fn print_line(
-    out: &mut Vec<u8>,
+    out: &mut TextBuffer,
     pieces: &Pieces,
     tree: &Tree,
     words: &[u64],
@@ -79,20 +84,22 @@ fn print_line(
     requires pieces { ArePieces tree.now.checked.grammar pieces.now }
     requires words { HasWords tree.now words.now }
     requires node { node < size tree.now.tree }
-    ensures line { OnOk result (out.new.items ≡ out.old.items
+    ensures line { OnOk result (out.new.text ≡ out.old.text
         ++ line_text tree.now words.now node) }
     ensures any { IfOk result (λ any. any
         ≡ list_any (shows_in tree.now words.now node) (node_shows tree.now node)) }
 {
-    push_number(out, node as i64)?;
-    out.extend_from_slice(class_piece(pieces, tree, node))?;
+    let class = class_piece(pieces, tree, node);
+    out.reserve(class.room())?;
+    push_number(out, node as i64);
+    out.push_piece(class);
     let overflows = print_fields(out, pieces, tree, words, node)?;
-    out.extend_from_slice(b"\n")?;
+    out.push(b'\n');
     Ok(overflows)
 }
 
 fn print_fields(
-    out: &mut Vec<u8>,
+    out: &mut TextBuffer,
     pieces: &Pieces,
     tree: &Tree,
     words: &[u64],
@@ -101,7 +108,9 @@ fn print_fields(
     requires pieces { ArePieces tree.now.checked.grammar pieces.now }
     requires words { HasWords tree.now words.now }
     requires node { node < size tree.now.tree }
-    ensures fields { OnOk result (out.new.items ≡ out.old.items
+    requires room { 1 ≤ out.old.room }
+    ensures room { OnOk result (1 ≤ out.new.room) }
+    ensures fields { OnOk result (out.new.text ≡ out.old.text
         ++ fields_text tree.now words.now node (node_shows tree.now node)) }
     ensures any { IfOk result (λ any. any
         ≡ list_any (shows_in tree.now words.now node) (node_shows tree.now node)) }
@@ -116,19 +125,21 @@ fn print_fields(
 }
 
 #[inline(always)]
-fn print_field(out: &mut Vec<u8>, piece: &[u8], word: u64) -> Result<bool, AllocError>
-    ensures field { OnOk result (out.new.items ≡ out.old.items ++ piece.now
+fn print_field(out: &mut TextBuffer, piece: &Piece, word: u64) -> Result<bool, AllocError>
+    ensures room { OnOk result (1 ≤ out.new.room) }
+    ensures field { OnOk result (out.new.text ≡ out.old.text ++ piece.now
         ++ value_text (value_of_word word)) }
     ensures any { IfOk result (λ any. any ≡ is_overflow (value_of_word word)) }
 {
-    out.extend_from_slice(piece)?;
+    out.reserve(piece.room())?;
+    out.push_piece(piece);
     match number_of_word(word) {
         Some(number) => {
-            push_number(out, number)?;
+            push_number(out, number);
             Ok(false)
         }
         None => {
-            out.extend_from_slice(b"overflow")?;
+            out.copy(b"overflow");
             Ok(true)
         }
     }

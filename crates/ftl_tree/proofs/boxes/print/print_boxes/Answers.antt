@@ -10,7 +10,7 @@ loop-node-preserved c =
           c.in_ok-overflows.ensures.line
           ∙ lines_more t c.loop-node.node c.node_count-count.ensures.is_tree
           (omega (arith, c.node_count-count.ensures.count)) c.args.words.now
-          c.loop-node.text.items c.loop-node.invariant.lines;
+          c.loop-node.text.text c.loop-node.invariant.lines;
       any =
           overflows_so_far t c.loop-node.node c.node_count-count.ensures.is_tree
           (omega (arith, c.node_count-count.ensures.count)) c.args.words.now
@@ -23,7 +23,8 @@ returns c =
     let t = c.args.tree.now in
     record {
       text =
-          c.loop-node.invariant.lines
+          c.into_text.ensures.text
+          ∙ c.loop-node.invariant.lines
           ∙ lines_all t c.args.words.now c.loop-node.node c.node_count-count.ensures.is_tree
           (omega (arith, c.node_count-count.ensures.count));
       overflows =

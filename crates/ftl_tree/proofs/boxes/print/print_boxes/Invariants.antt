@@ -10,7 +10,7 @@ use Rattle.ftl_tree.proofs.boxes.print.print_boxes.Given as goal
 -- the lines so far, and whether one of them shows Overflow
 abbrev pub invariant-loop-node : goal.invariant-loop-node
 invariant-loop-node l = record {
-  lines : l.text.items
+  lines : l.text.text
       ≡ flat_map (node_line (names_of l.tree.checked.grammar) l.tree.tree (table_of_words l.tree l.words))
       (take l.node (preorder l.tree.tree));
   any : l.overflows ≡ list_any (overflows_at l.tree l.words) (take l.node (preorder l.tree.tree));

@@ -1,4 +1,4 @@
-use Rattle.std.proofs.Common.{◌≡◌, ◌++◌, [], ap, ap₂, arith, flat_map, length, ◌∙◌}
+use Rattle.std.proofs.Common.{◌++◌, [], ap, ap₂, arith, flat_map, length, ◌∙◌}
 use Rattle.std.specs.List.{range_with_len}
 use Rattle.std.proofs.lemmas.List.{take_all}
 use Rattle.ftl_grammar.specs.syntax.Trees as trees

@@ -1,4 +1,4 @@
-use Rattle.std.proofs.Common.{ap₂, arith, get_or, ◌+◌, ◌∙◌}
+use Rattle.std.proofs.Common.{ap₂, arith, ◌+◌, ◌∙◌}
 use Rattle.ftl_model.specs.layout.Path.{class_at, node_at}
 use Rattle.ftl_tree.proofs.trees.Known.{class_within, first_is, instance_room, known, length_first_instances, place_is}
 use Rattle.ftl_tree.proofs.trees.Known.{place_known}
