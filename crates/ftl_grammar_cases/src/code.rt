@@ -1,6 +1,6 @@
 //! Code of parts of rules.
 
-use ftl_base::Cmp;
+use ftl_base::{Cmp, Truth};
 use ftl_visit::{Instruction, Part, Programs};
 use std::alloc::AllocError;
 use std::fmt::Write;
@@ -48,6 +48,8 @@ fn write_instruction(out: &mut String, instruction: Instruction) -> Result<(), A
         Instruction::Number(number) => write!(out, " {number}"),
         Instruction::Divide(number) => write!(out, " divide-by-{number}"),
         Instruction::Compare(comparison) => out.push_str(comparison_word(comparison)),
+        Instruction::Constant(number) => write!(out, " constant {number}"),
+        Instruction::Known(truth) => out.push_str(truth_word(truth)),
         other => out.push_str(word_of(other)),
     }
 }
@@ -67,7 +69,19 @@ fn word_of(instruction: Instruction) -> &'static str {
         Instruction::Not => " not",
         Instruction::Both => " both",
         Instruction::Either => " either",
-        Instruction::Number(_) | Instruction::Divide(_) | Instruction::Compare(_) => "",
+        Instruction::Number(_)
+        | Instruction::Divide(_)
+        | Instruction::Compare(_)
+        | Instruction::Constant(_)
+        | Instruction::Known(_) => "",
+    }
+}
+
+fn truth_word(truth: Truth) -> &'static str {
+    match truth {
+        Truth::Yes => " yes",
+        Truth::No => " no",
+        Truth::Overflow => " overflow",
     }
 }
 

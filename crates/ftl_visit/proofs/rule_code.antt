@@ -3,3 +3,4 @@ pub mod DepthLemmas
 mod RowLemmas
 pub mod RunLemmas
 pub mod StandLemmas
+pub mod ThereLemmas

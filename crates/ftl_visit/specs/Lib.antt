@@ -1,4 +1,5 @@
 pub mod rule_code
+pub mod kept
 pub mod compiled
 pub mod visits
 pub mod rule_values

@@ -2,3 +2,4 @@ pub mod RuleCode
 pub mod Entries
 pub mod Compilable
 pub mod Pieces
+pub mod KeptCode

@@ -3,6 +3,7 @@
 //! and for each pass and class the list of what a visit does.
 //!
 //! - `rule_code`: code without names, and the engine that runs it
+//! - `kept`: code with its constants computed, which stands for code of `rule_code`
 //! - `compiled`: `compile`, `Programs`, `run_code`: the code of each part of each rule
 //! - `visits`: `visit_list`: the visits of the classes, as lists of rules by number
 //! - `rule_values`: what the parts of a rule give, run one after another
@@ -12,6 +13,7 @@
 #![tactic(auto)]
 
 pub mod compiled;
+pub mod kept;
 pub mod passes;
 pub mod rule_code;
 pub mod rule_tables;

@@ -1,5 +1,5 @@
 //! What the reads of a part give, by the values that were read.
-ghost use Rattle.std.specs.Prelude.{◌≡◌, ◌<◌, None, Some, get_or, length, map, slice_get};
+ghost use Rattle.std.specs.Prelude.{◌≡◌, ◌<◌, None, Some, get_or, length, map, slice_get, take};
 ghost use Rattle.ftl_model.specs.layout.AttributeGrammar.{seen_by};
 ghost use Rattle.ftl_model.specs.layout.Tree.{size};
 ghost use Rattle.ftl_order.specs.orders.Lawful.{EachMay};
@@ -7,7 +7,7 @@ ghost use Rattle.ftl_deps.specs.parts.RuleParts.{read_meant};
 ghost use Rattle.ftl_visit.specs.step_reads.StepReads.{IsOfChildren, children_in, kids_in};
 ghost use Rattle.ftl_step_value.specs.value.Spread.{spread};
 
-use crate::value::counts::{is_there, seen_count};
+use crate::value::counts::is_there;
 use ftl_base::Val;
 use ftl_deps::PartRead;
 use ftl_tree::Tree;
@@ -23,7 +23,7 @@ pub(crate) struct Whole<'a> {
 impl<'a> Reads for Whole<'a> {
     ghost list = { λ s. map Some s.values.now };
 
-    fn read(&self, place: usize) -> Option<Val> {
+    fn read(&self, place: usize, _there: usize) -> Option<Val> {
         Some(self.values[place])
     }
 }
@@ -80,7 +80,7 @@ impl<'a> Sparse<'a> {
 impl<'a> Reads for Sparse<'a> {
     ghost list = { λ s. s };
 
-    fn read(&self, place: usize) -> Option<Val> {
+    fn read(&self, place: usize, there: usize) -> Option<Val> {
         given(
             self.tree,
             self.node,
@@ -88,11 +88,13 @@ impl<'a> Reads for Sparse<'a> {
             self.reads,
             self.values,
             place,
+            there,
         )
     }
 }
 
-/// What the read at this place gives: the value behind those of the reads before it.
+/// What the read at this place gives: the value behind those of the reads before it, so many of
+/// which are of anything.
 fn given(
     tree: &Tree<'_>,
     node: u32,
@@ -100,20 +102,22 @@ fn given(
     reads: &[PartRead],
     values: &[Val],
     place: usize,
+    there: usize,
 ) -> Option<Val>
     requires node { node < size tree.now.tree }
     requires reads { EachMay (IsOfChildren (children_in tree.now node)) (map read_meant reads.now) }
     requires values { length values.now
         ≡ length (seen_by (kids_in tree.now node) at_hand (map read_meant reads.now)) }
     requires place { place < length reads.now }
+    requires there { there ≡ length (seen_by (kids_in tree.now node) at_hand
+        (take place (map read_meant reads.now))) }
     ensures given { result ≡ get_or
         (spread (kids_in tree.now node) at_hand (map read_meant reads.now) values.now) place None }
 {
     if !is_there(tree, node, reads[place], at_hand) {
         return None;
     }
-    let before = seen_count(tree, node, &reads[..place], at_hand);
-    Some(value_at(values, before))
+    Some(value_at(values, there))
 }
 
 fn value_at(values: &[Val], place: usize) -> Val

@@ -18,7 +18,7 @@ struct ReadList<'a> {
 impl<'a> Reads for ReadList<'a> {
     ghost list = { λ s. s.list.now };
 
-    fn read(&self, place: usize) -> Option<Val> {
+    fn read(&self, place: usize, _there: usize) -> Option<Val> {
         self.list[place]
     }
 }

@@ -1,6 +1,7 @@
 //! The code of a grammar.
 ghost use Rattle.std.specs.Prelude.{◌≡◌, ◌++◌, map, IfOk, OnOk};
 ghost use Rattle.std.specs.List.{All};
+ghost use Rattle.ftl_base.specs.Widths.{greatest_of_width};
 ghost use Rattle.ftl_visit.specs.compiled.Compilable.{HasCode, IsCompilableClass, IsCompilableRule};
 ghost use Rattle.ftl_visit.specs.compiled.Pieces.{IsBuilt, codes_in};
 ghost use Rattle.ftl_visit.specs.compiled.RuleCode.{class_codes, rule_code, rule_codes};
@@ -8,6 +9,7 @@ ghost use Rattle.ftl_visit.specs.compiled.RuleCode.{class_codes, rule_code, rule
 use crate::compiled::built::{Built, push_rule};
 use crate::compiled::programs::Programs;
 use crate::compiled::spelled::has_code;
+use ftl_base::Width;
 use ftl_checked::Checked;
 use ftl_grammar::{Class, Rule};
 use std::alloc::{AllocError, Global};
@@ -21,14 +23,15 @@ pub fn compile(alloc: Global, checked: &Checked) -> Result<Programs, AllocError>
 {
     let grammar = checked.grammar();
     has_code(grammar);
-    let built = build(alloc, grammar.classes.as_slice())?;
-    Ok(Programs::new(checked.width(), built))
+    let width = checked.width();
+    let built = build(alloc, width, grammar.classes.as_slice())?;
+    Ok(Programs::new(width, built))
 }
 
-fn build(alloc: Global, classes: &[Class]) -> Result<Built, AllocError>
+fn build(alloc: Global, width: Width, classes: &[Class]) -> Result<Built, AllocError>
     requires code { All IsCompilableClass classes.now }
     ensures codes { IfOk result (λ b. codes_in b ≡ class_codes classes.now) }
-    ensures built { IfOk result (λ b. IsBuilt b) }
+    ensures built { IfOk result (λ b. IsBuilt (greatest_of_width width) b) }
 {
     let mut built = Built {
         instructions: Vec::new(alloc),
@@ -36,20 +39,25 @@ fn build(alloc: Global, classes: &[Class]) -> Result<Built, AllocError>
         max_stack: 0,
     };
     for class in classes {
-        push_rules(alloc, class.rules.as_slice(), &mut built)?;
+        push_rules(alloc, width, class.rules.as_slice(), &mut built)?;
     }
     Ok(built)
 }
 
-fn push_rules(alloc: Global, rules: &[Rule], built: &mut Built) -> Result<(), AllocError>
+fn push_rules(
+    alloc: Global,
+    width: Width,
+    rules: &[Rule],
+    built: &mut Built,
+) -> Result<(), AllocError>
     requires code { All IsCompilableRule rules.now }
-    requires built { IsBuilt built.old }
+    requires built { IsBuilt (greatest_of_width width) built.old }
     ensures codes { OnOk result (codes_in built.new
         ≡ codes_in built.old ++ map (λ r. rule_code r.body) rules.now) }
-    ensures built { OnOk result (IsBuilt built.new) }
+    ensures built { OnOk result (IsBuilt (greatest_of_width width) built.new) }
 {
     for rule in rules {
-        push_rule(alloc, &rule.body, built)?;
+        push_rule(alloc, width, &rule.body, built)?;
     }
     Ok(())
 }

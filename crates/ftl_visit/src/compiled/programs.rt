@@ -1,6 +1,7 @@
 //! The code of all rules.
 ghost use Rattle.std.specs.Prelude.{◌≡◌, ◌≤◌, ℕ, IfSome, slice_get};
 ghost use Rattle.std.specs.Option.{option_and_then, option_map};
+ghost use Rattle.ftl_base.specs.Widths.{greatest_of_width};
 ghost use Rattle.ftl_visit.specs.rule_code.Depth.{depth_of, Stands};
 ghost use Rattle.ftl_visit.specs.compiled.Pieces.{IsBuilt, IsRunnable, codes_in, piece, range_of};
 ghost use Rattle.ftl_visit.specs.compiled.RuleCode.{code_at, part_code, read_count};
@@ -22,6 +23,7 @@ pub struct Programs {
 }
 
 impl Model for Programs {
+    ghost use Rattle.ftl_base.specs.Widths.{greatest_of_width};
     ghost use Rattle.ftl_visit.specs.compiled.Pieces.{IsBuilt, codes_in};
     ghost use Rattle.ftl_visit.specs.compiled.RuleCode.{Compiled};
 
@@ -33,12 +35,12 @@ impl Model for Programs {
       max_stack = p.built.max_stack;
     } };
 
-    ghost invariant = { λ p. IsBuilt p.built };
+    ghost invariant = { λ p. IsBuilt (greatest_of_width p.width) p.built };
 }
 
 impl Programs {
     pub(crate) fn new(width: Width, built: Built) -> Programs
-        requires built { IsBuilt built }
+        requires built { IsBuilt (greatest_of_width width) built }
         ensures width { result.width ≡ width }
         ensures rules { result.rules ≡ codes_in built }
     {
@@ -51,9 +53,10 @@ impl Programs {
         ensures width { IfSome result (λ c. c.width ≡ self.now.width) }
         ensures room { IfSome result (λ c. depth_of c.code ≤ self.now.max_stack) }
     {
-        let range = range_at(&self.built, rule, part)?;
+        let range = range_at(self.width, &self.built, rule, part)?;
         let code = &self.built.instructions[range.start..range.end];
-        Some(Code::new(self.width, code, range.reads))
+        let kept = &self.built.instructions[range.kept_start..range.kept_end];
+        Some(Code::new(self.width, code, kept, range.reads))
     }
 
     /// A room that is enough for the code of each part.
@@ -68,10 +71,9 @@ impl Programs {
 
 /// The room that is enough for the code of each part.
 fn room_of(built: &Built) -> u32
-    requires built { IsBuilt built.now }
     ensures room { result ≡ built.now.max_stack }
-    ensures enough { (rule : ℕ) (part : PartOfRule) → IfSome
-        (option_and_then (part_code part) (slice_get (codes_in built.now) rule))
+    ensures enough { (greatest : ℕ) → IsBuilt greatest built.now → (rule : ℕ) (part : PartOfRule)
+        → IfSome (option_and_then (part_code part) (slice_get (codes_in built.now) rule))
         (λ code. depth_of code ≤ result) }
 {
     built.max_stack
@@ -79,12 +81,14 @@ fn room_of(built: &Built) -> u32
 
 /// Where the code of a part of a rule lies.
 #[tactic(auto, using(crate::proofs::compiled::Laying::found_steps))]
-fn range_at(built: &Built, rule: u32, part: Part) -> Option<CodeRange>
-    requires built { IsBuilt built.now }
+fn range_at(width: Width, built: &Built, rule: u32, part: Part) -> Option<CodeRange>
+    requires built { IsBuilt (greatest_of_width width) built.now }
     ensures piece { option_map (piece built.now.instructions.items) result
         ≡ option_and_then (part_code part) (slice_get (codes_in built.now) rule) }
-    ensures runs { IfSome result (IsRunnable built.now.instructions.items built.now.max_stack) }
+    ensures runs { IfSome result (IsRunnable (greatest_of_width width)
+        built.now.instructions.items built.now.max_stack) }
 {
+    let _ = width;
     let ranges = built.rules.get(rule as usize)?;
     part_range(*ranges, part)
 }

@@ -23,8 +23,11 @@ fn values_after(instruction: Instruction, before: usize) -> usize
     ensures after { result ≡ values_after instruction before }
 {
     match instruction {
-        Instruction::Number(_) | Instruction::Read | Instruction::Last | Instruction::Accumulator =>
-            before + 1,
+        Instruction::Number(_)
+        | Instruction::Read
+        | Instruction::Last
+        | Instruction::Accumulator
+        | Instruction::Constant(_) => before + 1,
         Instruction::Add
         | Instruction::Subtract
         | Instruction::Multiply
@@ -36,7 +39,8 @@ fn values_after(instruction: Instruction, before: usize) -> usize
         | Instruction::Divide(_)
         | Instruction::Not
         | Instruction::Both
-        | Instruction::Either => before,
+        | Instruction::Either
+        | Instruction::Known(_) => before,
     }
 }
 
@@ -45,7 +49,7 @@ fn truths_after(instruction: Instruction, before: usize) -> usize
     ensures after { result ≡ truths_after instruction before }
 {
     match instruction {
-        Instruction::Last | Instruction::Compare(_) => before + 1,
+        Instruction::Last | Instruction::Compare(_) | Instruction::Known(_) => before + 1,
         Instruction::Choose | Instruction::Both | Instruction::Either => before.saturating_sub(1),
         Instruction::Number(_)
         | Instruction::Read
@@ -57,6 +61,7 @@ fn truths_after(instruction: Instruction, before: usize) -> usize
         | Instruction::Divide(_)
         | Instruction::Least
         | Instruction::Greatest
-        | Instruction::Not => before,
+        | Instruction::Not
+        | Instruction::Constant(_) => before,
     }
 }

@@ -1,4 +1,4 @@
-use ftl_base::Cmp;
+use ftl_base::{Cmp, Truth};
 
 /// One instruction of code, without names. An operator stands after its operands.
 #[derive(Clone, Copy, Debug, PartialEq, Eq)]
@@ -25,4 +25,8 @@ pub enum Instruction {
     Not,
     Both,
     Either,
+    /// A number that was computed when the code was made; one out of range stands for Overflow.
+    Constant(i64),
+    /// A truth that was.
+    Known(Truth),
 }

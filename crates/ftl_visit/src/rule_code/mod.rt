@@ -18,3 +18,4 @@ pub use instruction::Instruction;
 pub use laws::code_computes_the_formula;
 pub use reads::Reads;
 pub use running::run_code;
+pub(crate) use step::whole;

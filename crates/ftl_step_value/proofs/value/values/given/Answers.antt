@@ -1,6 +1,6 @@
 -- Before the value of a read stand those of the reads before it.
 use Rattle.std.proofs.Common.{◌≡◌, ◌<◌, Some, ap, arith, get_or, length, map, subst, sym, ◌∙◌, take, Contains}
-use Rattle.std.proofs.lemmas.List.{get_or-map, length-map, take-map}
+use Rattle.std.proofs.lemmas.List.{get_or-map, length-map}
 use Rattle.std.proofs.lemmas.List.Elements.{Contains-get_or}
 use Rattle.std.proofs.lemmas.Option.{slice_get-get_or}
 use Rattle.ftl_model.proofs.lists.Rising.{map_has}
@@ -8,7 +8,7 @@ use Rattle.ftl_model.specs.layout.AttributeGrammar.{Read, occurrences, seen_by}
 use Rattle.ftl_deps.specs.parts.RuleParts.{read_meant}
 use Rattle.ftl_deps.specs.declared.parts.part_read.PartRead.TheVariants.{Own}
 use Rattle.ftl_visit.specs.step_reads.StepReads.{kids_in}
-use Rattle.ftl_step_value.proofs.value.SpreadLaws.{seen_within, spread-none, spread-some, take_in}
+use Rattle.ftl_step_value.proofs.value.SpreadLaws.{seen_within, spread-none, spread-some}
 use Rattle.ftl_step_value.proofs.value.values.given.Goals as goal
 
 pub is_there-requires-clause-read : goal.is_there-requires-clause-read
@@ -31,13 +31,6 @@ returns-then-not-is_there c =
     ap (λ (r : Read). length (occurrences kids k r)) here ∙ c.if-not-is_there.ensures.count in
     record { given = sym (spread-none kids k rs c.args.values.now c.args.place d within none) }
 
-pub seen_count-before-requires-clause-reads : goal.seen_count-before-requires-clause-reads
-seen_count-before-requires-clause-reads c = λ r h.
-    let rs = map read_meant c.args.reads.now in
-    c.requires.reads r
-    (take_in c.args.place rs r
-    (subst (λ xs. Contains xs r) (sym (take-map read_meant c.args.place c.args.reads.now)) h))
-
 pub value_at-requires : goal.value_at-requires
 value_at-requires c =
     let kids = kids_in c.args.tree.now c.args.node in
@@ -50,9 +43,7 @@ value_at-requires c =
     subst (λ n. c.args.place < n) (sym (length-map c.args.reads.now read_meant)) c.requires.place in
     let one : length (occurrences kids k (get_or rs c.args.place d)) ≡ 1 =
     ap (λ (r : Read). length (occurrences kids k r)) here ∙ c.if-not-is_there.ensures.count in
-    let before : c.seen_count-before.result ≡ length (seen_by kids k (take c.args.place rs)) =
-    c.seen_count-before.ensures.count
-    ∙ ap (λ xs. length (seen_by kids k xs)) (sym (take-map read_meant c.args.place c.args.reads.now)) in
+    let before : c.args.there ≡ length (seen_by kids k (take c.args.place rs)) = c.requires.there in
     let all = seen_within kids k rs c.args.place d within in
     let long = c.requires.values in
     record { within = omega (arith, before, all, one, long) }
@@ -71,16 +62,14 @@ returns c =
     subst (λ n. c.args.place < n) (sym (length-map c.args.reads.now read_meant)) c.requires.place in
     let one : length (occurrences kids k (get_or rs c.args.place d)) ≡ 1 =
     ap (λ (r : Read). length (occurrences kids k r)) here ∙ c.if-not-is_there.ensures.count in
-    let before : c.seen_count-before.result ≡ length (seen_by kids k (take c.args.place rs)) =
-    c.seen_count-before.ensures.count
-    ∙ ap (λ xs. length (seen_by kids k xs)) (sym (take-map read_meant c.args.place c.args.reads.now)) in
+    let before : c.args.there ≡ length (seen_by kids k (take c.args.place rs)) = c.requires.there in
     let long = c.requires.values in
     let all = seen_within kids k rs c.args.place d within in
-    let below : c.seen_count-before.result < length vs = omega (arith, before, all, one, long) in
+    let below : c.args.there < length vs = omega (arith, before, all, one, long) in
     record {
       given =
           sym c.value_at.ensures.value
-          ∙ slice_get-get_or vs c.seen_count-before.result v below
+          ∙ slice_get-get_or vs c.args.there v below
           ∙ ap (λ n. Some (get_or vs n v)) before
           ∙ sym (spread-some kids k rs vs c.args.place d v within one (omega (arith, long)));
     }
