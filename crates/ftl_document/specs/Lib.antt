@@ -3,4 +3,5 @@ pub mod syntax
 pub mod faults
 pub mod fields
 pub mod nodes
+pub mod pass
 pub mod reading

@@ -7,6 +7,7 @@
 //! - `faults`: the first fault of a document, and the tree that it means
 //! - `fields`: what the names of one node stand for
 //! - `nodes`: `document_nodes`: the nodes of a document, by one walk
+//! - `pass`: the nodes of a document by one pass over the bytes of its text, where it is good
 //! - `reading`: `read_document`: the tree of a document, or its first fault; `tree_of_written`: the
 //!   same of a document that is written, without a text
 #![tactic(auto)]
@@ -14,12 +15,14 @@
 pub mod faults;
 pub mod fields;
 pub mod nodes;
+pub mod pass;
 pub mod plain;
 pub mod reading;
 pub mod syntax;
 
 pub use faults::{DocFault, faultless_documents_are_trees, trees_are_written};
 pub use nodes::document_nodes;
+pub use pass::passed_nodes;
 pub use plain::rows_of_text;
 pub use reading::{read_document, read_plain_document, tree_of_written};
 pub use syntax::{WrittenDocument, WrittenRow, read_written_document};

@@ -5,13 +5,16 @@
 //! the counts are printed, `set` for inputs that are set to other numbers, which lines behind `==`
 //! name by node, field and number; of their tree only the text is printed; `bare` for the tree with
 //! the same rows and every input 0; `instances` for a line for each node with its first instance,
-//! and each child's kids with theirs; and `relaid` for which instances edits touch, and how often
+//! and each child's kids with theirs; `changed` for whether trees are read alike from bytes and
+//! from tokens where characters are changed, and `sample` for whether one pass takes the document of
+//! a sample (`src/documents/changed.rt`); and `relaid` for which instances edits touch, and how often
 //! code is run for them (`src/documents/relaid.rt`).
 
 ghost use Rattle.std.specs.Prelude.{◌≡◌};
 ghost use Rattle.ftl_base.specs.Widths.{greatest_of_width};
 ghost use Rattle.ftl_tokens.specs.scanner.Tokenized.{IsGreatestNumber};
 
+mod changed;
 mod edits;
 mod instances;
 mod nodes;
@@ -19,6 +22,7 @@ mod relaid;
 mod values;
 pub(crate) mod way;
 
+use changed::{write_changed, write_sample};
 use edits::set_inputs;
 use ftl_answer::{write_document_fault, write_token_fault};
 use ftl_base::Width;
@@ -51,6 +55,8 @@ pub(crate) fn write_document(
             write_one(alloc, out, way, checked, document, edits)
         }
         Way::Cut => write_fronts(alloc, out, checked, document.trim()),
+        Way::Changed => write_changed(alloc, out, checked, document.trim()),
+        Way::Sample => write_sample(alloc, out, checked, document.trim()),
         Way::Built => {
             let document = built(alloc, document)?;
             write_one(alloc, out, way, checked, document.as_str(), "")
@@ -122,7 +128,9 @@ fn write_tree(
     requires grammar { tree.old.checked ≡ checked.now }
 {
     match way {
-        Way::Plain | Way::Wide | Way::Cut => write_nodes(alloc, out, tree, scanned),
+        Way::Plain | Way::Wide | Way::Cut | Way::Changed | Way::Sample => {
+            write_nodes(alloc, out, tree, scanned)
+        }
         Way::Built => write_counts(out, tree),
         Way::Bare => write_bare(alloc, out, tree),
         Way::Instances => write_instances(out, tree),
@@ -160,7 +168,7 @@ pub(crate) fn write_line(out: &mut String, line: &[u8]) -> Result<(), AllocError
 }
 
 /// The greatest number of a width.
-fn greatest_number(width: Width) -> u64
+pub(crate) fn greatest_number(width: Width) -> u64
     ensures greatest { result ≡ greatest_of_width width }
     ensures known { IsGreatestNumber result }
 {

@@ -31,7 +31,7 @@ module _ (g : Grammar) (lawful : grammars.first_fault g ≡ None) (greatest : �
   abbrev AreFine : List StandingNode → Type 0
   AreFine = AllByRecursion (λ x. (n : ℕ) → node_fault g (n, x) ≡ None)
 
-  none_first : (n : ℕ) (xs : List StandingNode) → AreFine xs → first_there (map (node_fault g) (numbered n xs)) ≡ None
+  pub none_first : (n : ℕ) (xs : List StandingNode) → AreFine xs → first_there (map (node_fault g) (numbered n xs)) ≡ None
   none_first n [] fine = refl
   none_first n (x ∷ xs) fine =
       there_none (node_fault g (n, x)) (map (node_fault g) (numbered (suc n) xs)) (fine.0 n) (none_first (suc n) xs fine.1)

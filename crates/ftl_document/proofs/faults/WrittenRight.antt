@@ -171,7 +171,7 @@ module _ (g : Grammar) (lawful : grammars.first_fault g ≡ None) (k : ℕ) (kno
   inputs_named [] = refl
   inputs_named (name ∷ names) = ap (λ ns. name ∷ ns) (inputs_named names)
 
-  input_heads : (names : List NameText) (numbers : List ℤ) (later : WrittenFields) → length names ≡ length numbers
+  pub input_heads : (names : List NameText) (numbers : List ℤ) (later : WrittenFields) → length names ≡ length numbers
       → field_heads (input_fields names numbers later) ≡ map input_head names ++ field_heads later
   input_heads [] numbers later same = refl
   input_heads (name ∷ names) [] later same = absurd (let z : ⊥ = omega (arith, same) in z)

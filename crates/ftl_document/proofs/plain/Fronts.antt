@@ -166,6 +166,13 @@ word_within (b ∷ bs) word = omega (arith, prefix_len-le-length (byte_goes_on W
 pub mark_first : (b : ℕ) (bs : List ℕ) (kind : Kind) → plain_mark b bs ≡ Some kind → b < 128
 mark_first b bs kind mark = (mark_token b bs kind mark).at.ascii
 
+-- a gap of a text is that of its bytes
+pub same_of_bytes : (text bytes : List ℕ) (n : ℕ) → bytes ≡ text
+    → ((greatest : ℕ) → plain_tokens greatest bytes ≡ plain_tokens greatest (drop n bytes))
+    → (greatest : ℕ) → plain_tokens greatest text ≡ plain_tokens greatest (drop n text)
+same_of_bytes text bytes n is same greatest =
+    subst (λ (l : List ℕ). plain_tokens greatest l ≡ plain_tokens greatest (drop n l)) is (same greatest)
+
 -- behind a gap
 pub found_behind : (greatest : ℕ) (text rest : List ℕ) (n : ℕ) (found : Found) → rest ≡ drop n text
     → plain_tokens greatest text ≡ plain_tokens greatest (drop n text) → IsFoundIn greatest rest found

@@ -36,7 +36,7 @@ unfolding last_or
 last_or-push s [] t = refl
 last_or-push s (u ∷ ts) t = last_or-push u ts t
 
-document_goes_on : (ts : Tokens) (x : WrittenNode) → SpellsNode ts x → GoesOn ts
+pub document_goes_on : (ts : Tokens) (x : WrittenNode) → SpellsNode ts x → GoesOn ts
 unfolding last_or
 document_goes_on ts x (node_of {class = class} {a = a} s) = record { no_stop = by }
   where

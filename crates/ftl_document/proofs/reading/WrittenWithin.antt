@@ -1,5 +1,5 @@
 -- Where the numbers of the rows are within a width, so are those of the document.
-use Rattle.std.proofs.Common.{◌≡◌, ℕ, List, ◌∷◌, ◌++◌, length, take, drop, refl, sym, ap}
+use Rattle.std.proofs.Common.{ℕ, List, ◌∷◌, ◌++◌, length, take, drop, refl, sym, ap}
 use Rattle.std.specs.List.{All}
 use Rattle.std.proofs.lemmas.List.{take_at, drop_at}
 use Rattle.std.proofs.lemmas.List.Elements.{All-head, All-tail, All-same, All-take, All-drop}

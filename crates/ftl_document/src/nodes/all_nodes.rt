@@ -19,7 +19,7 @@ use ftl_tree::NodeRow;
 use std::alloc::Global;
 
 /// How many attributes all nodes may have.
-const MOST_INSTANCES: u64 = 33_554_432;
+pub(crate) const MOST_INSTANCES: u64 = 33_554_432;
 
 /// The rows of the tree that a document means, in preorder, and the inputs of its nodes, node by
 /// node in the order of their classes.

@@ -12,4 +12,6 @@ mod progress;
 mod stack;
 mod walk;
 
+pub(crate) use all_nodes::MOST_INSTANCES;
 pub use all_nodes::{DocumentNodes, document_nodes};
+pub(crate) use class_tables::{ClassTable, class_tables};

@@ -12,5 +12,10 @@ mod runs;
 mod text_input;
 mod words;
 
+pub(crate) use bytes::{begins_word, goes_on_word, is_digit};
+pub(crate) use gaps::gap_length;
+pub(crate) use next::plain_mark;
 pub use read::rows_of_text;
+pub(crate) use runs::word_length;
 pub(crate) use text_input::TextInput;
+pub(crate) use words::is_name;

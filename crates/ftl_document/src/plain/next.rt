@@ -112,7 +112,7 @@ fn equals_before(after: &[u8]) -> Option<Kind>
 
 /// The mark of documents that begins with this byte, before the others.
 #[inline(always)]
-fn plain_mark(byte: u8, after: &[u8]) -> Option<Kind>
+pub(crate) fn plain_mark(byte: u8, after: &[u8]) -> Option<Kind>
     ensures mark { result ≡ plain_mark byte after.now }
 {
     match byte {
@@ -151,7 +151,7 @@ pub(crate) fn found_in<'a>(text: &'a str, greatest: u64) -> Found<'a>
     requires limit { greatest ≤ 140737488355327 }
     ensures found { IsFoundIn greatest text.now result }
 {
-    let rest = &text[gap_length(text)..];
+    let rest = &text[gap_length(text.as_bytes())..];
     if rest.is_empty() {
         return Found {
             next: Next::End,

@@ -7,6 +7,7 @@ ghost use Rattle.ftl_document.specs.reading.OfText.{AreNodesOfText, IsTreeOfText
 
 use crate::faults::DocFault;
 use crate::nodes::{DocumentNodes, document_nodes};
+use crate::pass::passed_nodes;
 use crate::plain::rows_of_text;
 use ftl_checked::Checked;
 use ftl_tree::Tree;
@@ -24,11 +25,28 @@ pub fn read_plain_document<'a>(
     requires width { greatest ≡ greatest_of_width checked.now.width }
     ensures tree { IfOk result (λ found. IfSome found (IsTreeOfText checked.now text.now)) }
 {
-    let Some(DocumentNodes { rows, inputs }) = plain_nodes(alloc, checked, text, greatest)? else {
+    let Some(DocumentNodes { rows, inputs }) = text_nodes(alloc, checked, text, greatest)? else {
         return Ok(None);
     };
     let tree = Tree::from_nodes(alloc, checked, rows, inputs)?;
     Ok(Some(tree))
+}
+
+/// The nodes of the tree, by one pass where that takes the text.
+fn text_nodes(
+    alloc: Global,
+    checked: &Checked,
+    text: &str,
+    greatest: u64,
+) -> Result<Option<DocumentNodes>, AllocError>
+    requires short { length text.now ≤ most_page_bytes }
+    requires width { greatest ≡ greatest_of_width checked.now.width }
+    ensures nodes { IfOk result (λ found. IfSome found (AreNodesOfText checked.now text.now)) }
+{
+    match passed_nodes(alloc, checked, text, greatest)? {
+        Some(nodes) => Ok(Some(nodes)),
+        None => plain_nodes(alloc, checked, text, greatest),
+    }
 }
 
 /// The nodes of the tree. What is written is given back before the tree is made.

@@ -22,6 +22,6 @@ pub(crate) use input::DocumentInput;
 pub use laws::{one_answer, one_place, one_written_document};
 pub use name_ref::NameRef;
 pub use read::read_written_document;
-pub(crate) use read::{MOST_NODES, document};
+pub(crate) use read::{DEEPEST, MOST_NODES, document};
 pub use row::WrittenRow;
 pub use worked::worked_document;

@@ -19,7 +19,7 @@ const OPENING: [Kind; 1] = [Kind::LeftBrace];
 const CLOSING: [Kind; 1] = [Kind::RightBrace];
 
 /// How many braces may be open at once.
-const DEEPEST: usize = 512;
+pub(crate) const DEEPEST: usize = 512;
 
 /// How many nodes a document may have.
 pub(crate) const MOST_NODES: u32 = 1_048_576;

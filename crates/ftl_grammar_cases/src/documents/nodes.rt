@@ -4,6 +4,7 @@ ghost use Rattle.std.specs.Prelude.{◌≡◌, ◌<◌, IfOk};
 ghost use Rattle.ftl_model.specs.layout.Tree.{size};
 ghost use Rattle.ftl_tree.specs.rows.Rows.{rows_of};
 
+use crate::documents::changed::is_passed;
 use ftl_document::{document_nodes, read_written_document};
 use ftl_document_printing::print_document;
 use ftl_tokens::WideScanned;
@@ -45,11 +46,15 @@ fn write_inputs_of(
     Ok(())
 }
 
-/// The tree's canonical text.
+/// The tree's canonical text, and where one pass doesn't take it, a line that says so.
 pub(crate) fn write_text(alloc: Global, out: &mut String, tree: &Tree) -> Result<(), AllocError> {
     out.push_str("text ")?;
     let text = print_document(alloc, tree)?;
-    out.push_str(text.as_str())
+    out.push_str(text.as_str())?;
+    if is_passed(alloc, tree.checked(), text.as_str())? {
+        return Ok(());
+    }
+    out.push_str("not by one pass\n")
 }
 
 /// A line for each node of the tree that has the rows of this one and every input 0, and its text.

@@ -20,6 +20,11 @@ pub(crate) enum Way {
     Bare,
     /// As it stands; of its tree the first instances of all nodes and of their kids are printed.
     Instances,
+    /// With each of its characters changed; printed are those whose tree is read otherwise from bytes
+    /// than from tokens, and whether one pass takes the document as it stands.
+    Changed,
+    /// That of a sample, whose grammar and pieces are told; printed is whether one pass takes it.
+    Sample,
     /// With edits and a bound; printed are the instances that the edits touch, and whether code was
     /// run no more often than the bound says.
     Relaid,
@@ -39,6 +44,10 @@ pub(crate) fn way_of(word: &str) -> Way {
         Way::Bare
     } else if word == "instances" {
         Way::Instances
+    } else if word == "changed" {
+        Way::Changed
+    } else if word == "sample" {
+        Way::Sample
     } else if word == "relaid" {
         Way::Relaid
     } else {

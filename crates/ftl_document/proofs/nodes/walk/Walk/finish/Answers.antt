@@ -1,4 +1,4 @@
-use Rattle.std.proofs.Common.{◌≡◌, ◌++◌, ◌∷◌, [], ◌∙◌, refl, sym, ap, drop, arith, length, List, Option, Some, None}
+use Rattle.std.proofs.Common.{◌≡◌, ◌++◌, [], ◌∙◌, refl, sym, ap, drop, arith, List, Option, Some, None}
 use Rattle.std.specs.Prelude.{IsNone}
 use Rattle.std.specs.Option.{option_to_list}
 use Rattle.ftl_document.specs.declared.nodes.stack.Region.{Region}

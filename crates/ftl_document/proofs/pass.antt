@@ -1,0 +1,5 @@
+pub mod Starts
+pub mod Meaning
+pub mod Document
+pub mod Fields
+pub mod Steps
