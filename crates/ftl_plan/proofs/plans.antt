@@ -2,7 +2,12 @@ pub mod Bridge
 mod FewPasses
 mod HostNumbers
 mod KeptKinds
+mod Leaving
+mod Marking
 pub mod Driven
+mod Formed
+mod Folded
+mod FoldedKids
 pub mod Inputs
 pub mod RowsByStage
 pub mod StagesOfPlans

@@ -1,3 +1,4 @@
 pub mod cells
 pub mod neighbours
 pub mod value
+pub mod forms

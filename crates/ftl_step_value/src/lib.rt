@@ -5,13 +5,21 @@
 //! - `cells`: `target_cell`, `read_count`, `StepReads`: the cells of a step
 //! - `neighbours`: the cells of a step, found quickly where all are of the node, the kid at hand
 //!   and the kid before
+//! - `forms`: `form_of`: how a step computes, where a few cells of neighbours are all that it needs
 //! - `value`: `step_value`: the value of a step; `copied_cell`: which cell it copies
 #![tactic(auto)]
 
 pub mod cells;
+pub mod forms;
 pub mod neighbours;
 pub mod value;
 
 pub use cells::{StepReads, read_at, read_count, target_cell};
-pub use neighbours::{NeighbourCells, NeighbourParts, neighbour_parts};
+pub use forms::{
+    FoldForm, FoldStep, FormStep, FoundFold, Operator, RuleForm, StepForm, fold_of, form_of,
+    operated, rule_forms,
+};
+pub use neighbours::{
+    NeighbourCells, NeighbourParts, NeighbourRead, NeighbourSite, neighbour_parts,
+};
 pub use value::{RuleCopy, copied_cell, rule_copies, step_value};

@@ -1,10 +1,11 @@
 -- What a work answers is what it means.
-use Rattle.std.proofs.Common.{◌≡◌, ℕ, ◌<◌, ◌≤◌, true, false, ltb, ltb-true, ltb-false, refl, sym, ◌∙◌, ap, subst, arith, List, [], ◌∷◌, get_or, length, map}
+use Rattle.std.proofs.Common.{◌≡◌, ℕ, ◌<◌, ◌≤◌, true, false, ltb, ltb-true, ltb-false, refl, sym, ◌∙◌, ap, subst, arith, List, get_or, length, map}
 use Rattle.std.proofs.lemmas.List.{ext_get_or, get_or-map, get_or_past, length-map}
 use Rattle.std.proofs.lemmas.List.Elements.{Contains-get_or}
 use Rattle.std.proofs.lemmas.List.FromFn.{get_or-map-range_with_len, length-map-range_with_len}
 use Rattle.std.proofs.lemmas.Simd.{map-map}
 use mathlib.Core.Path.{fun_ext}
+use Rattle.ftl_base.specs.Widths.{greatest_of_width}
 use Rattle.ftl_cells.specs.shared.Shape.{HasStep, WorkShape, listed, listing}
 use Rattle.ftl_cells.specs.shared.Work.{Meaning, IsStepOfItem, cell_total, item_total, kind_at, next_at, next_total, pred_total, read_total, reads_of_step, solution_at, step_total, target_of as cell_of}
 use Rattle.ftl_cells.proofs.shared.Shapes.{cell_total-listed, has_step, item_below, item_total-listed, kind_at-listed, next_at-listed, next_total-listed, pred_total-listed, read_total-listed, reads_of_step-listed, solution_at-listed, step_total-listed, target_of-listed}
@@ -23,18 +24,24 @@ use Rattle.ftl_items.specs.stage_items.StageWork.{form_items, form_reads_at, kin
 use Rattle.ftl_model.specs.layout.AttributeGrammar.{AttributeGrammar}
 use Rattle.ftl_model.specs.layout.Table.{SolvesList, instance_count, instance_number, instances, value_in}
 use Rattle.ftl_model.specs.layout.Tree.{Forest}
-use Rattle.ftl_model.specs.layout.Values.{overflow}
+use Rattle.ftl_model.specs.layout.Values.{Value, overflow}
 use Rattle.ftl_order.specs.orders.Reads.{reads_of}
 use Rattle.ftl_items.specs.solution.Solution.{solution}
 use Rattle.ftl_step_value.specs.cells.ReadCells.{filled_cell, read_cells}
 use Rattle.ftl_step_value.proofs.cells.StepRules.{target_there}
 use Rattle.ftl_step_value.specs.neighbours.NeighbourParts.{AreNeighbourParts}
-use Rattle.ftl_step_value.specs.value.RuleCopies.{AreCopies}
-use Rattle.ftl_step_value.specs.value.StepValue.{GivesItsRead, value_of_step}
+use Rattle.ftl_step_value.specs.declared.forms.found.FormStep.{FormStep}
+use Rattle.ftl_step_value.specs.declared.forms.found_fold.FoundFold.{FoundFold}
+use Rattle.ftl_step_value.specs.forms.FoldForms.{folded}
+use Rattle.ftl_step_value.specs.forms.FoundFolds.{IsFoldOf}
+use Rattle.ftl_step_value.specs.forms.FoundForms.{IsFormOf}
+use Rattle.ftl_step_value.specs.forms.RuleForms.{AreForms}
+use Rattle.ftl_step_value.specs.forms.StepForms.{form_value}
+use Rattle.ftl_step_value.specs.value.StepValue.{value_of_step}
 use Rattle.ftl_order.specs.steps.Steps.{IsStepOf, target_of}
 use Rattle.ftl_order.specs.declared.steps.step.Step.{Step}
 use Rattle.ftl_tree.specs.trees.CheckedTree.{CheckedTree}
-use Rattle.ftl_plan.specs.plans.StageParts.{IsStage, IsStepAt, StageView, count_of, forms_of, grain_of, grammar_of, meaning_at, meaning_of, schedule_of, steps_of, tree_of}
+use Rattle.ftl_plan.specs.plans.StageParts.{IsStage, IsStepAt, StageView, checked_tree_of, count_of, forms_of, grain_of, grammar_of, meaning_at, meaning_of, schedule_of, steps_of, tree_of}
 use Rattle.ftl_plan.specs.declared.plans.parts.StageParts.{StageParts}
 
 -- a function of the entries of a list
@@ -97,8 +104,8 @@ module _ (w : StageParts) (fit : IsStage w) where
     tables_there =
         subst (λ (v : CheckedTree). AreTables (meant v.checked) w.read_tables.now) (sym same) fit.tables_are
 
-    pub copies_there : AreCopies u.checked w.copies.now
-    copies_there = subst (λ (v : CheckedTree). AreCopies v.checked w.copies.now) (sym same) fit.copies
+    pub forms_there : AreForms u.checked w.forms.now
+    forms_there = subst (λ (v : CheckedTree). AreForms v.checked w.forms.now) (sym same) fit.forms
 
     pub neighbours_there : AreNeighbourParts u.checked w.neighbours.now
     neighbours_there = subst (λ (v : CheckedTree). AreNeighbourParts v.checked w.neighbours.now) (sym same) fit.neighbours
@@ -249,11 +256,18 @@ module _ (w : StageParts) (fit : IsStage w) where
         sym (solves.solves (target_of g t x) (target_there g fit.sound.law t fit.can.is_tree x is))
         ∙ sym (solution_is solves (filled_cell g t x))
 
-    -- a step that gives the one value that it reads copies a cell
-    pub copied_is : (cell : ℕ) → read_cells g t x ≡ cell ∷ [] → GivesItsRead g t x
-        → solution_at m cell ≡ solution_at m (filled_cell g t x)
-    copied_is cell one gives =
-        sym
-        (gives (value_in g t (solution g t)) (solution_at m cell)
-        (sym values_are ∙ ap (map (solution_at m)) one))
-        ∙ value_is
+    -- what the form of the step computes from the solution's values is the solution's value
+    pub formed_is : (f : FormStep) → IsFormOf (checked_tree_of w) x f → (vs : List Value)
+        → vs ≡ map (solution_at m) (read_cells g t x)
+        → form_value (greatest_of_width (checked_tree_of w).checked.width) f.form vs
+        ≡ solution_at m (filled_cell g t x)
+    formed_is f form vs are =
+        sym (form.value (value_in g t (solution g t)) vs (sym (are ∙ values_are))) ∙ value_is
+
+    -- so is what a fold makes of them
+    pub folded_is : (f : FoundFold) → IsFoldOf (checked_tree_of w) x f → (vs : List Value)
+        → vs ≡ map (solution_at m) (read_cells g t x)
+        → folded (greatest_of_width (checked_tree_of w).checked.width) f.form.step f.form.start vs
+        ≡ solution_at m (filled_cell g t x)
+    folded_is f fold vs are =
+        sym (fold.value (value_in g t (solution g t)) vs (sym (are ∙ values_are))) ∙ value_is

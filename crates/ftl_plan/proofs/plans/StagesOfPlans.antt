@@ -33,7 +33,7 @@ use Rattle.ftl_plan.specs.declared.plans.kept.PlanStage.{PlanStage}
 use Rattle.ftl_plan.specs.declared.plans.parts.StageParts.{StageParts}
 use Rattle.ftl_plan.specs.laws.StageMeanings.{CanBePlanned}
 use Rattle.ftl_step_value.specs.neighbours.NeighbourParts.{AreNeighbourParts}
-use Rattle.ftl_step_value.specs.value.RuleCopies.{AreCopies}
+use Rattle.ftl_step_value.specs.forms.RuleForms.{AreForms}
 use Rattle.ftl_step_value.specs.value.StepValue.{IsCodeFor}
 use Rattle.ftl_schedule.specs.stages.Stages.{pass_of}
 use Rattle.ftl_schedule.specs.declared.stages.types.Pass.{Pass}
@@ -216,9 +216,9 @@ module _ (p : Inside) (is : IsPlan p) where
   -- parts that are made of the fields are a stage
   pub stage_fits : (w : StageParts) → AreTablesOf (plan_inside p) w.stage w.item_tables
       → w.accepted.now.schedule ≡ p.accepted.now.schedule → w.programs.now ≡ p.programs.now → w.read_tables.now ≡ p.tables
-      → w.copies.now ≡ p.copies.items → w.neighbours.now ≡ p.neighbours.items
+      → w.neighbours.now ≡ p.neighbours.items → w.forms.now ≡ p.forms.items
       → CanBePlanned (meant p.checked.now) (nests_of p.accepted.now.schedule) p.tree.now.tree → IsStage w
-  stage_fits w at accepted programs tables copies neighbours can =
+  stage_fits w at accepted programs tables neighbours forms can =
       let back : p.checked.now ≡ w.item_tables.own.items.rows.now.tree.now.checked = sym at.checked in
       record {
         sound = subst (λ (c : CheckedGrammar). IsSound (meant c)) back is.sound;
@@ -236,17 +236,17 @@ module _ (p : Inside) (is : IsPlan p) where
             (subst (IsCodeFor p.checked.now) (sym programs) (record {
               rules = is.may.rules;
               width = is.may.width;
-              compilable = is.copies.compilable;
+              compilable = is.forms.compilable;
             }));
         passes =
             subst (λ (s : NestingSchedule). AreOfStage w.item_tables (nests_of s) w.stage) (sym accepted) at.passes;
         items = at.tables;
-        copies =
-            subst (λ (c : CheckedGrammar). AreCopies c w.copies.now) back
-            (subst (AreCopies p.checked.now) (sym copies) is.copies);
         neighbours =
             subst (λ (c : CheckedGrammar). AreNeighbourParts c w.neighbours.now) back
             (subst (AreNeighbourParts p.checked.now) (sym neighbours) is.neighbours);
+        forms =
+            subst (λ (c : CheckedGrammar). AreForms c w.forms.now) back
+            (subst (AreForms p.checked.now) (sym forms) is.forms);
       }
 
   -- and are known by what the plan means

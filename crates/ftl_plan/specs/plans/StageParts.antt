@@ -17,9 +17,10 @@ use Rattle.ftl_model.specs.layout.Solves.{Instance}
 use Rattle.ftl_model.specs.layout.Tree.{Forest}
 use Rattle.ftl_step_value.specs.neighbours.NeighbourParts.{AreNeighbourParts}
 use Rattle.ftl_plan.specs.laws.StageMeanings.{CanBePlanned, stage_meaning}
-use Rattle.ftl_step_value.specs.value.RuleCopies.{AreCopies}
+use Rattle.ftl_step_value.specs.forms.RuleForms.{AreForms}
 use Rattle.ftl_step_value.specs.value.StepValue.{IsCodeFor}
 use Rattle.ftl_order.specs.steps.Steps.{IsStepOf, target_of}
+use Rattle.ftl_tree.specs.trees.CheckedTree.{CheckedTree}
 use Rattle.ftl_order.specs.declared.steps.step.Step.{Step}
 use Rattle.ftl_plan.specs.declared.plans.parts.StageParts.{StageParts}
 
@@ -31,6 +32,10 @@ grammar_of w = grammar_in w.item_tables.own
 abbrev pub tree_of : StageParts → Forest
 tree_of w = forest_in w.item_tables.own
 
+-- the tree of the checked grammar
+abbrev pub checked_tree_of : StageParts → CheckedTree
+checked_tree_of w = w.item_tables.own.items.rows.now.tree.now
+
 -- the schedule
 abbrev pub schedule_of : StageParts → nests.NestingSchedule
 schedule_of w = nests_of w.accepted.now.schedule
@@ -39,7 +44,7 @@ schedule_of w = nests_of w.accepted.now.schedule
 abbrev pub grain_of : StageParts → ℕ
 grain_of w = w.item_tables.own.items.rows.now.grain
 
--- all is of one plan: the tables are the grammar's, code, copies and reads of neighbours those of its rules, and the
+-- all is of one plan: the tables are the grammar's, code, reads of neighbours and forms those of its rules, and the
 -- items those of this stage
 pub record IsStage (w : StageParts) : Type 0 where
   pub sound : IsSound (grammar_of w)
@@ -48,8 +53,8 @@ pub record IsStage (w : StageParts) : Type 0 where
   pub code : IsCodeFor w.item_tables.own.items.rows.now.tree.now.checked w.programs.now
   pub passes : AreOfStage w.item_tables (schedule_of w) w.stage
   pub items : AreNestTables w.item_tables
-  pub copies : AreCopies w.item_tables.own.items.rows.now.tree.now.checked w.copies.now
   pub neighbours : AreNeighbourParts w.item_tables.own.items.rows.now.tree.now.checked w.neighbours.now
+  pub forms : AreForms w.item_tables.own.items.rows.now.tree.now.checked w.forms.now
 
 -- ---- what it means
 

@@ -9,7 +9,10 @@
 //! `proofs/plans/Shared.antt` shows.
 
 mod alone;
+mod filled;
 mod fitting;
+mod folding;
+mod forming;
 mod hosts;
 mod items;
 mod kept;

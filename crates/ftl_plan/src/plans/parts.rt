@@ -11,7 +11,7 @@ use ftl_host_cursors::{NestCursor, NestTables, item_steps, step_at};
 use ftl_limits::ReadTables;
 use ftl_nest_check::AcceptedNests;
 use ftl_order::Step;
-use ftl_step_value::{NeighbourParts, RuleCopy};
+use ftl_step_value::{NeighbourParts, RuleForm};
 use ftl_tree::Tree;
 use ftl_visit::Programs;
 
@@ -22,8 +22,8 @@ pub struct StageParts<'a> {
     pub programs: &'a Programs,
     pub read_tables: &'a ReadTables,
     pub item_tables: NestTables<'a>,
-    pub copies: &'a [RuleCopy],
     pub neighbours: &'a [NeighbourParts],
+    pub forms: &'a [RuleForm],
     pub stage: u32,
 }
 

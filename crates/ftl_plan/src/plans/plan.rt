@@ -7,10 +7,12 @@ ghost use Rattle.ftl_model.specs.layout.Table.{instance_count};
 ghost use Rattle.ftl_model.specs.layout.Tree.{size};
 ghost use Rattle.ftl_plan.specs.laws.StageMeanings.{CanBePlanned};
 ghost use Rattle.ftl_nest_check.specs.stages.Nested.{nests_of};
+ghost use Rattle.ftl_plan.specs.plans.FilledStages.{TellFilling};
 ghost use Rattle.ftl_plan.specs.plans.Planned.{MayBePlanned, planned};
 ghost use Rattle.ftl_plan.specs.plans.StageTables.{AreTablesOf, stage_in};
 ghost use Rattle.ftl_limits.specs.declared.faults.fault.PlanFault.TheVariants.{OutOfMemory};
 
+use crate::plans::filled::marks_for_nodes;
 use crate::plans::hosts::nest_hosts;
 use crate::plans::kept::PlanStage;
 use crate::plans::parts::StageParts;
@@ -22,15 +24,15 @@ use ftl_cursors::{ItemTables, StageItems, TreeRows};
 use ftl_host_cursors::NestTables;
 use ftl_limits::{PlanFault, ReadTables, first_fault, is_sound};
 use ftl_nest_check::AcceptedNests;
-use ftl_step_value::{NeighbourParts, RuleCopy, neighbour_parts, rule_copies};
+use ftl_step_value::{NeighbourParts, RuleForm, neighbour_parts, rule_forms};
 use ftl_tree::Tree;
 use ftl_visit::{Programs, RuleTarget, rule_targets};
 use std::alloc::{AllocError, Global};
 use std::marker::Model;
 
 /// The stages of a tree. It borrows what it is made of, and keeps no list of steps: for each class
-/// and pass what a visit does, for each rule what its steps copy and read, and for each node and host
-/// class where items begin.
+/// and pass what a visit does, for each rule what its steps read and how they compute, and for each
+/// node and host class where items begin.
 #[derive(Drop)]
 pub struct Plan<'a> {
     checked: &'a Checked,
@@ -40,8 +42,8 @@ pub struct Plan<'a> {
     tables: ReadTables,
     items: TreeRows<'a>,
     targets: Vec<RuleTarget>,
-    copies: Vec<RuleCopy>,
     neighbours: Vec<NeighbourParts>,
+    forms: Vec<RuleForm>,
     stages: Vec<PlanStage>,
 }
 
@@ -100,8 +102,8 @@ impl<'a> Plan<'a> {
         let hosts = nest_hosts(alloc, all)?;
         let items = TreeRows::new(alloc, tree, grain, hosts.as_slice())?;
         let targets = rule_targets(alloc, checked)?;
-        let copies = rule_copies(alloc, programs, &tables, checked)?;
         let neighbours = neighbour_parts(alloc, &tables, checked)?;
+        let forms = rule_forms(alloc, programs, &tables, &neighbours, checked)?;
         let stages = kept_stages(alloc, checked, &items, all)?;
         Ok(Plan {
             checked,
@@ -111,8 +113,8 @@ impl<'a> Plan<'a> {
             tables,
             items,
             targets,
-            copies,
             neighbours,
+            forms,
             stages,
         })
     }
@@ -148,15 +150,15 @@ impl<'a> Plan<'a> {
         ensures stage { result ≡ stage_in self.now stage }
     {
         let _stages = self.stage_count();
-        let copies = self.copies.as_slice();
         let neighbours = self.neighbours.as_slice();
+        let forms = self.forms.as_slice();
         StageWork::new(StageParts {
             accepted: self.accepted,
             programs: self.programs,
             read_tables: &self.tables,
             item_tables: self.nest_tables(stage),
-            copies,
             neighbours,
+            forms,
             stage,
         })
     }
@@ -190,5 +192,14 @@ impl<'a> Plan<'a> {
             ≡ first_words (meant self.now.checked) self.now.tree) }
     {
         first_words(alloc, &self.tables, self.tree)
+    }
+
+    /// Whether each outer stage may fill a cell. One in which no attribute of a node stands, as where
+    /// its lists are empty or have attributes of classes that the tree hasn't, is told not to.
+    pub fn filling_stages(&self, alloc: Global) -> Result<Vec<bool>, AllocError>
+        ensures told { IfOk result (λ v. TellFilling self.now v.items) }
+    {
+        let count = self.stage_count() as usize;
+        marks_for_nodes(alloc, self.accepted, &self.tables, self.tree, count)
     }
 }

@@ -45,7 +45,7 @@ pub record AreKids (t : CheckedTree) (node k : ℕ) (child : Option ℕ) (later 
       (c : ℕ) → child ≡ Some c → later ≡ true → before ≡ number_of t.tree (down c (k - 1) (node_at t.tree node))
 
 module _ (t : CheckedTree) (fits : IsTreeOf (meant t.checked) t.tree) (node : ℕ) (known : node < size t.tree) where
-  kid_cell : (number c j a : ℕ) → number ≡ number_of t.tree (down c j (node_at t.tree node)) → IsSeen t node (kid c j a)
+  pub kid_cell : (number c j a : ℕ) → number ≡ number_of t.tree (down c j (node_at t.tree node)) → IsSeen t node (kid c j a)
       → IsCell t node number a (kid c j a)
   kid_cell number c j a is seen =
       let there = kid_there (meant t.checked) t.tree fits node c j known seen.0 in

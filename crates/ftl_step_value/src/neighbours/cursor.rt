@@ -134,7 +134,13 @@ impl<'a> NeighbourCells<'a> {
 
 /// The cell of a read, where these are the neighbours.
 #[inline(always)]
-fn neighbour_cell(tree: &Tree<'_>, own: u32, kid: u32, before: u32, read: NeighbourRead) -> u32
+pub(crate) fn neighbour_cell(
+    tree: &Tree<'_>,
+    own: u32,
+    kid: u32,
+    before: u32,
+    read: NeighbourRead,
+) -> u32
     requires neighbours { IsNeighbour tree.now own kid before read }
     ensures cell { result ≡ neighbour_cell tree.now own kid before read }
 {

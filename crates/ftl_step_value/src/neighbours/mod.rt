@@ -11,6 +11,7 @@ mod parts;
 mod reads;
 
 pub use cursor::NeighbourCells;
+pub(crate) use cursor::neighbour_cell;
 pub use laws::{parts_of_each_form, parts_of_notes};
 pub use parts::{NeighbourParts, neighbour_parts};
 pub use reads::{NeighbourRead, NeighbourSite};

@@ -1,14 +1,14 @@
 -- What each rule reads is that of its parts, which stand at its place.
-use Rattle.std.proofs.Common.{◌≡◌, ◌<◌, ◌++◌, [], ◌∷◌, List, length, map, take, ap, ap₂, arith, subst, sym, ◌∙◌}
+use Rattle.std.proofs.Common.{◌≡◌, ◌<◌, ◌++◌, [], ◌∷◌, List, length, map, take, ap, ap₂, arith, sym, ◌∙◌}
 use Rattle.std.proofs.lemmas.Grind.{common_steps}
 use Rattle.std.proofs.lemmas.List.{map-append}
 use Rattle.ftl_deps.specs.reads.Meant.{meant}
 use Rattle.ftl_deps.specs.reads.Products.{name_of_info}
-use Rattle.ftl_deps.proofs.reads.RuleNumbers.{rules_all, rules_long, rules_more, info_is}
+use Rattle.ftl_deps.proofs.reads.RuleNumbers.{rules_all, rules_more, info_is}
 use Rattle.ftl_meaning.specs.faults.Checked.{all_rules, rule_info_at}
 use Rattle.ftl_meaning.specs.declared.faults.info.RuleInfo.{RuleInfo}
 use Rattle.ftl_step_value.proofs.cells.TableParts.{table_parts}
-use Rattle.ftl_deps.specs.parts.RuleParts.{all_parts, parts_meant, parts_named}
+use Rattle.ftl_deps.specs.parts.RuleParts.{parts_meant, parts_named}
 use Rattle.ftl_deps.specs.declared.parts.rule_parts.RuleParts.TheVariants.{Plain}
 use Rattle.ftl_step_value.specs.neighbours.NeighbourParts.{neighbour_parts_named, neighbour_parts_of}
 use Rattle.ftl_step_value.specs.declared.neighbours.parts.NeighbourParts.{NeighbourParts}

@@ -93,8 +93,8 @@ invariant_of-result c =
       tables = c.in_ok-tables.ensures.tables;
       items = made.tree;
       targets = c.in_ok-targets.ensures.targets;
-      copies = c.in_ok-copies.ensures.copies;
       neighbours = c.in_ok-neighbours.ensures.parts;
+      forms = c.in_ok-forms.ensures.forms;
       stages =
           subst
           (λ (xs : List NestingStage). AreStagesKept (meant c.args.checked.now) c.in_ok-items.items xs

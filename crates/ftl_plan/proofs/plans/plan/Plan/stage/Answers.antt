@@ -14,7 +14,7 @@ new-requires c =
     c.nest_tables.ensures.tables in
     let can = subst (λ (q : PlanMeaning). CanBePlanned (meant q.checked) (nests_of q.schedule) q.tree)
     (sym c.self.view_is) c.stage_count-stages.ensures.plan in
-    record { fit = stage_fits p c.self.invariant _ at refl refl refl c.as_slice-copies.ensures.value c.as_slice-neighbours.ensures.value can }
+    record { fit = stage_fits p c.self.invariant _ at refl refl refl c.as_slice-neighbours.ensures.value c.as_slice-forms.ensures.value can }
 
 pub returns : goal.returns
 returns c =

@@ -1,0 +1,10 @@
+pub mod FormCode
+pub mod FormTable
+pub mod FormSteps
+pub mod FormTargets
+pub mod FormValues
+pub mod FormEntries
+pub mod FormPicks
+pub mod FormFolds
+pub mod FoldValues
+pub mod FoldEntries

@@ -1,0 +1,6 @@
+pub mod StepForms
+pub mod RuleCodes
+pub mod FoldForms
+pub mod RuleForms
+pub mod FoundForms
+pub mod FoundFolds
