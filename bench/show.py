@@ -1,7 +1,8 @@
 #!/usr/bin/env python3
 """Runs the program of ./show: pages typed here with what is to be told of them beside, and the pages of `pages/`, whose
 trees without indentation and without the children's names are to be the boxes that stand in these pages as comments,
-also after they were brought into canonical form.
+also after they were brought into canonical form, and whose values by --all, --node and --why are to be those of the
+boxes and of each other.
 
 usage: bench/show.py [SHOW]     SHOW is the proved program, crates/ftl_show/out/ftl_show, if left out
 """
@@ -91,39 +92,111 @@ class Box : Item { self.w := 10; self.h := 1; }
 %document
 Column { kids = [ """ + "Box { } " * 20000 + "] }\n"
 
-FRAME_FORMATTED = """%page 1
+# Every form of an expression but a sum, with as few spaces as there may be.
+FORMS = """%page 1
 %grammar
-root Window ;
-interface Window {
-syn w ;
-syn h ;
-show w , h ;
+root Screen;
+interface Screen { syn w, b; show w; }
+interface Kid { syn v; show v; }
+class Top : Screen {
+  input a;
+  kids : [Kid];
+  self.w := if![self.a<2||self.b>=3]&&self.a!=7 then(self.a)*self.b/2 else min(self.a,0);
+  self.b := last kids.v or self.a;
 }
-interface Item {
-inh x ;
-inh y ;
-syn w ;
-syn h ;
-show x , y , w , h ;
-}
-class Frame : Window {
-local slack ;
-body : Item ;
-self . slack := 3 ;
-body . x := self . slack ;
-body . y := self . slack ;
-self . w := body . w + 2 * self . slack ;
-self . h := body . h + 2 * self . slack ;
-}
-class Box : Item {
-input bw ;
-input bh ;
-self . w := self . bw ;
-self . h := self . bh ;
-}
+class One : Kid { self.v := 1; }
 %schedule auto
 %document
+Top { a = 4 kids = [ One { } ] }
+"""
+FRAME_FORMATTED = """%page 1
+%grammar
+root Window;
+
+interface Window {
+  syn w;
+  syn h;
+  show w, h;
+}
+
+interface Item {
+  inh x;
+  inh y;
+  syn w;
+  syn h;
+  show x, y, w, h;
+}
+
+class Frame : Window {
+  local slack;
+  body : Item;
+  self.slack := 3;
+  body.x := self.slack;
+  body.y := self.slack;
+  self.w := body.w + 2 * self.slack;
+  self.h := body.h + 2 * self.slack;
+}
+
+class Box : Item {
+  input bw;
+  input bh;
+  self.w := self.bw;
+  self.h := self.bh;
+}
+
+%schedule auto
+
+%document
 Frame { body = Box { bw = 20 bh = 10 } }
+"""
+# Two boxes in a row that no line has room for, with a name as long as a line.
+NAME = "n" * 60
+ROWS = f"""%page 1
+%grammar
+root Window; interface Window {{ syn w; show w; }} interface Item {{ syn {NAME}; }}
+class Row : Window {{ input gap, pad; kids : [Item]; body : Item; self.w := self.gap - self.pad; }}
+class Box : Item {{ input bw; self.{NAME} := if ![self.bw < 2 || self.bw >= 3] then -self.bw else 0; }}
+%schedule
+bottomup {{ Item.{NAME} Window.w }}
+%document
+Row {{ gap = -1 pad = 2 kids = [ Box {{ bw = -20 }} Box {{ bw = 30 }} Box {{ bw = 40 }} Box {{ bw = 50 }} Box {{ bw = 60 }} ]
+body = Box {{ bw = 7 }} }}
+"""
+ROWS_FORMATTED = f"""%page 1
+%grammar
+root Window;
+
+interface Window {{
+  syn w;
+  show w;
+}}
+
+interface Item {{
+  syn {NAME};
+}}
+
+class Row : Window {{
+  input gap;
+  input pad;
+  kids : [Item];
+  body : Item;
+  self.w := self.gap - self.pad;
+}}
+
+class Box : Item {{
+  input bw;
+  self.{NAME} := if ![self.bw < 2 || self.bw >= 3] then - self.bw else 0;
+}}
+
+%schedule
+bottomup {{ Item.{NAME} Window.w }}
+
+%document
+Row {{
+  gap = -1 pad = 2
+  kids = [ Box {{ bw = -20 }} Box {{ bw = 30 }} Box {{ bw = 40 }} Box {{ bw = 50 }} Box {{ bw = 60 }} ]
+  body = Box {{ bw = 7 }}
+}}
 """
 # A grammar that is named, and edits; lines 6 and 7 have these.
 NAMED = """%page 1
@@ -141,14 +214,17 @@ Sheet{body=Column{kids=[Word{ih=10 iw=-20}]}}
 """
 NAMED_FORMATTED = """%page 1
 %grammar stack
-%edits
-2.iw = 7;
-2.ih = -1;
+
 %schedule
 bottomup { Box.w Box.h Page.h } ;
 topdown { Box.x Box.y }
+
 %document
 Sheet { body = Column { kids = [ Word { iw = -20 ih = 10 } ] } }
+
+%edits
+2.iw = 7;
+2.ih = -1;
 """
 STACK = """root Page;
 interface Page { syn h; show h; }
@@ -169,8 +245,12 @@ class Word : Box { input iw, ih;
   self.h := self.ih;
 }
 """
-WANTED = ("show: --box wants four names, as x,y,w,h, --svg and --html one file, and --watch one file with a "
-          "name\n")
+WANTED = ("show: --box wants four names, as x,y,w,h, --why a node and a name, as 2.w, --svg and --html one file, and "
+          "--watch one file with a name\n")
+
+FOLD = """0.w=60  Bar: self.w := fold items from 0 with max(acc, this.x + this.w)
+  1.x=0  Bar: items.x := first 0 then prev.x + prev.w + self.gap
+"""
 
 CASES = [
     # words, files, status, standard output, standard error
@@ -179,29 +259,90 @@ CASES = [
   2 Button items 1 x=40 y=0 w=20 h=18
 """, ""),
     (["--node", "2", "a"], {"a": TOOLBAR}, 0, """2 Button items 1
-  x=40
-  y=0
-  w=20
-  h=18
-  tw=12
-  th=14
+  x=40   Bar: items.x := first 0 then prev.x + prev.w + self.gap
+         read 1.x=0 1.w=38 0.gap=2
+  y=0    Bar: items.y := 0
+  w=20   Button: self.w := self.tw + 8
+         read 2.tw=12
+  h=18   Button: self.h := self.th + 4
+         read 2.th=14
+  tw=12  input
+  th=14  input
+""", ""),
+    (["--node", "0", "a"], {"a": TOOLBAR}, 0, """0 Bar
+  w=60   Bar: self.w := fold items from 0 with max(acc, this.x + this.w)
+         read 1.x=0 1.w=38 2.x=40 2.w=20
+  h=18   Bar: self.h := fold items from 0 with max(acc, this.h)
+         read 1.h=14 2.h=18
+  gap=2  input
+""", ""),
+    (["--node", "0", "a"], {"a": FORMS}, 0, """0 Top
+  w=2  Top: self.w := if ![self.a < 2 || self.b >= 3] && self.a != 7 then (self.a) * self.b / 2 else min(self.a, 0)
+       read 0.a=4 0.b=1 0.a=4 0.a=4 0.b=1 0.a=4
+  b=1  Top: self.b := last kids.v or self.a
+       read 1.v=1 0.a=4
+  a=4  input
 """, ""),
     (["--all", "a"], {"a": FRAME}, 0, """0 Frame w=26 h=16 slack=3
   1 Box body x=3 y=3 w=20 h=10 bw=20 bh=10
 """, ""),
     (["--node", "2", "a"], {"a": FRAME}, 2, "", "show: a: the nodes are 0 to 1\n"),
     (["--node=1", "a"], {"a": OVERFLOW}, 8, """1 Box body
-  x=3
-  y=3
-  w=overflow
-  h=10
-  bw=20
-  bh=10
+  x=3         Frame: body.x := self.slack
+              read 0.slack=3
+  y=3         Frame: body.y := self.slack
+              read 0.slack=3
+  w=overflow  Box: self.w := self.bw * 2147483647
+              read 1.bw=20
+  h=10        Box: self.h := self.bh
+              read 1.bh=10
+  bw=20       input
+  bh=10       input
 """, ""),
     (["--format", "a"], {"a": FRAME}, 0, FRAME_FORMATTED, ""),
     (["--format", "a"], {"a": FRAME_FORMATTED}, 0, FRAME_FORMATTED, ""),
+    (["--format", "a"], {"a": ROWS}, 0, ROWS_FORMATTED, ""),
+    (["--format", "a"], {"a": ROWS_FORMATTED}, 0, ROWS_FORMATTED, ""),
     (["--format", "a"], {"a": NAMED}, 0, NAMED_FORMATTED, ""),
     (["--format", "a"], {"a": NAMED_FORMATTED}, 0, NAMED_FORMATTED, ""),
+    (["--why", "2.x", "a"], {"a": TOOLBAR}, 0, """2.x=40  Bar: items.x := first 0 then prev.x + prev.w + self.gap
+  1.x=0  Bar: items.x := first 0 then prev.x + prev.w + self.gap
+  1.w=38  Button: self.w := self.tw + 8
+    1.tw=30  input
+  0.gap=2  input
+""", ""),
+    (["--why", "0.w", "a"], {"a": TOOLBAR}, 0, FOLD + """  1.w=38  Button: self.w := self.tw + 8
+    1.tw=30  input
+  2.x=40  Bar: items.x := first 0 then prev.x + prev.w + self.gap
+    1.x=0  above
+    1.w=38  above
+    0.gap=2  input
+  2.w=20  Button: self.w := self.tw + 8
+    2.tw=12  input
+""", ""),
+    (["--why", "0.w", "--lines", "4", "a"], {"a": TOOLBAR}, 0, FOLD + """  1.w=38  Button: self.w := self.tw + 8
+    1.tw=30  input
+... 6 more
+""", ""),
+    (["--why", "1.tw", "a"], {"a": TOOLBAR}, 0, "1.tw=30  input\n", ""),
+    (["--why", "0.w", "a"], {"a": OVERFLOW}, 8, """0.w=overflow  Frame: self.w := body.w + 2 * self.slack
+  1.w=overflow  Box: self.w := self.bw * 2147483647  overflow begins here
+    1.bw=20  input
+  0.slack=3  Frame: self.slack := 3
+overflow begins at 1.w
+""", ""),
+    (["--why", "0.h", "a"], {"a": OVERFLOW}, 8, """0.h=16  Frame: self.h := body.h + 2 * self.slack
+  1.h=10  Box: self.h := self.bh
+    1.bh=10  input
+  0.slack=3  Frame: self.slack := 3
+""", ""),
+    (["--why", "0.w", "--lines", "1", "--width", "20", "a"], {"a": OVERFLOW}, 8, """0.w=overflow  Frame…
+... 3 more
+overflow begins at …
+""", ""),
+    (["--why", "2.w", "a"], {"a": FRAME}, 2, "", "show: a: the nodes are 0 to 1\n"),
+    (["--why", "1.slack", "a"], {"a": FRAME}, 2, "", "show: a: the attributes of the node are x y w h bw bh\n"),
+    (["--why", "w", "a"], {"a": FRAME}, 2, "", WANTED),
     (["--format", "a"], {"a": NAMED.replace("2.iw=7;", "2.iw 7;")}, 10, "", """a:6:6:
     6 | 2.iw 7; 2.ih
       |      ^
@@ -437,7 +578,7 @@ def html_of_refusals(show):
     """The same of pages that are refused."""
     for page, status, line, mark, number in [
             (BROKEN, 5, "  self.slack : 3;", [":"], 9),
-            (LETTERS, 7, "Frame { body = é Box { bw = 20 bh = 10 } }", ["B"], 23),
+            (LETTERS, 7, "Frame { body = é Box { bw = 20 bh = 10 } }", ["Box"], 23),
             (HALF, 7, "Frame { body = ", [" "], 22), (UNKNOWN, 4, "%plan", [], 20),
             (FRAME.replace("Frame { body", "").replace(" = Box { bw = 20 bh = 10 } }", ""), 7, " ", [" "], 22)]:
         made = Html(show, page)
@@ -448,7 +589,70 @@ def html_of_refusals(show):
         yield "refusal", made.of("pre", "refusal"), ["\n" + made.told]
         yield "marked line", [marked, made.of("mark")], [[line], mark]
         yield "place of the marked line", lines.split("\n").index(line) + 1, number
-    yield "first letter of the node that lacks a field", Html(show, FRAME.replace("bw = 20 ", "")).of("mark"), ["B"]
+    yield "class of the node that lacks a field", Html(show, FRAME.replace("bw = 20 ", "")).of("mark"), ["Box"]
+
+
+class Table:
+    """What --node tells of each node of a page: values by node and name, and what each was computed from."""
+
+    def __init__(self, show, text, count):
+        self.values, self.rules, self.reads = {}, {}, {}
+        for node in range(count):
+            told = run(show, ["--node", str(node), "a"], {"a": text})[1]
+            for line in told.splitlines()[1:]:
+                self.add(node, line)
+
+    def add(self, node, line):
+        if line.lstrip().startswith("read "):
+            self.reads[self.last] = re.findall(r"(\d+)\.(\w+)=(\S+)", line)
+            return
+        name, value, rule = re.fullmatch(r"  (\w+)=(\S+) +(.*)", line).groups()
+        self.last = node, name
+        self.values[self.last], self.rules[self.last], self.reads[self.last] = value, rule, []
+
+    def wrong_reads(self):
+        """Each value that was read and is another one in its own line."""
+        return [(at, read) for at, reads in self.reads.items() for read in reads
+                if self.values[int(read[0]), read[1]] != read[2]]
+
+    def why(self, at, met):
+        """The lines that --why is to tell of an attribute, without indentation: it, then what it read."""
+        node, name = at
+        line = f"{node}.{name}={self.values[at]}  "
+        if at in met:
+            return [line + "above"]
+        met.add(at)
+        reads = [(int(read[0]), read[1]) for read in self.reads[at]]
+        begins = self.values[at] == "overflow" and all(self.values[it] != "overflow" for it in reads)
+        lines = [line + self.rules[at] + ("  overflow begins here" if begins else "")]
+        for read in reads:
+            lines += self.why(read, met)
+        return lines
+
+    def beginning(self, at):
+        """The line that tells where an Overflow begins; none of a number."""
+        if self.values[at] != "overflow":
+            return []
+        while True:
+            further = [(int(read[0]), read[1]) for read in self.reads[at] if read[2] == "overflow"]
+            if not further:
+                return [f"overflow begins at {at[0]}.{at[1]}"]
+            at = further[0]
+
+
+def of_values(show, text, boxes, tree):
+    """What is told of the values of a page by --all, --node and --why, what it is told of, and what it is to be."""
+    shown = [re.findall(r"(\w+)=(\S+)", line) for line in boxes.splitlines()]
+    table = Table(show, text, len(shown))
+    for node, fields in enumerate(shown):
+        for name, value in fields:
+            yield f"--node {node}, {name}", table.values[node, name], value
+    yield "--all", re.findall(r"\w+=(\S+)", tree), list(table.values.values())
+    yield "what was read", table.wrong_reads(), []
+    for at in list(table.values)[:60]:
+        told = run(show, ["--why", f"{at[0]}.{at[1]}", "--lines", "100000", "a"], {"a": text})[1]
+        wanted = [*table.why(at, set()), *table.beginning(at)]
+        yield f"--why {at[0]}.{at[1]}", [it.lstrip() for it in told.splitlines()], wanted
 
 
 def main():
@@ -459,7 +663,7 @@ def main():
         if list(told) != wanted:
             wrong += 1
             print(f"show {' '.join(words)}: told {told}, wanted {tuple(wanted)}")
-    pages = 0
+    pages = values = 0
     for name, command, text, wanted in example_pages():
         if command == "run" and not wanted.startswith("refused"):
             pages += 1
@@ -476,6 +680,12 @@ def main():
             if Html(show, text.decode()).named("lines") != told.stdout.decode():
                 wrong += 1
                 print(f"{name}: the tree in HTML is another one")
+            every = run(show, ["--all", "a"], {"a": text.decode()})[1]
+            for what, it, wanted_of_it in of_values(show, text.decode(), wanted, every):
+                values += 1
+                if it != wanted_of_it:
+                    wrong += 1
+                    print(f"{name}: {what}: told {str(it)[:1000]}, wanted {str(wanted_of_it)[:1000]}")
     for told_by, page, wanted in DRAWINGS:
         told = told_by(show, page)
         if told != wanted:
@@ -490,7 +700,7 @@ def main():
         if told != wanted:
             wrong += 1
             print(f"{what} in HTML: told {str(told)[:2000]}, wanted {str(wanted)[:2000]}")
-    counts = f"{len(CASES)} cases, {pages} pages, {len(DRAWINGS)} drawings, {len(WATCHED)} changes, {len(html)} facts of HTML"
+    counts = f"{len(CASES)} cases, {pages} pages with {values} facts of values, {len(DRAWINGS)} drawings, {len(WATCHED)} changes, {len(html)} facts of HTML"
     print(f"{counts}, {wrong} wrong")
     return 1 if wrong else 0
 

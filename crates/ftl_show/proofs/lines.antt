@@ -1,2 +1,4 @@
 pub mod Depths
+pub mod DetailLemmas
 pub mod LineLemmas
+pub mod WhyLemmas

@@ -54,8 +54,8 @@ fn status_of<R: Files + Env + Clock + Input + Print + Eprint + AllocGlobal>(
     }
 }
 
-const WANTED: &str = "show: --box wants four names, as x,y,w,h, --svg and --html one file, and \
---watch one file with a name";
+const WANTED: &str = "show: --box wants four names, as x,y,w,h, --why a node and a name, as 2.w, \
+--svg and --html one file, and --watch one file with a name";
 
 /// Shows what is wanted, or tells what is wrong with the words.
 fn status_of_wanted<R: Files + Clock + Input + Print + Eprint + AllocGlobal>(

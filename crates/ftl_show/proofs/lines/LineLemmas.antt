@@ -1,10 +1,11 @@
 -- One more line.
-use Rattle.std.proofs.Common.{◌≡◌, ℕ, zero, suc, ◌+◌, ◌<◌, List, [], ◌∷◌, ◌++◌, length, get_or, map, flat_map}
+use Rattle.std.proofs.Common.{◌≡◌, ℕ, zero, suc, ◌+◌, ◌<◌, List, [], ◌∷◌, ◌++◌, length, get_or, map, flat_map, max, take}
 use Rattle.std.proofs.Common.{sym, ap, ◌∙◌, arith, append_assoc}
 use Rattle.std.specs.List.{range_with_len}
 use Rattle.std.specs.Prelude.{codes}
-use Rattle.std.proofs.lemmas.List.{flat_map_more, get_or-map}
+use Rattle.std.proofs.lemmas.List.{flat_map_more, get_or-map, map-append, take_more}
 use Rattle.std.proofs.lemmas.List.FromFn.{get_or-range_with_len, length-range_with_len}
+use Rattle.ftl_show.specs.lines.Details.{greatest, spaces}
 use Rattle.ftl_show.specs.lines.Lines.{indentation}
 
 range_snoc : (first count : ℕ)
@@ -49,3 +50,27 @@ indentation_more n out before is =
     ap (λ o. o ++ codes "  ") is
     ∙ append_assoc before (indentation n) (codes "  ")
     ∙ ap (λ m. before ++ indentation m) next
+
+-- one space more
+pub spaces_more : (n : ℕ) (out before : List ℕ) → out ≡ before ++ spaces n
+    → out ++ codes " " ≡ before ++ spaces (n + 1)
+spaces_more n out before is =
+    let next : suc n ≡ n + 1 = omega arith in
+    ap (λ o. o ++ codes " ") is
+    ∙ append_assoc before (spaces n) (codes " ")
+    ∙ ap (λ m. before ++ spaces m) next
+
+greatest_last : (ns : List ℕ) (n : ℕ) → greatest (ns ++ n ∷ []) ≡ max (greatest ns) n
+greatest_last [] n = let z : max n 0 ≡ max 0 n = omega arith in z
+greatest_last (m ∷ ns) n =
+    let rest = greatest_last ns n in
+    let z : max m (max (greatest ns) n) ≡ max (max m (greatest ns)) n = omega arith in
+    ap (max m) rest ∙ z
+
+-- the greatest of one number more
+pub greatest_more : (f : ℕ → ℕ) (xs : List ℕ) (i d : ℕ) → i < length xs
+    → greatest (map f (take (i + 1) xs)) ≡ max (greatest (map f (take i xs))) (f (get_or xs i d))
+greatest_more f xs i d within =
+    ap (λ ys. greatest (map f ys)) (take_more xs i d within)
+    ∙ ap greatest (map-append f (take i xs) (get_or xs i d ∷ []))
+    ∙ greatest_last (map f (take i xs)) (f (get_or xs i d))

@@ -72,13 +72,3 @@ tree_line fields p n = indentation (depth_on p n) ++ node_text fields p n ++ cod
 -- the lines of all nodes, in preorder
 abbrev pub tree_text : Fields → PageState → List ℕ
 tree_text fields p = flat_map (tree_line fields p) (range_with_len 0 (size p.tree))
-
--- one attribute in a line
-abbrev pub attribute_line : PageState → (node attribute : ℕ) → List ℕ
-attribute_line p n a = codes " " ++ field_on p n a ++ codes "\n"
-
--- a node, and each of its attributes in a line of its own
-abbrev pub node_lines : PageState → (node : ℕ) → List ℕ
-node_lines p n =
-    head_text p n ++ codes "\n"
-    ++ flat_map (attribute_line p n) (attributes_of (meant p.checked) (class_on p n))

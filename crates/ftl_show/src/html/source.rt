@@ -91,14 +91,19 @@ fn push_plain(out: &mut String, line: &str) -> Result<(), AllocError> {
 fn push_marked(out: &mut String, line: &str, spot: Spot) -> Result<(), AllocError> {
     out.push_str("<b class=\"marked\">")?;
     match spot.column {
-        Some(column) => push_around(out, line, column.saturating_sub(1))?,
+        Some(column) => push_around(out, line, column.saturating_sub(1), spot.width.max(1))?,
         None => push_part(out, line, 0, WIDTH)?,
     }
     out.push_str("</b>\n")
 }
 
-/// Appends a line with a mark behind so many of its characters.
-fn push_around(out: &mut String, line: &str, before: usize) -> Result<(), AllocError> {
+/// Appends a line with a mark around so many of its characters, behind so many others.
+fn push_around(
+    out: &mut String,
+    line: &str,
+    before: usize,
+    count: usize,
+) -> Result<(), AllocError> {
     let left_out = before.saturating_sub(BEFORE);
     push_part(out, line, left_out, before.saturating_sub(left_out))?;
     out.push_str("<mark>")?;
@@ -107,9 +112,9 @@ fn push_around(out: &mut String, line: &str, before: usize) -> Result<(), AllocE
     } else {
         " "
     })?;
-    push_part(out, line, before, 1)?;
+    push_part(out, line, before, count.min(WIDTH))?;
     out.push_str("</mark>")?;
-    push_part(out, line, before.saturating_add(1), WIDTH)
+    push_part(out, line, before.saturating_add(count), WIDTH)
 }
 
 /// Appends so many characters of a line, behind so many others.

@@ -67,7 +67,7 @@ pub fn push_field(out: &mut String, page: &Page<'_>, node: u32, attr: u32) -> Re
 }
 
 /// Appends a number in decimal, or `overflow`.
-fn push_value(out: &mut String, value: Val) -> Result<(), AllocError>
+pub fn push_value(out: &mut String, value: Val) -> Result<(), AllocError>
     ensures text { OnOk result (string_bytes out.new
         ≡ string_bytes out.old ++ value_text value) }
 {

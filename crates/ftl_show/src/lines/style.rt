@@ -64,23 +64,30 @@ fn front(line: &str, count: usize) -> &str {
     }
 }
 
-/// Appends a line word by word, the second one bold, and red each value that is Overflow.
+/// Appends a line word by word: bold the class behind the number of a node, and red each value that
+/// is Overflow.
 fn push_colored(out: &mut String, line: &str) -> Result<(), AllocError> {
     let text = line.trim_start();
     out.push_str(line.strip_suffix(text).unwrap_or(""))?;
+    let mut behind_number = false;
     for (place, word) in text.split(' ').enumerate() {
         if place > 0 {
             out.push_str(" ")?;
         }
-        push_word(out, place, word)?;
+        push_word(out, behind_number, word)?;
+        behind_number = place == 0 && is_number(word);
     }
     Ok(())
 }
 
-fn push_word(out: &mut String, place: usize, word: &str) -> Result<(), AllocError> {
+fn is_number(word: &str) -> bool {
+    word.bytes().all(|b| b.is_ascii_digit())
+}
+
+fn push_word(out: &mut String, behind_number: bool, word: &str) -> Result<(), AllocError> {
     let color = if word.ends_with("=overflow") {
         RED
-    } else if place == 1 {
+    } else if behind_number {
         BOLD
     } else {
         return out.push_str(word);

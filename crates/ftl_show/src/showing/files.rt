@@ -96,6 +96,11 @@ fn give<R: Print + Eprint>(
                 count.saturating_sub(1)
             ),
         ),
+        Answer::NoAttribute { names } => told(
+            rt,
+            Status::BAD_WORDS,
+            format_args!("show: {name}: the attributes of the node are{names}\n"),
+        ),
     }
 }
 

@@ -40,8 +40,18 @@ pub fn texts_of(alloc: Global, bytes: &[u8], edits: bool) -> Result<Texts, Undec
     })
 }
 
+/// The name behind the heading of the grammar, if one stands there.
+pub fn grammar_name(text: &str) -> Option<&str> {
+    for line in text.lines() {
+        if line.starts_with("%grammar") {
+            return line.split_whitespace().nth(1);
+        }
+    }
+    None
+}
+
 /// Whether a heading names edits.
-fn has_edits(bytes: &[u8]) -> bool {
+pub fn has_edits(bytes: &[u8]) -> bool {
     let text = str::from_utf8(bytes).unwrap_or("");
     text.lines().any(|line| line.starts_with("%edits"))
 }

@@ -44,6 +44,21 @@ fn line_options<'a>(alloc: Global, command: Command<'a>) -> Result<Command<'a>, 
         .arg(number(alloc, "node", "Show one node, each attribute in a line").conflicts_with(
             "all",
         )?)?
+        .arg(
+            text(
+                alloc,
+                "why",
+                "N.NAME",
+                "Show where the value of an attribute of a node comes from",
+            )
+            .conflicts_with("all")?
+            .conflicts_with("node")?,
+        )?
+        .arg(number(
+            alloc,
+            "lines",
+            "Show so many lines of where a value comes from at most; 200 if left out",
+        ))?
         .arg(flag(
             alloc,
             "watch",
@@ -71,7 +86,8 @@ fn text_options<'a>(alloc: Global, command: Command<'a>) -> Result<Command<'a>, 
                 "Print the page in canonical form, without its comments",
             )
             .conflicts_with("all")?
-            .conflicts_with("node")?,
+            .conflicts_with("node")?
+            .conflicts_with("why")?,
         )?
         .arg(text(
             alloc,
@@ -115,6 +131,7 @@ fn drawing<'a>(alloc: Global, name: &'a str, help: &'a str) -> Result<Arg<'a>, A
     flag(alloc, name, help)
         .conflicts_with("all")?
         .conflicts_with("node")?
+        .conflicts_with("why")?
         .conflicts_with("format")
 }
 

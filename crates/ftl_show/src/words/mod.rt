@@ -5,4 +5,4 @@ mod command;
 mod wanted;
 
 pub use command::show_command;
-pub use wanted::{BoxNames, Drawing, Labels, View, Wanted, wanted_by};
+pub use wanted::{BoxNames, Drawing, Labels, View, Wanted, Why, wanted_by};

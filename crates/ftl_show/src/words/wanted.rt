@@ -20,12 +20,24 @@ pub enum View<'w> {
     Tree(Fields),
     /// One node.
     Node(u32),
+    /// Where a value comes from.
+    Why(Why<'w>),
     /// The page in canonical form.
     Format,
     /// Its boxes.
     Drawing(Drawing<'w>),
     /// Its boxes, its text, and all its values.
     Html(Drawing<'w>),
+}
+
+/// The value of which it is asked where it comes from.
+#[derive(Clone, Copy)]
+pub struct Why<'w> {
+    pub node: u32,
+    /// The name of an attribute of the node.
+    pub name: &'w str,
+    /// How many lines are shown at most.
+    pub lines: u32,
 }
 
 /// How boxes are drawn.
@@ -54,8 +66,8 @@ pub struct BoxNames<'w> {
     pub height: &'w str,
 }
 
-/// What the words ask for; none where `--box` has not four names, or where a drawing is asked for of
-/// several files, or watching of any but one with a name.
+/// What the words ask for; none where `--box` has not four names, `--why` not a number, a dot and a
+/// name, or where a drawing is asked for of several files, or watching of any but one with a name.
 pub fn wanted_by<'m, 'w>(matches: &'m ArgMatches<'w>) -> Option<Wanted<'m, 'w>> {
     let files = matches.get_strs("files")?;
     let view = view_by(matches)?;
@@ -99,6 +111,9 @@ fn view_by<'w>(matches: &ArgMatches<'w>) -> Option<View<'w>> {
     if let Some(node) = matches.get_one::<u32>("node") {
         return Some(View::Node(node));
     }
+    if let Some(why) = matches.get_str("why") {
+        return Some(View::Why(why_by(matches, why)?));
+    }
     if matches.get_flag("format") {
         return Some(View::Format);
     }
@@ -106,6 +121,16 @@ fn view_by<'w>(matches: &ArgMatches<'w>) -> Option<View<'w>> {
         return Some(View::Tree(Fields::All));
     }
     Some(View::Tree(Fields::Shown))
+}
+
+/// The node before the dot, and the name behind it.
+fn why_by<'w>(matches: &ArgMatches<'w>, text: &'w str) -> Option<Why<'w>> {
+    let (node, name) = text.split_once('.')?;
+    let Ok(node) = node.parse::<u32>() else {
+        return None;
+    };
+    let lines = matches.get_one::<u32>("lines").unwrap_or(200);
+    Some(Why { node, name, lines })
 }
 
 fn drawing_by<'w>(matches: &ArgMatches<'w>) -> Option<Drawing<'w>> {
