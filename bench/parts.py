@@ -1,10 +1,12 @@
 #!/usr/bin/env python3
-"""Counts instructions of the parts of a run by one worker, under valgrind's callgrind, on pages of 20,000 and 200,000
-pieces of four shipped grammars: reading the document (its tokens and its tree), making the plan, solving, and showing
-the boxes. Prints millions of instructions, the ratios of solving to reading and of the plan to solving, and the growth
-of solving from the smaller page to the larger. Instructions are the same from run to run, whatever else the machine does.
+"""Counts instructions of the parts of a run by one worker, under valgrind's callgrind, on pages of 20,000 pieces of the
+six shipped grammars: splitting the page, reading the document's tree, making the plan, its first words, solving, and
+showing the boxes. Prints millions of instructions, and beside them those of another program where one is named. With the
+word growth it counts pages of 200,000 pieces too, and prints the ratios of solving to reading and of the plan to solving
+and the growth of solving. Instructions are the same from run to run, whatever else the machine does.
 
-usage: bench/parts.py [PROGRAM]     PROGRAM is the proved one, which ./prove builds, if left out
+usage: bench/parts.py [PROGRAM [BEFORE]]     PROGRAM is the proved one, which ./prove builds, if left out
+       bench/parts.py growth [PROGRAM]
 """
 import os
 import re
@@ -15,11 +17,13 @@ import tempfile
 from plain_layout import sample
 from program import program_at
 
-GRAMMARS = ["flow", "stack", "table", "float"]
+GRAMMARS = ["flow", "table", "stack", "float", "block", "inline"]
 SIZES = [20_000, 200_000]
 PARTS = {
+    "page": r"ftl_page::sections::split::split_page$",
     "read": r"ftl_requests::sections::growing::tree_of$",
     "plan": r"ftl_plan::plans::plan::Plan::new$",
+    "words": r"ftl_plan::plans::words::first_words$",
     "solve": r"ftl_plan::plans::alone::solve_alone$",
     "show": r"ftl_run::calls::shown::table_shown$",
 }
@@ -47,21 +51,39 @@ def counted(program, page):
     return counts
 
 
-def main():
-    program = program_at(1)
+def shown(counts):
+    """Millions of instructions; nothing where a part is no function of its own in the program."""
+    return " ".join(f"{count / 1e6:8.1f}" if count else " " * 8 for count in counts.values())
+
+
+def tell_growth(program):
     heads = " ".join(f"{it:>8}" for it in ["whole", *PARTS])
     print(f"{'grammar':8} {'pieces':>7} {heads} {'solve/read':>10} {'plan/solve':>10} {'growth':>7}")
     for grammar in GRAMMARS:
         before = 0
         for size in SIZES:
             counts = counted(program, sample(grammar, size))
-            if 0 in counts.values():
-                sys.exit(f"no count for {[part for part, count in counts.items() if not count]}")
-            shown = " ".join(f"{count / 1e6:8.1f}" for count in counts.values())
+            if not counts["read"] or not counts["solve"]:
+                sys.exit("no count of reading or of solving")
             growth = f"x{counts['solve'] / before:.1f}" if before else ""
             before = counts["solve"]
             ratios = f"{counts['solve'] / counts['read']:10.2f} {counts['plan'] / counts['solve']:10.2f}"
-            print(f"{grammar:8} {size:7} {shown} {ratios} {growth:>7}", flush=True)
+            print(f"{grammar:8} {size:7} {shown(counts)} {ratios} {growth:>7}", flush=True)
+
+
+def tell_parts(programs):
+    heads = " ".join(f"{it:>8}" for it in ["whole", *PARTS])
+    print(f"{'grammar':8} {'':6} {heads}")
+    for grammar in GRAMMARS:
+        page = sample(grammar, SIZES[0])
+        for program, name in zip(programs, ["", "before"]):
+            print(f"{grammar:8} {name:6} {shown(counted(program, page))}", flush=True)
+
+
+def main():
+    if sys.argv[1:2] == ["growth"]:
+        return tell_growth(program_at(2))
+    return tell_parts([program_at(1), *sys.argv[2:3]])
 
 
 if __name__ == "__main__":
