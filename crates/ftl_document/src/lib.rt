@@ -24,5 +24,5 @@ pub use faults::{DocFault, faultless_documents_are_trees, trees_are_written};
 pub use nodes::document_nodes;
 pub use pass::passed_nodes;
 pub use plain::rows_of_text;
-pub use reading::{read_document, read_plain_document, tree_of_written};
+pub use reading::{nodes_of_text, read_document, read_plain_document, tree_of_written};
 pub use syntax::{WrittenDocument, WrittenRow, read_written_document};

@@ -6,9 +6,9 @@
 //! name by node, field and number; of their tree only the text is printed; `bare` for the tree with
 //! the same rows and every input 0; `instances` for a line for each node with its first instance,
 //! and each child's kids with theirs; `changed` for whether trees are read alike from bytes and
-//! from tokens where characters are changed, and `sample` for whether one pass takes the document of
-//! a sample (`src/documents/changed.rt`); and `relaid` for which instances edits touch, and how often
-//! code is run for them (`src/documents/relaid.rt`).
+//! from tokens where characters are changed, and `sample` for whether one pass takes the document
+//! of a sample (`src/documents/changed.rt`); and `relaid` for which instances edits touch, and how
+//! often code is run for them (`src/documents/relaid.rt`).
 
 ghost use Rattle.std.specs.Prelude.{◌≡◌};
 ghost use Rattle.ftl_base.specs.Widths.{greatest_of_width};

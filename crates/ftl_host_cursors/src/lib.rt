@@ -3,8 +3,8 @@
 //! host class, the inner passes with the visits of each, in-order ones too, and a range of nodes.
 //! Comes out: `HostCursor`, which contracts see as the list of steps that are left;
 //! `specs/HostSteps.antt` has that list, and `specs/HostLaws.antt` says that it is what the visits
-//! and the items of passes with nests have. `item_steps` gives the steps of an item of a stage, some
-//! of whose passes nest others; `specs/NestTables.antt` says which these are.
+//! and the items of passes with nests have. `item_steps` gives the steps of an item of a stage,
+//! some of whose passes nest others; `specs/NestTables.antt` says which these are.
 #![tactic(auto)]
 
 mod cursor;

@@ -1,7 +1,7 @@
-//! Gates that see which workers begin items of a page, and lots of one. A top call that solves every
-//! page on the calling thread never has two workers meet here; one that never shares cells has none
-//! meet at nodes alone; where each worker keeps to the items or lots that it was dealt, none is
-//! stolen; and where workers claim items one by one on a large page, there are more calls.
+//! Gates that see which workers begin items of a page, and lots of one. A top call that solves
+//! every page on the calling thread never has two workers meet here; one that never shares cells
+//! has none meet at nodes alone; where each worker keeps to the items or lots that it was dealt,
+//! none is stolen; and where workers claim items one by one on a large page, there are more calls.
 
 use crate::{READ_BYTES, WRITE_BYTES, printed};
 use ftl_edge::{Gate, MemSink, MemSource};
@@ -20,8 +20,8 @@ const PAGE: &str = "%page 1
 Sheet { body = Column { kids = [ Word { iw = 20 ih = 10 } Word { iw = 30 ih = 15 } ] } }
 ";
 
-/// A page of four passes beside each other. At grain 1 the items of a pass are the root alone, which
-/// waits for none, and the leaf below it, so those of even number are roots.
+/// A page of four passes beside each other. At grain 1 the items of a pass are the root alone,
+/// which waits for none, and the leaf below it, so those of even number are roots.
 const PASSES: &str = "%page 1
 %grammar
 root Top;

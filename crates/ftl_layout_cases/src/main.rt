@@ -1,13 +1,13 @@
 //! Prints what the program answers to words and pages in memory. Each case on standard input begins
 //! by a line with `===` and the words, below which stands the page. Before the words may stand
 //! `sink N` or `source N`, where that call of the sink or the source fails, `spaces N`, where the
-//! page is so many spaces, `byte N`, where it is that byte, `padded N`, where spaces follow the page
-//! up to so many bytes, `chains N`, where it is a column of so many chains of columns, or `brief`. A
-//! line of a page that begins with `*N` and a space stands there N times. Printed is the line, the
-//! text that was written, and the status, of a page of chains and with `brief` the number of lines
-//! with the first and the last two; and where one thread alone answers otherwise than the workers
-//! that the words ask for, what it answers. Before the cases stands what gates saw of the workers,
-//! and which numbers of workers and grains agree with one thread.
+//! page is so many spaces, `byte N`, where it is that byte, `padded N`, where spaces follow the
+//! page up to so many bytes, `chains N`, where it is a column of so many chains of columns, or
+//! `brief`. A line of a page that begins with `*N` and a space stands there N times. Printed is the
+//! line, the text that was written, and the status, of a page of chains and with `brief` the number
+//! of lines with the first and the last two; and where one thread alone answers otherwise than the
+//! workers that the words ask for, what it answers. Before the cases stands what gates saw of the
+//! workers, and which numbers of workers and grains agree with one thread.
 #![tactic(auto)]
 
 mod agreeing;

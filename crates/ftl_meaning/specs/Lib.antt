@@ -1,5 +1,5 @@
 pub mod formulas
-pub mod postfix_code
+pub mod expression_reads
 pub mod faults
 pub mod fault_order
 pub mod grammars

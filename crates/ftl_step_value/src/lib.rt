@@ -5,7 +5,7 @@
 //! - `cells`: `target_cell`, `read_count`, `StepReads`: the cells of a step
 //! - `neighbours`: the cells of a step, found quickly where all are of the node, the kid at hand
 //!   and the kid before
-//! - `forms`: `form_of`: how a step computes, where a few cells of neighbours are all that it needs
+//! - `forms`: `rule_form`, `form_at`: how a step computes, where a few cells of neighbours are all that it needs
 //! - `value`: `step_value`: the value of a step; `copied_cell`: which cell it copies
 #![tactic(auto)]
 
@@ -16,8 +16,8 @@ pub mod value;
 
 pub use cells::{StepReads, read_at, read_count, target_cell};
 pub use forms::{
-    FoldForm, FoldStep, FormStep, FoundFold, Operator, RuleForm, StepForm, fold_of, form_of,
-    operated, rule_forms,
+    FoldForm, FoldStep, FormStep, FoundFold, Operator, RuleForm, StepForm, fold_of, form_at,
+    operated, rule_form, rule_forms,
 };
 pub use neighbours::{
     NeighbourCells, NeighbourParts, NeighbourRead, NeighbourSite, neighbour_parts,

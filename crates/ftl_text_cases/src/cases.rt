@@ -8,8 +8,8 @@
 //! - `document`: the class and the rows of the document that it is
 //! - `wide-limited` and `wide-document`: the same where numbers end at 140737488355327
 //! - `plain`: the same where it is read from the bytes of the text
-//! - `changed`: the texts, of those that are this one with a character left out, doubled or another,
-//!   that are read from their bytes otherwise than from their tokens
+//! - `changed`: the texts, of those that are this one with a character left out, doubled or
+//!   another, that are read from their bytes otherwise than from their tokens
 //! - `sample`: whether the document of a sample of a grammar with so many pieces is read from bytes
 //! - `grammar`: the canonical text of the grammar that it spells
 //! - `shipped`: the canonical text of the shipped grammar of this name

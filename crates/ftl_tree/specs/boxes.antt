@@ -1,7 +1,6 @@
 pub mod WordValues
 pub mod Shows
+pub mod PieceRoom
 pub mod LinePieces
-pub mod Written
-pub mod Buffers
 pub mod Piece
 pub use Rattle.ftl_model.specs.layout.Boxes

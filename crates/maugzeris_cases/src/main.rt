@@ -4,8 +4,8 @@
 //! `--- steps`, a line for each call: `lay_out`, `lay_out_by WORKERS GRAIN`, `boxes`, `overflow`,
 //! `nodes`, `value NODE NAME`, `set NODE NAME NUMBER` and `relayout`. Below `--- built` stand the
 //! class of the root and then calls that build a page: `number NAME NUMBER`, `node NAME CLASS`,
-//! `list NAME`, `kid CLASS`, `close`, `close_all`, `deep COUNT NAME CLASS`, which opens nodes in one
-//! another, and `classes`. Printed is the line of the case, then what each call answers, or the
+//! `list NAME`, `kid CLASS`, `close`, `close_all`, `deep COUNT NAME CLASS`, which opens nodes in
+//! one another, and `classes`. Printed is the line of the case, then what each call answers, or the
 //! refusal: its status, its section and its line, and the byte that it tells; first of the document
 //! and then of the page that was built.
 #![tactic(auto)]

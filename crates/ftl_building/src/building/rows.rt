@@ -1,6 +1,7 @@
 //! Rows of what is open, added and closed.
 
-ghost use Rattle.std.specs.Prelude.{◌≡◌, ◌++◌, ◌∷◌, ◌+◌, ◌-◌, ◌<◌, ◌≤◌, [], length, set, OnErr, OnOk};
+ghost use Rattle.std.specs.Prelude.{◌≡◌, ◌++◌, ◌∷◌, ◌+◌, ◌-◌, ◌<◌, ◌≤◌, [], length, set};
+ghost use Rattle.std.specs.Prelude.{OnErr, OnOk};
 ghost use Rattle.std.specs.List.{HoldsAt};
 ghost use Rattle.ftl_building.specs.building.PartSizes.{most_entries};
 ghost use Rattle.ftl_building.specs.building.RowChanges.{nodes_of_row, with_below};

@@ -19,6 +19,7 @@ pub(crate) struct NodeRange {
 }
 
 /// Takes the node that comes first in this order.
+#[inline(always)]
 pub(crate) fn take_node(nodes: &mut NodeRange, order: NodeOrder) -> Option<u32>
     requires small { nodes.old.first + nodes.old.count ≤ 1048576 }
     ensures cases { MatchOption result ((nodes.old.count ≡ 0) × (nodes.new ≡ nodes.old))

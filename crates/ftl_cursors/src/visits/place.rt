@@ -58,6 +58,7 @@ pub(crate) fn next_step<'a>(tables: Tables<'a>, at: &mut Place<'a>) -> Option<St
 }
 
 /// Begins the next operation of the node, or the next node; false at the end.
+#[inline(always)]
 fn go_on<'a>(tables: Tables<'a>, at: &mut Place<'a>) -> bool
     requires tables { AreTables tables }
     requires place { IsPlace tables at.old }
@@ -76,6 +77,7 @@ fn go_on<'a>(tables: Tables<'a>, at: &mut Place<'a>) -> bool
 }
 
 /// Begins the visit of the next node; false where there is none.
+#[inline(always)]
 fn next_node<'a>(tables: Tables<'a>, at: &mut Place<'a>) -> bool
     requires tables { AreTables tables }
     requires place { IsPlace tables at.old }
@@ -98,6 +100,7 @@ fn next_node<'a>(tables: Tables<'a>, at: &mut Place<'a>) -> bool
 }
 
 /// Begins the next operation of the node.
+#[inline(always)]
 fn next_op<'a>(tables: Tables<'a>, at: &mut Place<'a>)
     requires tables { AreTables tables }
     requires place { IsPlace tables at.old }
@@ -117,6 +120,7 @@ fn next_op<'a>(tables: Tables<'a>, at: &mut Place<'a>)
 }
 
 /// How often a rule runs at a node.
+#[inline(always)]
 fn turns(tables: Tables<'_>, node: u32, rule: u32) -> u32
     requires tables { AreTables tables }
     requires node { node < size (tree_of tables) }

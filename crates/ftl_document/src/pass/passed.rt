@@ -15,6 +15,15 @@ use ftl_tokens::{Kind, ReadFault};
 use ftl_tree::{NodeRow, Place};
 use std::alloc::{AllocError, Global};
 
+/// As few bytes as a node takes in most documents. Rows for so many nodes as the text then has are
+/// reserved at once, so that they are seldom made anew as they grow. Room that is left is not
+/// touched.
+const NODE_BYTES: usize = 22;
+
+/// As few bytes as an input takes in most documents, by which room for inputs is reserved likewise.
+/// No page is so long that this is more than a tree may have.
+const INPUT_BYTES: usize = 13;
+
 /// The bytes that are left, and of the nodes that began before them the rows in the tree, the
 /// inputs, and how many attributes they have.
 #[derive(Drop)]
@@ -63,8 +72,8 @@ impl<'a> Passed<'a> {
     {
         Ok(Passed {
             rest: text,
-            rows: Vec::with_capacity(alloc, text.len() / 32)?,
-            inputs: Vec::with_capacity(alloc, text.len() / 32)?,
+            rows: Vec::with_capacity(alloc, (text.len() / NODE_BYTES).min(MOST_NODES as usize))?,
+            inputs: Vec::with_capacity(alloc, text.len() / INPUT_BYTES)?,
             count: 0,
             classes: vec![in alloc; 0; interfaces as usize]?,
         })

@@ -10,6 +10,6 @@ mod read;
 mod written;
 
 pub use laws::one_tree;
-pub use plain::read_plain_document;
+pub use plain::{nodes_of_text, read_plain_document};
 pub use read::read_document;
 pub use written::tree_of_written;

@@ -25,15 +25,18 @@ pub fn read_plain_document<'a>(
     requires width { greatest ≡ greatest_of_width checked.now.width }
     ensures tree { IfOk result (λ found. IfSome found (IsTreeOfText checked.now text.now)) }
 {
-    let Some(DocumentNodes { rows, inputs }) = text_nodes(alloc, checked, text, greatest)? else {
+    let Some(DocumentNodes { rows, inputs }) = nodes_of_text(alloc, checked, text, greatest)? else {
         return Ok(None);
     };
     let tree = Tree::from_nodes(alloc, checked, rows, inputs)?;
     Ok(Some(tree))
 }
 
-/// The nodes of the tree, by one pass where that takes the text.
-fn text_nodes(
+/// The nodes of the tree of a document's text, whose numbers are at most `greatest`, by one pass
+/// where that takes the text. None where something in the text is not plain or the document has a
+/// fault, which the tokens of the text then tell. A caller who gives the text back before the tree
+/// is made needs less memory at once.
+pub fn nodes_of_text(
     alloc: Global,
     checked: &Checked,
     text: &str,

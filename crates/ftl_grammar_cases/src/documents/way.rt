@@ -20,8 +20,8 @@ pub(crate) enum Way {
     Bare,
     /// As it stands; of its tree the first instances of all nodes and of their kids are printed.
     Instances,
-    /// With each of its characters changed; printed are those whose tree is read otherwise from bytes
-    /// than from tokens, and whether one pass takes the document as it stands.
+    /// With each of its characters changed; printed are those whose tree is read otherwise from
+    /// bytes than from tokens, and whether one pass takes the document as it stands.
     Changed,
     /// That of a sample, whose grammar and pieces are told; printed is whether one pass takes it.
     Sample,

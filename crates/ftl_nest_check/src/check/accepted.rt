@@ -83,8 +83,8 @@ impl<'a> AcceptedNests<'a> {
         &self.placed
     }
 
-    /// The schedule without nests: the same stages where no pass nests a schedule; else each pass as
-    /// the only one of a stage, a nest's before a bottomup pass and behind a topdown one.
+    /// The schedule without nests: the same stages where no pass nests a schedule; else each pass
+    /// as the only one of a stage, a nest's before a bottomup pass and behind a topdown one.
     pub fn flat(&self) -> &Accepted<'a>
         ensures flat { IsFlatOf result.now self.now.checked self.now.schedule }
     {

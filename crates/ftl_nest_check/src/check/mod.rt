@@ -2,8 +2,8 @@
 //! accepted, what its rules read, and a schedule of its computed attributes within the limits on
 //! passes that keeps the sides of its nests. Comes out: `AcceptedNests`, the schedule with its
 //! grammar, the place of each attribute and the accepted schedule without nests that gives each
-//! tree the same values; or its first fault, which `specs/check/NestFault.antt` defines. An accepted
-//! schedule without nests needs no second check: `accepted_plain`.
+//! tree the same values; or its first fault, which `specs/check/NestFault.antt` defines. An
+//! accepted schedule without nests needs no second check: `accepted_plain`.
 
 mod accepted;
 mod check;

@@ -4,8 +4,8 @@ ghost use Rattle.ftl_order.specs.declared.faults.fault.VerifyFault.TheVariants a
 ghost use Rattle.ftl_nests.specs.WorkedNests.{nested_in_sheet, ph_in_topdown, rh_in_bottomup};
 ghost use Rattle.ftl_nests.specs.WorkedNests.{slots_first};
 ghost use Rattle.ftl_nests.specs.WorkedRows.{nested_rows};
-ghost use Rattle.ftl_nest_check.specs.check.Worked.{HasFault, HasNoFault};
-ghost use Rattle.ftl_nest_check.specs.check.Worked.{missing_and_unordered, no_cell_height, two_twice};
+ghost use Rattle.ftl_nest_check.specs.check.Worked.{HasFault, HasNoFault, two_twice};
+ghost use Rattle.ftl_nest_check.specs.check.Worked.{missing_and_unordered, no_cell_height};
 
 /// A law: three schedules with nests have no fault. Of two attributes with two entries the first is
 /// the one whose second entry comes first, in the own list of a pass and not in its nest; a missing

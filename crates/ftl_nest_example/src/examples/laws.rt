@@ -8,8 +8,8 @@ pub fn nest_examples()
     ensures ordered { PrecedingIsOrderedWithNests }
 {}
 
-/// A law: a pair that a schedule with nests leaves unordered has an example, unless no tree shows it
-/// or each is too large.
+/// A law: a pair that a schedule with nests leaves unordered has an example, unless no tree shows
+/// it or each is too large.
 pub fn nest_examples_by_size()
     ensures by_size { NestExamplesBySize }
 {}

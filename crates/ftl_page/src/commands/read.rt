@@ -6,8 +6,9 @@ ghost use Rattle.std.specs.String.{string_bytes};
 ghost use Rattle.clap.specs.Walk.{rows_of};
 ghost use Rattle.clap.specs.Words.{found_of};
 ghost use Rattle.ftl_model.specs.layout.Outcome.{Gives};
-ghost use Rattle.ftl_page.specs.commands.Commands.{answer_by, command_of, edit_by, grammar_by, run_by};
-ghost use Rattle.ftl_page.specs.commands.Commands.{sample_by, sample_of, shipped_name, solving_of};
+ghost use Rattle.ftl_page.specs.commands.Commands.{answer_by, command_of, edit_by, grammar_by};
+ghost use Rattle.ftl_page.specs.commands.Commands.{run_by, sample_by, sample_of, shipped_name};
+ghost use Rattle.ftl_page.specs.commands.Commands.{solving_of};
 ghost use Rattle.ftl_page.specs.commands.Options.{plain_app, sample_app, solving_app, taken};
 ghost use Rattle.ftl_page.specs.declared.commands.command.CommandFault.TheVariants.{OutOfMemory};
 

@@ -259,7 +259,7 @@ module _ (w : StageParts) (fit : IsStage w) where
     -- what the form of the step computes from the solution's values is the solution's value
     pub formed_is : (f : FormStep) → IsFormOf (checked_tree_of w) x f → (vs : List Value)
         → vs ≡ map (solution_at m) (read_cells g t x)
-        → form_value (greatest_of_width (checked_tree_of w).checked.width) f.form vs
+        → form_value (greatest_of_width (checked_tree_of w).checked.width) f.form.now vs
         ≡ solution_at m (filled_cell g t x)
     formed_is f form vs are =
         sym (form.value (value_in g t (solution g t)) vs (sym (are ∙ values_are))) ∙ value_is

@@ -1,11 +1,11 @@
 //! Plans of a layout. Goes in: a checked grammar, a schedule that was accepted for it, whose passes
-//! may nest others, the code of its rules and a tree. Comes out: `Plan`, or its first fault, which `specs/plans/Planned.antt`
-//! has; the words of the cells before the first stage; each stage as lawful work, `StageWork`,
-//! which means what `laws` says that the stage means and drives a filler through an item with each
-//! step made once; and the words of the values that solve the tree, computed by one thread, stage
-//! after stage. `specs/plans/StageParts.antt` says what a stage is made of,
-//! `specs/plans/StageWords.antt` which words fit it, `specs/plans/Driving.antt` where a filler
-//! stands around a step. The work of a stage may be shared by threads, as
+//! may nest others, the code of its rules and a tree. Comes out: `Plan`, or its first fault, which
+//! `specs/plans/Planned.antt` has; the words of the cells before the first stage; each stage as
+//! lawful work, `StageWork`, which means what `laws` says that the stage means and drives a filler
+//! through an item with each step made once; and the words of the values that solve the tree,
+//! computed by one thread, stage after stage. `specs/plans/StageParts.antt` says what a stage is
+//! made of, `specs/plans/StageWords.antt` which words fit it, `specs/plans/Driving.antt` where a
+//! filler stands around a step. The work of a stage may be shared by threads, as
 //! `proofs/plans/Shared.antt` shows.
 
 mod alone;

@@ -1,5 +1,5 @@
 //! The words of cells before the first stage.
-ghost use Rattle.std.specs.Prelude.{◌≡◌, ◌<◌, Contains, filter, length, replicate, IfOk};
+ghost use Rattle.std.specs.Prelude.{◌≡◌, ◌<◌, filter, length, replicate, slice_index_or, IfOk};
 ghost use Rattle.ftl_deps.specs.reads.Meant.{meant};
 ghost use Rattle.ftl_limits.specs.reads.ReadTables.{AreTables, IsSound, class_in, instance_in};
 ghost use Rattle.ftl_items.specs.stage_items.WordLaws.{first_word, first_words};
@@ -84,6 +84,7 @@ fn inputs_among(alloc: Global, checked: &Checked, attrs: &[u32]) -> Result<Items
 }
 
 /// Sets the words of a node's inputs.
+#[inline(always)]
 fn set_inputs(tree: &Tree<'_>, inputs: &Items<Items<u32>>, node: u32, words: &mut [u64])
     requires sound { IsSound (meant tree.now.checked) }
     requires inputs { inputs.now ≡ inputs_by_class (meant tree.now.checked) }
@@ -95,20 +96,24 @@ fn set_inputs(tree: &Tree<'_>, inputs: &Items<Items<u32>>, node: u32, words: &mu
     let _nodes = tree.node_count();
     let class = tree.class(node);
     let rows = inputs.as_slice();
-    for attr in rows[class as usize].as_slice() {
-        let cell = tree.instance(node, *attr);
-        words[cell as usize] = input_word(tree, node, *attr);
+    let row = rows[class as usize].as_slice();
+    for place in 0..row.len() {
+        let cell = tree.instance(node, row[place]);
+        words[cell as usize] = input_word(tree, node, place);
     }
 }
 
-/// The word of an input.
-fn input_word(tree: &Tree<'_>, node: u32, attr: u32) -> u64
+/// The word of the input that stands at this place among those of a node.
+#[inline(always)]
+fn input_word(tree: &Tree<'_>, node: u32, place: usize) -> u64
     requires sound { IsSound (meant tree.now.checked) }
     requires node { node < size tree.now.tree }
-    requires attr { Contains (class_inputs (meant tree.now.checked) (class_in tree.now node)) attr }
+    requires place { place < length (class_inputs (meant tree.now.checked)
+        (class_in tree.now node)) }
     ensures word { result ≡ first_word (meant tree.now.checked) tree.now.tree input
-        (instance_in tree.now node attr) }
+        (instance_in tree.now node
+        (slice_index_or (class_inputs (meant tree.now.checked) (class_in tree.now node)) place 0)) }
 {
     let _nodes = tree.node_count();
-    word_of(Val::num(tree.input(node, attr)))
+    word_of(Val::num(tree.input_at(node, place)))
 }

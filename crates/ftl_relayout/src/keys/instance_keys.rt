@@ -16,8 +16,8 @@ use ftl_grammar::AttrKind;
 use ftl_schedule::PassKind;
 use ftl_tree::Tree;
 
-/// The key of an attribute of a node, of which it is known where the schedule has it: the stage, the
-/// time and the tie in its pass, the place in the list, the node, the attribute.
+/// The key of an attribute of a node, of which it is known where the schedule has it: the stage,
+/// the time and the tie in its pass, the place in the list, the node, the attribute.
 pub(crate) fn key_of(at: &KeyPlace, tree: &Tree<'_>, node: u32, attr: u32) -> u128
     requires attribute { IsAttributeOf tree.now node attr }
     requires stage { at.now.stage < 2097152 }

@@ -177,7 +177,8 @@ fn add_by_kids(
     add_reading(site, node, place, reader, kids, waiting)
 }
 
-/// Lets what a rule computes at a node wait, for the kids for which it reads what stands at a place.
+/// Lets what a rule computes at a node wait, for the kids for which it reads what stands
+/// at a place.
 #[inline(always)]
 fn add_reading(
     site: &ReaderSite<'_>,
@@ -255,7 +256,8 @@ fn step_key(site: &ReaderSite<'_>, node: u32, info: RuleInfo, kid: u32) -> u128
 fn key_place(site: &ReaderSite<'_>, attr: u32) -> KeyPlace
     requires site { IsReaderSite site.now }
     requires attr { attr < (site_grammar site.now).attribute_count }
-    ensures place { IsKeyPlace site.now.tree.now.checked site.now.accepted.now.schedule attr result }
+    ensures place { IsKeyPlace site.now.tree.now.checked site.now.accepted.now.schedule
+        attr result }
 {
     site.places[attr as usize]
 }

@@ -84,8 +84,8 @@ impl<'a> Relayouter<'a> {
         requires code { IsCodeFor tree.old.checked runner.old.programs }
         requires solved { SolvesList (meant tree.old.checked) tree.old.tree values.old }
         requires edits { AreInputEdits (meant tree.old.checked) tree.old.tree edits.now }
-        ensures relaid { IfOk result (RelayoutGives tree.old tree.new edits.now values.old values.new
-            runner.old runner.new) }
+        ensures relaid { IfOk result (RelayoutGives tree.old tree.new edits.now
+            values.old values.new runner.old runner.new) }
         ensures grammar { tree.new.checked ≡ tree.old.checked }
         ensures tree_stays { OnErr result (tree.new ≡ tree.old) }
         ensures values_stay { OnErr result (values.new ≡ values.old) }
@@ -110,8 +110,9 @@ impl<'a> Relayouter<'a> {
         requires code { IsCodeFor tree.now.checked runner.now.programs }
         requires solved { SolvesList (meant tree.now.checked) tree.now.tree values.old }
         requires edits { AreInputEdits (meant tree.now.checked) tree.now.tree edits.now }
-        ensures relaid { IfOk result (λ x. RelayoutGives tree.now (tree_with_edits tree.now edits.now)
-            edits.now values.old values.new runner.now x.1 x.0) }
+        ensures relaid { IfOk result (λ x. RelayoutGives tree.now
+            (tree_with_edits tree.now edits.now) edits.now
+            values.old values.new runner.now x.1 x.0) }
         ensures stay { OnErr result (values.new ≡ values.old) }
     {
         let _nodes = tree.node_count();

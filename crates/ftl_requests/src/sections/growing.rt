@@ -10,6 +10,7 @@ ghost use Rattle.ftl_requests.specs.sections.Outcomes.{IsOutcome};
 ghost use Rattle.ftl_requests.specs.sections.RefusalOf.{IsRefusalOf};
 ghost use Rattle.ftl_deps.specs.reads.Meant.{meant};
 ghost use Rattle.ftl_document.specs.declared.faults.fault.DocFault.TheVariants as faults;
+ghost use Rattle.ftl_document.specs.reading.OfText.{AreNodesOfText};
 ghost use Rattle.ftl_limits.specs.faults.PlanFaults.{first_fault};
 ghost use Rattle.ftl_answer.specs.refusals.DocumentLines.{document_line};
 ghost use Rattle.ftl_nest_check.specs.stages.Nested.{nests_of};
@@ -21,7 +22,8 @@ use crate::sections::read::{greatest_of, wide_tokens};
 use crate::sections::status::Status;
 use ftl_answer::write_document_fault;
 use ftl_checked::Checked;
-use ftl_document::{DocFault, read_document, read_plain_document};
+use ftl_document::nodes::DocumentNodes;
+use ftl_document::{DocFault, nodes_of_text, read_document};
 use ftl_nest_check::AcceptedNests;
 use ftl_page::Section;
 use ftl_tokens::WideScanned;
@@ -61,9 +63,29 @@ pub fn grown_tree_of<'a>(
     ensures outcome { IsOutcome (grown_tree checked.now (string_bytes text)) (λ t. t.tree) result }
     ensures grammar { IfOk result (λ t. t.checked ≡ checked.now) }
 {
-    match read_plain_document(alloc, checked, text.as_str(), greatest_of(checked.width())) {
-        Ok(Some(tree)) => Ok(tree),
+    match nodes_of_text(alloc, checked, text.as_str(), greatest_of(checked.width())) {
+        Ok(Some(nodes)) => tree_of_nodes(alloc, checked, text, nodes),
         Ok(None) => scanned_tree_of(alloc, checked, text),
+        Err(_) => Err(Undecided::OutOfMemory),
+    }
+}
+
+/// The tree of these nodes. The text is given back first, as the columns of a tree take about as
+/// much memory.
+fn tree_of_nodes<'a>(
+    alloc: Global,
+    checked: &'a Checked,
+    text: String,
+    nodes: DocumentNodes,
+) -> Result<Tree<'a>, Undecided>
+    requires nodes { AreNodesOfText checked.now (string_bytes text) nodes }
+    ensures outcome { IsOutcome (grown_tree checked.now (string_bytes text)) (λ t. t.tree) result }
+    ensures grammar { IfOk result (λ t. t.checked ≡ checked.now) }
+{
+    drop(text);
+    let DocumentNodes { rows, inputs } = nodes;
+    match Tree::from_nodes(alloc, checked, rows, inputs) {
+        Ok(tree) => Ok(tree),
         Err(_) => Err(Undecided::OutOfMemory),
     }
 }

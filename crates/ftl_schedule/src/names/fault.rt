@@ -22,7 +22,8 @@ pub enum ScheduleFault {
     UnknownHost { name: Name },
     /// A nest whose host is this class is not closed.
     OpenNest { host: Name },
-    /// An attribute of the nest's region in the own list of its pass, or one outside it in the nest.
+    /// An attribute of the nest's region in the own list of its pass, or one outside it
+    /// in the nest.
     NestAttribute { owner: Name, attr: Name },
     /// No memory was left for the schedule.
     OutOfMemory,

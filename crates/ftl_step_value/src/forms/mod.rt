@@ -13,7 +13,7 @@ mod step_form;
 mod table;
 
 pub use fold_form::{FoldForm, FoldStep};
-pub use found::{FormStep, form_of};
+pub use found::{FormStep, form_at, rule_form};
 pub use found_fold::{FoundFold, fold_of};
 pub use operator::{Operator, operated};
 pub use step_form::{RuleForm, StepForm};

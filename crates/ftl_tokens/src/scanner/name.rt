@@ -12,10 +12,11 @@ use std::hash::{Hash, Hasher};
 use std::marker::Model;
 
 /// A name. Contracts see it as its characters in UTF-8, so two names are equal exactly where their
-/// characters are.
+/// characters are. It has the size of one pointer, since trees hold it among parts that are smaller
+/// than a `String`.
 #[derive(Debug, Drop)]
 pub struct Name {
-    text: String,
+    text: Box<String>,
 }
 
 impl Model for Name {
@@ -23,7 +24,7 @@ impl Model for Name {
 
     ghost Value = { List ℕ };
 
-    ghost view = { λ name. string_bytes name.text };
+    ghost view = { λ name. string_bytes name.text.value };
 }
 
 impl Name {
@@ -31,8 +32,9 @@ impl Name {
     pub fn new(alloc: Global, text: &str) -> Result<Name, AllocError>
         ensures text { IfOk result (λ name. name ≡ text.now) }
     {
+        let text = String::from_str(alloc, text)?;
         Ok(Name {
-            text: String::from_str(alloc, text)?,
+            text: Box::new(alloc, text)?,
         })
     }
 

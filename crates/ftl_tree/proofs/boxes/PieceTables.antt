@@ -1,5 +1,5 @@
 -- The pieces of classes and attributes.
-use Rattle.std.proofs.Common.{◌≡◌, ℕ, ◌<◌, false, List, [], ◌++◌, length, get_or, Contains, ◌∙◌, ap}
+use Rattle.std.proofs.Common.{◌≡◌, ℕ, ◌<◌, false, List, [], ◌++◌, length, get_or, Contains, ◌∙◌, ap, subst, arith}
 use Rattle.std.specs.Prelude.{codes}
 use Rattle.std.proofs.lemmas.List.{get_or-map, length-map}
 use Rattle.ftl_grammar.specs.syntax.Trees as trees
@@ -9,8 +9,9 @@ use Rattle.ftl_grammar.specs.declared.syntax.rules.Grammar.{Grammar}
 use Rattle.ftl_meaning.specs.faults.Checked.{Declared, all_attributes, declared}
 use Rattle.ftl_meaning.specs.faults.Numbering.{class_at}
 use Rattle.ftl_meaning.specs.grammars.GrammarOf.{declaration_at, shown_attributes}
-use Rattle.ftl_tree.specs.boxes.LinePieces.{attribute_pieces, class_pieces}
-use Rattle.ftl_tree.proofs.boxes.ShownAmong.{shown_at}
+use Rattle.ftl_tree.specs.boxes.LinePieces.{attribute_pieces, class_pieces, row_room, row_rooms}
+use Rattle.ftl_tree.specs.boxes.Shows.{shown_rows}
+use Rattle.ftl_tree.proofs.boxes.ShownAmong.{length-rows, row_is, shown_at}
 
 pub length-class_pieces : (g : Grammar) → length (class_pieces g) ≡ length g.classes
 length-class_pieces g = length-map g.classes (λ (k : Class). codes " " ++ k.name)
@@ -30,3 +31,20 @@ attribute_piece_is g i a d there =
     get_or-map (λ (x : Declared). codes " " ++ x.decl.name ++ codes "=") (all_attributes g) a
     (declared false 0 (trees.attr_decl kinds.Inh [])) d at.known
     ∙ ap (λ (n : List ℕ). codes " " ++ n ++ codes "=") at.name
+
+pub length-row_rooms : (g : Grammar) → length (row_rooms g) ≡ length g.interfaces
+length-row_rooms g = length-map (shown_rows g) (row_room (attribute_pieces g)) ∙ length-rows g
+
+pub row_room_is : (g : Grammar) (i d : ℕ) → i < length g.interfaces
+    → get_or (row_rooms g) i d ≡ row_room (attribute_pieces g) (shown_attributes g i)
+row_room_is g i d known =
+    get_or-map (row_room (attribute_pieces g)) (shown_rows g) i [] d (omega (arith, known, length-rows g))
+    ∙ ap (row_room (attribute_pieces g)) (row_is g i [] known)
+
+-- each attribute of a row has a piece
+pub piece_known : (g : Grammar) (i a : ℕ) (d : List ℕ) → i < length (shown_rows g)
+    → Contains (get_or (shown_rows g) i d) a → a < length (attribute_pieces g)
+piece_known g i a d within there =
+    let known : i < length g.interfaces = omega (arith, within, length-rows g) in
+    let at = (shown_at g i a (subst (λ row. Contains row a) (row_is g i d known) there)).known in
+    omega (arith, at, length-attribute_pieces g)

@@ -1,13 +1,13 @@
 -- How a piece of text is held.
-use Rattle.std.specs.Prelude.{◌≡◌, ◌≤◌, ◌+◌, ℕ, List, length, take}
+use Rattle.std.specs.Prelude.{◌≡◌, ◌≤◌, ℕ, List, length, take}
+use Rattle.ftl_tree.specs.boxes.PieceRoom.{field_room}
 use Rattle.ftl_tree.specs.declared.boxes.piece.Piece.TheInside.{Inside}
 
--- what is held begins with the text, and is no shorter than what is copied at once; there is room for a number and the
--- end of a line beside it
+-- a short text stands among the bytes that are copied at once
 pub record IsPiece (p : Inside) : Type 0 where
-  pub least : 16 ≤ length p.bytes
-  pub within : p.count ≤ length p.bytes
-  pub beside : p.room ≡ length p.bytes + 21
+  pub held : length p.short ≡ 16
+  pub short : length p.text ≤ 16 → take (length p.text) p.short ≡ p.text
+  pub room : p.room ≡ field_room p.text
 
 abbrev pub text_of : Inside → List ℕ
-text_of p = take p.count p.bytes
+text_of p = p.text

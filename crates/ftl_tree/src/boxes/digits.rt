@@ -1,91 +1,73 @@
-//! Numbers in decimal.
+//! Numbers in decimal, two digits at a time.
 
-ghost use Rattle.std.specs.Prelude.{◌≡◌, ◌≤◌, ◌+◌, ◌/◌, ◌%◌, ◌<◌, [], ◌∷◌, ◌++◌};
-ghost use Rattle.std.specs.Fmt.{decimal, signed_decimal};
+ghost use Rattle.std.specs.Prelude.{◌≡◌, ◌≤◌, ◌+◌, ◌/◌, ◌%◌, ◌<◌, ◌∷◌, [], ◌++◌, length, take};
+ghost use Rattle.std.specs.Fmt.{decimal};
 
-use crate::boxes::buffer::TextBuffer;
-use itoa::Buffer;
+use crate::boxes::room::put_byte;
 
-/// Appends a number in decimal. Most numbers of boxes have few digits, so those are told apart.
+/// The numbers below a hundred, of two digits each.
+static PAIRS: [u8; 200] = *b"0001020304050607080910111213141516171819\
+    2021222324252627282930313233343536373839\
+    4041424344454647484950515253545556575859\
+    6061626364656667686970717273747576777879\
+    8081828384858687888990919293949596979899";
+
+/// Writes a number of eight digits at most behind a text, and tells how long the text is then.
 #[inline(always)]
-pub(crate) fn push_number(out: &mut TextBuffer, number: i64)
-    requires room { 20 ≤ out.old.room }
-    ensures text { out.new.text ≡ out.old.text ++ signed_decimal number }
-    ensures room { out.old.room ≤ out.new.room + 20 }
-{
-    let size = number.unsigned_abs();
-    if number >= 0 && size < 100_000_000 {
-        push_eight(out, size as u32);
-    } else {
-        out.copy(Buffer::new().format(number).as_bytes());
-    }
-}
-
-/// Of eight digits at most.
-#[inline(always)]
-#[tactic(auto, using(crate::proofs::boxes::ShortNumbers::long_steps))]
-fn push_eight(out: &mut TextBuffer, number: u32)
+pub(crate) fn put_eight(bytes: &mut [u8], end: usize, number: u32) -> usize
     requires short { number < 100000000 }
-    requires room { 8 ≤ out.old.room }
-    ensures text { out.new.text ≡ out.old.text ++ decimal number }
-    ensures room { out.old.room ≤ out.new.room + 8 }
+    requires room { end + 8 ≤ length bytes.old }
+    ensures text { take result bytes.new ≡ take end bytes.old ++ decimal number }
+    ensures within { result ≤ end + 8 }
 {
     if number < 10_000 {
-        push_short(out, number);
-    } else {
-        push_short(out, number / 10_000);
-        push_four(out, number % 10_000);
+        return put_four(bytes, end, number);
     }
-}
-
-/// The four last digits, zeros among them.
-#[inline(always)]
-fn push_four(out: &mut TextBuffer, number: u32)
-    requires short { number < 10000 }
-    requires room { 4 ≤ out.old.room }
-    ensures text { out.new.text ≡ out.old.text ++ ((48 + number / 1000) ∷ (48 + number / 100 % 10)
-        ∷ (48 + number / 10 % 10) ∷ (48 + number % 10) ∷ []) }
-    ensures room { out.old.room ≤ out.new.room + 4 }
-{
-    out.push_all(&[
-        digit(number / 1_000),
-        digit(number / 100 % 10),
-        digit(number / 10 % 10),
-        digit(number % 10),
-    ]);
+    let low = number % 10_000;
+    let end = put_four(bytes, end, number / 10_000);
+    let end = put_pair(bytes, end, low / 100);
+    put_pair(bytes, end, low % 100)
 }
 
 /// Of four digits at most.
 #[inline(always)]
-#[tactic(auto, using(crate::proofs::boxes::ShortNumbers::decimal_steps))]
-fn push_short(out: &mut TextBuffer, number: u32)
+fn put_four(bytes: &mut [u8], end: usize, number: u32) -> usize
     requires short { number < 10000 }
-    requires room { 4 ≤ out.old.room }
-    ensures text { out.new.text ≡ out.old.text ++ decimal number }
-    ensures room { out.old.room ≤ out.new.room + 4 }
+    requires room { end + 4 ≤ length bytes.old }
+    ensures text { take result bytes.new ≡ take end bytes.old ++ decimal number }
+    ensures within { result ≤ end + 4 }
 {
-    let ones = digit(number % 10);
-    if number < 10 {
-        out.push(ones);
-        return;
-    }
-    let tens = digit(number / 10 % 10);
     if number < 100 {
-        out.push_all(&[tens, ones]);
-        return;
+        return put_two(bytes, end, number);
     }
-    let hundreds = digit(number / 100 % 10);
-    if number < 1_000 {
-        out.push_all(&[hundreds, tens, ones]);
-        return;
-    }
-    out.push_all(&[digit(number / 1_000), hundreds, tens, ones]);
+    let end = put_two(bytes, end, number / 100);
+    put_pair(bytes, end, number % 100)
 }
 
+/// Of two digits at most.
 #[inline(always)]
-fn digit(number: u32) -> u8
-    requires digit { number < 10 }
-    ensures digit { result ≡ 48 + number }
+fn put_two(bytes: &mut [u8], end: usize, number: u32) -> usize
+    requires short { number < 100 }
+    requires room { end + 2 ≤ length bytes.old }
+    ensures text { take result bytes.new ≡ take end bytes.old ++ decimal number }
+    ensures within { result ≤ end + 2 }
 {
-    b'0' + number as u8
+    if number < 10 {
+        return put_byte(bytes, end, b'0' + number as u8);
+    }
+    put_pair(bytes, end, number)
+}
+
+/// Two digits, zeros among them.
+#[inline(always)]
+fn put_pair(bytes: &mut [u8], end: usize, number: u32) -> usize
+    requires short { number < 100 }
+    requires room { end + 2 ≤ length bytes.old }
+    ensures text { take result bytes.new
+        ≡ take end bytes.old ++ (48 + number / 10) ∷ (48 + number % 10) ∷ [] }
+    ensures end { result ≡ end + 2 }
+{
+    let from = number as usize * 2;
+    let end = put_byte(bytes, end, PAIRS[from]);
+    put_byte(bytes, end, PAIRS[from + 1])
 }

@@ -2,12 +2,12 @@
 //! attribute instances. Comes out: a line for each node, which `ftl_model::layout` defines for the
 //! table of their values. `specs/boxes/WordValues.antt` says which value a word stands for.
 
-mod buffer;
 mod digits;
 mod laws;
 mod piece;
 mod pieces;
 mod print;
+mod room;
 mod shown;
 mod word;
 

@@ -1,22 +1,25 @@
 //! Pieces of text that are copied sixteen bytes at a time.
 
-ghost use Rattle.std.specs.Prelude.{◌≡◌, ◌≤◌, ◌+◌, ◌++◌, codes, length, take, IfOk, IfSome};
+ghost use Rattle.std.specs.Prelude.{◌≡◌, ◌≤◌, ◌+◌, ◌++◌, codes, length, take, IfOk};
+ghost use Rattle.ftl_tree.specs.boxes.PieceRoom.{field_room, piece_room};
 
+use crate::boxes::room::{put, put_any};
 use sqlite_items::Items;
 use std::alloc::{AllocError, Global};
 use std::marker::Model;
 
-/// As many bytes as are copied of a short piece, whatever its length.
-pub(crate) const SHORT: usize = 16;
+/// As many bytes as are copied of a piece that has no more, whatever its length.
+const SHORT: usize = 16;
 
-/// Room for a number, of twenty bytes at most, and for the end of a line.
-const BESIDE: usize = 21;
+/// Room for a value, of twenty bytes at most.
+const BESIDE: usize = 20;
 
-/// A piece of text. Of one shorter than sixteen bytes so many are held. Contracts see the text.
+/// A piece of text, and the sixteen bytes that are copied where it is short. Contracts see the
+/// text.
 #[derive(Drop)]
 pub(crate) struct Piece {
-    bytes: Items<u8>,
-    count: usize,
+    short: [u8; SHORT],
+    text: Items<u8>,
     room: usize,
 }
 
@@ -37,50 +40,63 @@ impl Piece {
     pub(crate) fn new(alloc: Global, name: &[u8], end: &[u8]) -> Result<Piece, AllocError>
         ensures piece { IfOk result (λ p. p ≡ codes " " ++ name.now ++ end.now) }
     {
-        let mut bytes = Vec::new(alloc);
-        bytes.extend_from_slice(b" ")?;
-        bytes.extend_from_slice(name)?;
-        bytes.extend_from_slice(end)?;
-        let count = bytes.len();
-        if count < SHORT {
-            bytes.resize(SHORT, 0)?;
-        }
-        let Some(room) = bytes.len().checked_add(BESIDE) else {
+        let mut text = Vec::new(alloc);
+        text.extend_from_slice(b" ")?;
+        text.extend_from_slice(name)?;
+        text.extend_from_slice(end)?;
+        let Some(room) = text.len().max(SHORT).checked_add(BESIDE) else {
             return Err(AllocError);
         };
         Ok(Piece {
-            bytes: Items::from_vec(bytes),
-            count,
+            short: short_of(&text),
+            text: Items::from_vec(text),
             room,
         })
     }
 
-    /// Room for it and whatever is copied with it, for a number beside it, and for the end of a line.
-    #[inline(always)]
-    pub(crate) fn room(&self) -> usize
-        ensures short { 37 ≤ result }
-        ensures text { length self.now + 21 ≤ result }
+    /// Room for it and whatever is copied with it, and for a value beside it.
+    pub(crate) fn field_room(&self) -> usize
+        ensures room { result ≡ field_room self.now }
     {
         self.room
     }
 
-    /// Its text; and whatever is held behind it, where it is short.
+    /// Writes it behind a text, and tells how long the text is then.
     #[inline(always)]
-    pub(crate) fn text(&self) -> &[u8]
-        ensures text { result.now ≡ self.now }
+    pub(crate) fn put(&self, bytes: &mut [u8], end: usize) -> usize
+        requires room { end + piece_room self.now ≤ length bytes.old }
+        ensures text { take result bytes.new ≡ take end bytes.old ++ self.now }
+        ensures end { result ≡ end + length self.now }
     {
-        &self.bytes.as_slice()[..self.count]
-    }
-
-    /// The first sixteen bytes that are held, where the text is no longer.
-    #[inline(always)]
-    pub(crate) fn short(&self) -> Option<&[u8]>
-        ensures sixteen { IfSome result (λ bytes. length bytes.now ≡ 16) }
-        ensures text { IfSome result (λ bytes. take (length self.now) bytes.now ≡ self.now) }
-    {
-        if self.count > SHORT {
-            return None;
+        let count = self.text.len();
+        if count > SHORT {
+            return put_any(bytes, end, self.text.as_slice());
         }
-        Some(&self.bytes.as_slice()[..SHORT])
+        put_short(bytes, end, self.short);
+        end + count
     }
+}
+
+// All sixteen, one by one, out of an array of its own, which overlaps nothing: that is compiled to
+// one copy.
+#[inline(always)]
+fn put_short(bytes: &mut [u8], end: usize, short: [u8; SHORT])
+    requires room { end + 16 ≤ length bytes.old }
+    ensures text { take (end + 16) bytes.new ≡ take end bytes.old ++ short }
+{
+    for k in 0..SHORT {
+        bytes[end + k] = short[k];
+    }
+}
+
+// The bytes of a short text with zeros behind them, and zeros alone for one that is longer.
+fn short_of(text: &[u8]) -> [u8; SHORT]
+    ensures held { length result ≡ 16 }
+    ensures short { length text.now ≤ 16 → take (length text.now) result ≡ text.now }
+{
+    let mut short = [0; SHORT];
+    if text.len() <= SHORT {
+        put(&mut short, 0, text);
+    }
+    short
 }

@@ -3,10 +3,10 @@
 ghost use Rattle.std.specs.Prelude.{◌≡◌, ◌+◌, ◌<◌, ◌≤◌, ◌++◌, [], ◌∷◌, if◌then◌else◌, length, take};
 ghost use Rattle.std.specs.Prelude.{IfOk, OnOk};
 ghost use Rattle.ftl_meaning.specs.faults.Checked.{all_attributes, attribute_at, is_shown};
-ghost use Rattle.ftl_meaning.specs.faults.Numbering.{shared_count};
+ghost use Rattle.ftl_meaning.specs.faults.Numbering.{interface_of, shared_count};
 ghost use Rattle.ftl_meaning.specs.grammars.GrammarOf.{shown_attributes};
 ghost use Rattle.ftl_model.specs.layout.Tree.{size};
-ghost use Rattle.ftl_tree.specs.boxes.Shows.{node_shows, shown_rows};
+ghost use Rattle.ftl_tree.specs.boxes.Shows.{node_class, node_shows, shown_rows};
 
 use crate::trees::Tree;
 use ftl_checked::Checked;
@@ -36,11 +36,21 @@ pub fn shown_by<'r>(rows: &'r Items<Items<u32>>, tree: &Tree, node: u32) -> &'r 
     requires node { node < size tree.now.tree }
     ensures shown { result.now ≡ node_shows tree.now node }
 {
+    rows.as_slice()[interface_at(tree, node) as usize].as_slice()
+}
+
+/// The interface of a node's class.
+#[inline(always)]
+pub(crate) fn interface_at(tree: &Tree, node: u32) -> u32
+    requires node { node < size tree.now.tree }
+    ensures interface { result
+        ≡ interface_of tree.now.checked.grammar (node_class tree.now node) }
+    ensures known { result < length tree.now.checked.grammar.interfaces }
+{
     let checked = tree.checked();
     // The interface is there, as the grammar is lawful.
     checked.grammar();
-    let interface = checked.interface_of(tree.row(node).class);
-    rows.as_slice()[interface as usize].as_slice()
+    checked.interface_of(tree.row(node).class)
 }
 
 // The number after those of an interface's attributes, which begin at `first`.

@@ -1,6 +1,6 @@
 //! The words of attributes, and what words stand for.
 
-ghost use Rattle.std.specs.Prelude.{◌≡◌, ◌<◌, Contains, IfSome, MatchOption};
+ghost use Rattle.std.specs.Prelude.{◌≡◌, ◌≢◌, ◌<◌, ℕ, Contains, IfSome, MatchOption, pos};
 ghost use Rattle.ftl_model.specs.layout.Path.{node_at};
 ghost use Rattle.ftl_model.specs.layout.Solves.{instance_of};
 ghost use Rattle.ftl_model.specs.layout.Tree.{size};
@@ -10,6 +10,12 @@ ghost use Rattle.ftl_tree.specs.boxes.WordValues.{table_of_words, value_of_word}
 
 use crate::trees::Tree;
 use ftl_base::val_of;
+
+/// The word of the number 0.
+const ZERO: u64 = 140737488355329;
+
+/// Numbers below this have eight digits at most.
+const SHORT: u64 = 100_000_000;
 
 /// The word of an attribute that the node shows, by one look-up of its instance.
 pub fn word_at(tree: &Tree, words: &[u64], node: u32, attr: u32) -> u64
@@ -33,5 +39,22 @@ pub fn number_of_word(word: u64) -> Option<i64>
     match val_of(word) {
         Some(value) => value.get(),
         None => None,
+    }
+}
+
+/// The number that a word stands for where it has no sign and eight digits at most, as most have.
+#[inline(always)]
+pub(crate) fn short_of_word(word: u64) -> Option<u32>
+    ensures short { IfSome result (λ n. n < 100000000) }
+    ensures number { MatchOption result
+        ((n : ℕ) → n < 100000000 → value_of_word word ≢ number (pos n))
+        (λ n. value_of_word word ≡ number (pos n)) }
+{
+    // Words of numbers with a sign wrap around to greater ones.
+    let size = word.wrapping_sub(ZERO);
+    if size < SHORT {
+        Some(size as u32)
+    } else {
+        None
     }
 }

@@ -1,5 +1,5 @@
 //! Trees as flat rows.
-ghost use Rattle.std.specs.Prelude.{◌≡◌, ◌<◌, ◌≤◌, length, slice_index_or, Contains, IfOk};
+ghost use Rattle.std.specs.Prelude.{◌≡◌, ◌<◌, ◌≤◌, length, pos, slice_index_or, Contains, IfOk};
 ghost use Rattle.std.specs.Option.{option_map};
 ghost use Rattle.ftl_model.specs.lists.Lists.{place_in};
 ghost use Rattle.ftl_model.specs.layout.AttributeGrammar.{attributes_of, class_inputs, input_value};
@@ -226,8 +226,21 @@ impl<'a> Tree<'a> {
             (class_at self.now.tree (node_at self.now.tree node)) attr
             (inputs_at self.now.tree (node_at self.now.tree node)) ≡ number result }
     {
+        let _nodes = self.node_count();
+        self.input_at(node, self.input_place(self.class(node), attr))
+    }
+
+    /// The value of the input that stands at this place among those of a node, which stand in the
+    /// order of its class.
+    #[inline(always)]
+    pub fn input_at(&self, node: u32, place: usize) -> i64
+        requires node { node < size self.now.tree }
+        requires place { place < length (inputs_at self.now.tree (node_at self.now.tree node)) }
+        ensures input { number (slice_index_or (inputs_at self.now.tree
+            (node_at self.now.tree node)) place (pos 0)) ≡ number result }
+    {
         let first = self.first_inputs[node as usize];
-        self.inputs[first as usize + self.input_place(self.class(node), attr)]
+        self.inputs[first as usize + place]
     }
 
     // The place of an input among those of its class.

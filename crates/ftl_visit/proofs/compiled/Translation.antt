@@ -1,79 +1,147 @@
--- The instructions of a formula's postfix code are the code of the formula.
-use Rattle.std.proofs.Common.{◌≡◌, List, [], ◌∷◌, ◌++◌, map, refl, ◌∙◌, ap, ap₂}
-use Rattle.std.proofs.lemmas.List.{map-append}
+-- The instructions of a formula that steps make, from the left.
+use Rattle.std.proofs.Common.{◌≡◌, Bool, true, false, if◌then◌else◌, List, [], ◌∷◌, ◌++◌, map, flat_map, fold, sym, ◌∙◌, ap, subst, append_assoc}
+use Rattle.std.proofs.lemmas.List.{append-nil}
+use Rattle.ftl_grammar.specs.declared.syntax.expression.SignedTerm.{SignedTerm, out-SignedTerm}
+use Rattle.ftl_grammar.specs.declared.syntax.expression.Factor.{Factor, Factor-F, out-Factor, roll-Factor, roll-out-Factor}
+use Rattle.ftl_grammar.specs.declared.syntax.expression.Factor.TheVariants as factors
+use Rattle.ftl_grammar.specs.declared.syntax.expression.Atom.{Atom}
 use Rattle.ftl_grammar.specs.declared.syntax.expression.Expr.{Expr}
-use Rattle.ftl_meaning.specs.formulas.Expressions.{formula_of}
-use Rattle.ftl_meaning.specs.formulas.Formula as form
-use Rattle.ftl_meaning.specs.formulas.Formula.{Formula, Question}
-use Rattle.ftl_meaning.specs.declared.formulas.read_name.ReadName.{ReadName}
-use Rattle.ftl_meaning.specs.postfix_code.Postfix as postfix
-use Rattle.ftl_meaning.specs.declared.postfix_code.entry.Entry.{Entry}
-use Rattle.ftl_meaning.specs.declared.postfix_code.entry.Entry.TheVariants as entry
-use Rattle.ftl_visit.specs.rule_code.Code.{code_in, code_of}
+use Rattle.ftl_grammar.specs.declared.syntax.expression.Cond.{Cond, out-Cond, roll-out-Cond}
+use Rattle.ftl_grammar.specs.declared.syntax.expression.Sum.{Sum, out-Sum, roll-out-Sum}
+use Rattle.ftl_grammar.specs.declared.syntax.expression.Conj.{Conj, out-Conj, roll-out-Conj}
+use Rattle.ftl_grammar.specs.declared.syntax.expression.Test.{Test}
+use Rattle.ftl_grammar.specs.declared.syntax.expression.Term.{Term, out-Term, roll-out-Term}
+use Rattle.ftl_grammar.specs.declared.syntax.expression.Unary.{Unary}
+use Rattle.ftl_grammar.specs.syntax.Trees as trees
+use Rattle.ftl_meaning.specs.formulas.Formula.{both, either}
+use Rattle.ftl_meaning.specs.formulas.Expressions.{Number, Truth, after, every, any, sum_formula, cond_question, term_formula, unary_formula, conj_question, test_question, signed_step, factor_step}
+use Rattle.ftl_meaning.proofs.formulas.Equations.{of-sum, of-term, of-cond, of-conj, times_at, over_at, minus_at, plus_at}
+use Rattle.ftl_visit.specs.rule_code.Code as codes
+use Rattle.ftl_visit.specs.compiled.RuleCode.{is_accumulator}
 use Rattle.ftl_visit.specs.declared.rule_code.instruction.Instruction.{Instruction}
-use Rattle.ftl_visit.specs.compiled.Entries.{instruction_of}
-use Rattle.ftl_visit.specs.compiled.RuleCode.{expression_code, is_accumulator}
+use Rattle.ftl_visit.specs.declared.rule_code.instruction.Instruction.TheVariants as instruction
 
-abbrev made : List Entry → List Instruction
-made = map instruction_of
+-- the code of a formula of an expression
+abbrev pub code_of : Number → List Instruction
+code_of = codes.code_of is_accumulator
 
-abbrev goes : Formula ReadName → Type 0
-goes f = made (postfix.code_of f) ≡ code_of is_accumulator f
+-- the code of a question of an expression
+abbrev pub code_in : Truth → List Instruction
+code_in = codes.code_in is_accumulator
 
-abbrev asks : Question ReadName → Type 0
-asks q = made (postfix.code_in q) ≡ code_in is_accumulator q
+-- what a term with its sign adds to code
+abbrev pub signed_code : SignedTerm → List Instruction
+signed_code x =
+    let s = out-SignedTerm x in code_of (term_formula s.term) ++ ((if s.minus then instruction.Subtract else instruction.Add) ∷ [])
 
--- one list of entries, and then an operator
-one : (xs : List Entry) (ys : List Instruction) (e : Entry) → made xs ≡ ys
-    → made (xs ++ (e ∷ [])) ≡ ys ++ (instruction_of e ∷ [])
-one xs ys e is = map-append instruction_of xs (e ∷ []) ∙ ap (λ zs. zs ++ (instruction_of e ∷ [])) is
+-- a factor, by what it is made of
+abbrev pub FactorLayer : Type 0
+FactorLayer = Factor-F Atom Expr Factor Test Cond Conj SignedTerm Sum Term Unary
 
--- two
-two : (xs us : List Entry) (ys vs : List Instruction) (e : Entry) → made xs ≡ ys → made us ≡ vs
-    → made (xs ++ us ++ (e ∷ [])) ≡ ys ++ vs ++ (instruction_of e ∷ [])
-two xs us ys vs e is are =
-    one (xs ++ us) (ys ++ vs) e (map-append instruction_of xs us ∙ ap₂ (λ a b. a ++ b) is are)
+-- what a factor adds to code, by what it is made of
+abbrev pub layer_code : FactorLayer → List Instruction
+layer_code (Factor-F.Times u) = code_of (unary_formula u) ++ (instruction.Multiply ∷ [])
+layer_code (Factor-F.Over n) = instruction.Divide n ∷ []
 
--- two formulas
-pair : (f g : Formula ReadName) (e : Entry) → goes f → goes g
-    → made (postfix.code_of f ++ postfix.code_of g ++ (e ∷ []))
-    ≡ code_of is_accumulator f ++ code_of is_accumulator g ++ (instruction_of e ∷ [])
-pair f g e is are =
-    two (postfix.code_of f) (postfix.code_of g) (code_of is_accumulator f) (code_of is_accumulator g) e is are
+-- what a factor adds to code
+abbrev pub factor_code : Factor → List Instruction
+factor_code x = layer_code (out-Factor x)
 
-mutual
-  code_goes : (f : Formula ReadName) → goes f
-  code_goes (form.literal n) = refl
-  code_goes (form.read r) = refl
-  code_goes (form.read_or r f) =
-      ap (λ zs. instruction_of (entry.Last r) ∷ zs)
-      (one (postfix.code_of f) (code_of is_accumulator f) entry.OrElse (code_goes f))
-  code_goes (form.negated f) = one (postfix.code_of f) (code_of is_accumulator f) entry.Negate (code_goes f)
-  code_goes (form.sum f g) = pair f g entry.Add (code_goes f) (code_goes g)
-  code_goes (form.difference f g) = pair f g entry.Subtract (code_goes f) (code_goes g)
-  code_goes (form.product f g) = pair f g entry.Multiply (code_goes f) (code_goes g)
-  code_goes (form.quotient f n) =
-      one (postfix.code_of f) (code_of is_accumulator f) (entry.Divide n) (code_goes f)
-  code_goes (form.least f g) = pair f g entry.Least (code_goes f) (code_goes g)
-  code_goes (form.greatest f g) = pair f g entry.Greatest (code_goes f) (code_goes g)
-  code_goes (form.choice q f g) =
-      two (postfix.code_in q ++ postfix.code_of f) (postfix.code_of g)
-      (code_in is_accumulator q ++ code_of is_accumulator f) (code_of is_accumulator g) entry.Choose
-      (map-append instruction_of (postfix.code_in q) (postfix.code_of f)
-      ∙ ap₂ (λ a b. a ++ b) (question_goes q) (code_goes f))
-      (code_goes g)
+-- what one more of several conditions adds to code
+abbrev pub conj_code : Conj → List Instruction
+conj_code x = code_in (conj_question x) ++ (instruction.Either ∷ [])
 
-  question_goes : (q : Question ReadName) → asks q
-  question_goes (form.compared c f g) = pair f g (entry.Compare c) (code_goes f) (code_goes g)
-  question_goes (form.denied q) =
-      one (postfix.code_in q) (code_in is_accumulator q) entry.Not (question_goes q)
-  question_goes (form.both p q) =
-      two (postfix.code_in p) (postfix.code_in q) (code_in is_accumulator p) (code_in is_accumulator q) entry.Both
-      (question_goes p) (question_goes q)
-  question_goes (form.either p q) =
-      two (postfix.code_in p) (postfix.code_in q) (code_in is_accumulator p) (code_in is_accumulator q) entry.Either
-      (question_goes p) (question_goes q)
+-- what one more of several tests adds to code
+abbrev pub test_code : Test → List Instruction
+test_code x = code_in (test_question x) ++ (instruction.Both ∷ [])
 
--- of an expression
-pub code_is : (e : Expr) → map instruction_of (postfix.code_of (formula_of e)) ≡ expression_code e
-code_is e = code_goes (formula_of e)
+-- code of steps, of which each adds its part at the end
+after_code : {X : Type 0} (step : X → Number → Number) (code : X → List Instruction)
+    → ((x : X) (f : Number) → code_of (step x f) ≡ code_of f ++ code x)
+    → (f : Number) (xs : List X) → code_of (after f (map step xs)) ≡ code_of f ++ flat_map code xs
+after_code step code adds f [] = sym (append-nil (code_of f))
+after_code step code adds f (x ∷ xs) =
+    after_code step code adds (step x f) xs ∙ ap (λ c. c ++ flat_map code xs) (adds x f)
+    ∙ append_assoc (code_of f) (code x) (flat_map code xs)
+
+-- the code of a term with its sign
+signed_adds : (x : SignedTerm) (f : Number) → code_of (signed_step x f) ≡ code_of f ++ signed_code x
+signed_adds x f = at_sign (out-SignedTerm x).minus (out-SignedTerm x).term
+  where
+    at_sign : (minus : Bool) (t : Term)
+        → code_of (signed_step (trees.signed minus t) f)
+        ≡ code_of f ++ (code_of (term_formula t) ++ ((if minus then instruction.Subtract else instruction.Add) ∷ []))
+    at_sign true t = ap code_of (minus_at t f) ∙ append_assoc (code_of f) (code_of (term_formula t)) (instruction.Subtract ∷ [])
+    at_sign false t = ap code_of (plus_at t f) ∙ append_assoc (code_of f) (code_of (term_formula t)) (instruction.Add ∷ [])
+
+-- the code of a factor
+factor_adds : (x : Factor) (f : Number) → code_of (factor_step x f) ≡ code_of f ++ factor_code x
+factor_adds x f = subst (λ y. code_of (factor_step y f) ≡ code_of f ++ factor_code x) (roll-out-Factor x) (at_layer (out-Factor x))
+  where
+    at_layer : (s : FactorLayer) → code_of (factor_step (roll-Factor s) f) ≡ code_of f ++ layer_code s
+    at_layer (Factor-F.Times u) =
+        ap (λ y. code_of (factor_step y f)) (factors.rolls-Times u) ∙ ap code_of (times_at u f)
+        ∙ append_assoc (code_of f) (code_of (unary_formula u)) (instruction.Multiply ∷ [])
+    at_layer (Factor-F.Over n) =
+        ap (λ y. code_of (factor_step y f)) (factors.rolls-Over n) ∙ ap code_of (over_at n f)
+
+-- the code of terms with their signs, after a first one
+pub sum_code : (f : Number) (xs : List SignedTerm)
+    → code_of (after f (map signed_step xs)) ≡ code_of f ++ flat_map signed_code xs
+sum_code = after_code signed_step signed_code signed_adds
+
+-- the code of factors, after a first one
+pub term_code : (f : Number) (xs : List Factor)
+    → code_of (after f (map factor_step xs)) ≡ code_of f ++ flat_map factor_code xs
+term_code = after_code factor_step factor_code factor_adds
+
+-- the code of conditions of which any holds
+pub any_code : (q : Truth) (xs : List Conj)
+    → code_in (fold either q (map conj_question xs)) ≡ code_in q ++ flat_map conj_code xs
+any_code q [] = sym (append-nil (code_in q))
+any_code q (x ∷ xs) =
+    any_code (either q (conj_question x)) xs
+    ∙ ap (λ c. c ++ flat_map conj_code xs) (append_assoc (code_in q) (code_in (conj_question x)) (instruction.Either ∷ []))
+    ∙ append_assoc (code_in q) (conj_code x) (flat_map conj_code xs)
+
+-- the code of tests of which every one holds
+pub every_code : (q : Truth) (xs : List Test)
+    → code_in (fold both q (map test_question xs)) ≡ code_in q ++ flat_map test_code xs
+every_code q [] = sym (append-nil (code_in q))
+every_code q (x ∷ xs) =
+    every_code (both q (test_question x)) xs
+    ∙ ap (λ c. c ++ flat_map test_code xs) (append_assoc (code_in q) (code_in (test_question x)) (instruction.Both ∷ []))
+    ∙ append_assoc (code_in q) (test_code x) (flat_map test_code xs)
+
+-- ---- whole sums, terms and conditions
+
+-- the code of a sum
+pub code-of_sum : (x : Sum) → code_of (sum_formula x)
+    ≡ code_of (term_formula (out-Sum x).head) ++ flat_map signed_code (out-Sum x).tail
+code-of_sum x =
+    ap (λ y. code_of (sum_formula y)) (sym (roll-out-Sum x))
+    ∙ ap code_of (of-sum (out-Sum x).head (out-Sum x).tail) ∙ sum_code (term_formula (out-Sum x).head) (out-Sum x).tail
+
+-- the code of a term
+pub code-of_term : (x : Term) → code_of (term_formula x)
+    ≡ code_of (unary_formula (out-Term x).head) ++ flat_map factor_code (out-Term x).tail
+code-of_term x =
+    ap (λ y. code_of (term_formula y)) (sym (roll-out-Term x))
+    ∙ ap code_of (of-term (out-Term x).head (out-Term x).tail)
+    ∙ term_code (unary_formula (out-Term x).head) (out-Term x).tail
+
+-- the code of a condition
+pub code-of_cond : (x : Cond) (head : Conj) (tail : List Conj) → (out-Cond x).any ≡ head ∷ tail
+    → code_in (cond_question x) ≡ code_in (conj_question head) ++ flat_map conj_code tail
+code-of_cond x head tail e =
+    ap (λ y. code_in (cond_question y)) (sym (roll-out-Cond x))
+    ∙ ap code_in (of-cond (out-Cond x).any) ∙ ap (λ xs. code_in (any (map conj_question xs))) e
+    ∙ any_code (conj_question head) tail
+
+-- the code of tests with `&&` between them
+pub code-of_conj : (x : Conj) (head : Test) (tail : List Test) → (out-Conj x).every ≡ head ∷ tail
+    → code_in (conj_question x) ≡ code_in (test_question head) ++ flat_map test_code tail
+code-of_conj x head tail e =
+    ap (λ y. code_in (conj_question y)) (sym (roll-out-Conj x))
+    ∙ ap code_in (of-conj (out-Conj x).every) ∙ ap (λ xs. code_in (every (map test_question xs))) e
+    ∙ every_code (test_question head) tail

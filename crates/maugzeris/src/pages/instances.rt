@@ -13,7 +13,8 @@ use ftl_tree::Tree;
 
 impl<'a> Page<'a> {
     /// How many instances there are, attributes of nodes. They are numbered from 0, those of node 0
-    /// first, each node's in the order of `attributes`, as `relayout` numbers those that it touches.
+    /// first, each node's in the order of `attributes`, as `relayout` numbers those
+    /// that it touches.
     pub fn instance_count(&self) -> u32
         ensures count { result ≡ instance_count (meant self.now.checked) self.now.tree }
         ensures bound { result ≤ 33554432 }

@@ -203,7 +203,8 @@ fn own_rule(tables: &ReadTables, page: &Page<'_>, node: u32, attr: u32) -> Optio
     requires tables { AreTables (meant page.now.checked) tables.now }
     requires node { node < size page.now.tree }
     requires attribute { HasAttribute page.now node attr }
-    ensures rule { result ≡ rule_number (meant page.now.checked) (class_on page.now node) None attr }
+    ensures rule { result
+        ≡ rule_number (meant page.now.checked) (class_on page.now node) None attr }
 {
     let _known = page.tree();
     let class = page.class(node);

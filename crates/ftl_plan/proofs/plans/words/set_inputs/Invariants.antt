@@ -4,7 +4,7 @@ use Rattle.ftl_model.specs.layout.Path.{node_at}
 use Rattle.ftl_plan.specs.plans.InputWords.{AreSet}
 use Rattle.ftl_plan.proofs.plans.words.set_inputs.Given as goal
 
-abbrev pub invariant-loop-attr : goal.invariant-loop-attr
-invariant-loop-attr l =
-    AreSet (meant l.tree.checked) l.tree.tree (node_at l.tree.tree l.node) (take l.attr-index l.attr-items)
+abbrev pub invariant-loop-place : goal.invariant-loop-place
+invariant-loop-place l =
+    AreSet (meant l.tree.checked) l.tree.tree (node_at l.tree.tree l.node) (take l.place l.row)
     l.initial.words l.words

@@ -1,9 +1,7 @@
 use Rattle.std.proofs.Common.{◌||◌, ◌+◌, drop, ◌∙◌, ap, sym, arith}
 use Rattle.std.specs.List.{list_any}
-use Rattle.ftl_model.specs.layout.Boxes.{is_overflow}
-use Rattle.ftl_model.specs.layout.Path.{node_at, preorder}
-use Rattle.ftl_model.specs.layout.Solves.{instance_of}
-use Rattle.ftl_tree.specs.boxes.WordValues.{table_of_words}
+use Rattle.ftl_model.specs.layout.Path.{preorder}
+use Rattle.ftl_tree.specs.boxes.Shows.{shows_in}
 use Rattle.ftl_tree.proofs.boxes.Lines.{overflows_all, overflows_at, overflows_more}
 use Rattle.ftl_tree.proofs.boxes.print.shows_overflow.Goals as goal
 
@@ -13,9 +11,7 @@ returns-then-node_overflows c =
     let words = c.args.words.now in
     let later = list_any (overflows_at t words) (drop (c.loop-node.node + 1) (preorder t.tree)) in
     let any =
-    c.node_overflows.ensures.any
-    ∙ ap (list_any (λ a. is_overflow (table_of_words t words (instance_of (node_at t.tree c.loop-node.node) a))))
-    c.shown_by.ensures.shown in
+    c.node_overflows.ensures.any ∙ ap (list_any (shows_in t words c.loop-node.node)) c.shown_by.ensures.shown in
     record {
       shown =
           sym
@@ -31,9 +27,7 @@ loop-node-preserved c =
     let words = c.args.words.now in
     let later = list_any (overflows_at t words) (drop (c.loop-node.node + 1) (preorder t.tree)) in
     let any =
-    c.node_overflows.ensures.any
-    ∙ ap (list_any (λ a. is_overflow (table_of_words t words (instance_of (node_at t.tree c.loop-node.node) a))))
-    c.shown_by.ensures.shown in
+    c.node_overflows.ensures.any ∙ ap (list_any (shows_in t words c.loop-node.node)) c.shown_by.ensures.shown in
     c.loop-node.invariant
     ∙ overflows_more t c.loop-node.node c.node_count-node-end.ensures.is_tree
     (omega (arith, c.node_count-node-end.ensures.count)) words

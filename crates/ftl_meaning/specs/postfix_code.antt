@@ -1,2 +1,0 @@
-pub mod ReadNames
-pub mod Postfix

@@ -1,6 +1,0 @@
-use Rattle.std.proofs.Common.{◌≡◌, ◌++◌, string_bytes}
-use Rattle.ftl_show.specs.lines.Lines.{indentation}
-use Rattle.ftl_show.proofs.lines.depth.push_indentation.Given as goal
-
-abbrev pub invariant-loop-level : goal.invariant-loop-level
-invariant-loop-level l = string_bytes l.out ≡ string_bytes l.fn.out ++ indentation l._level

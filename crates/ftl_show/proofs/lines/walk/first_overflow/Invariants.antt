@@ -1,7 +1,0 @@
-use Rattle.std.proofs.Common.{take}
-use Rattle.ftl_show.specs.lines.Whys.{AreNumbersOn}
-use Rattle.ftl_show.proofs.lines.walk.first_overflow.Given as goal
-
--- those so far are numbers
-abbrev pub invariant-loop-instance : goal.invariant-loop-instance
-invariant-loop-instance l = AreNumbersOn l.page (take l.instance-index l.instances)

@@ -1,6 +1,0 @@
-use Rattle.ftl_show.specs.lines.Whys.{IsOverflowOn}
-use Rattle.ftl_show.proofs.lines.why.beginning.Given as goal
-
--- where the search has come to is an Overflow
-abbrev pub invariant-loop-read : goal.invariant-loop-read
-invariant-loop-read l = IsOverflowOn l.page l.at
