@@ -21,7 +21,7 @@ GRAMMARS = ["flow", "table", "stack", "float", "block", "inline"]
 SIZES = [20_000, 200_000]
 PARTS = {
     "page": r"ftl_page::sections::split::split_page$",
-    "read": r"ftl_requests::sections::growing::tree_of$",
+    "read": r"ftl_answer::reading::sections::growing::tree_of$",
     "plan": r"ftl_plan::plans::plan::Plan::new$",
     "words": r"ftl_plan::plans::words::first_words$",
     "solve": r"ftl_plan::plans::alone::solve_alone$",

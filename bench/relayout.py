@@ -41,7 +41,7 @@ RUNS = 9
 CHANGES = 200
 PLACES = ["front", "middle", "end"]
 TIMED = {
-    "tables": r"^ftl_limits::reads::tables::ReadTables::new",
+    "tables": r"^ftl_step_value::limits::reads::tables::ReadTables::new",
     "shown": r"^ftl_run::calls::shown::change_shown",
     "plan": PARTS["plan"],
     "solve": PARTS["solve"],

@@ -192,7 +192,7 @@ BODIES = {
         )
     ],
     "always_wants_memory": [
-        WantsMemory("requested", "crates/ftl_requests/src/requests/words.rt", "pub fn requested<"),
+        WantsMemory("requested", "crates/ftl_answer/src/reading/requests/words.rt", "pub fn requested<"),
         WantsMemory("read_all", "crates/ftl_edge/src/source.rt", "pub fn read_all<"),
         WantsMemory("split_page", "crates/ftl_page/src/sections/split.rt", "pub fn split_page("),
         WantsMemory("tokens", "crates/ftl_tokens/src/scanner/scan.rt", "pub fn tokens("),

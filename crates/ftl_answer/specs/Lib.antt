@@ -1,3 +1,4 @@
+pub mod reading
 pub mod refusals
 pub mod answers
 pub mod explanations

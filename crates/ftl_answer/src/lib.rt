@@ -10,12 +10,14 @@
 //! - `explanations`: `print_example`: the text of an example of a refused pair
 //! - `summary`: `print_summary`: the summary of a sample
 //! - `headline`: what is promised of the status, the text, the faults and the input
+//! - `reading`: what words and a page ask for: `requested`; and what is written after: `written`
 #![tactic(auto)]
 
 pub mod answers;
 pub mod changes;
 pub mod explanations;
 pub mod headline;
+pub mod reading;
 pub mod refusals;
 pub mod summary;
 pub mod worked_lines;

@@ -1,3 +1,4 @@
+pub mod nests
 pub mod shows
 pub mod sizes
 pub mod orders

@@ -9,9 +9,11 @@
 //! - `trees`: a least tree that shows a pair, as it is built, in rows
 //! - `pairs`: the pair of a fault, by number
 //! - `examples`: `example`: an example of a schedule's first fault
+//! - `nests`: the same of a schedule with nests: `nest_example`
 #![tactic(auto)]
 
 pub mod examples;
+pub mod nests;
 pub mod orders;
 pub mod pairs;
 pub mod shows;

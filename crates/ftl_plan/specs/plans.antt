@@ -8,4 +8,4 @@ pub mod PlanInside
 pub mod InputWords
 pub mod StageTables
 pub mod StageWords
-pub use Rattle.ftl_limits.specs.faults.PlanFaults
+pub use Rattle.ftl_step_value.specs.limits.faults.PlanFaults

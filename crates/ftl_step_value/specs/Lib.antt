@@ -1,3 +1,4 @@
+pub mod limits
 pub mod cells
 pub mod neighbours
 pub mod value

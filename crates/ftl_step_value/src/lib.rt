@@ -5,12 +5,15 @@
 //! - `cells`: `target_cell`, `read_count`, `StepReads`: the cells of a step
 //! - `neighbours`: the cells of a step, found quickly where all are of the node, the kid at hand
 //!   and the kid before
-//! - `forms`: `rule_form`, `form_at`: how a step computes, where a few cells of neighbours are all that it needs
+//! - `forms`: `rule_form`, `form_at`: how a step computes, where a few cells of neighbours are all
+//!   that it needs
 //! - `value`: `step_value`: the value of a step; `copied_cell`: which cell it copies
+//! - `limits`: `first_fault`: the first stage or step that reads more than it may
 #![tactic(auto)]
 
 pub mod cells;
 pub mod forms;
+pub mod limits;
 pub mod neighbours;
 pub mod value;
 

@@ -15,10 +15,10 @@ pub mod refusals;
 pub mod rules;
 
 pub use building::Builder;
+pub use ftl_answer::reading::Status;
 pub use ftl_base::{Val, Width};
 pub use ftl_edits::{Edit, EditList};
 pub use ftl_page::Section;
-pub use ftl_requests::Status;
 pub use ftl_tree::InstanceList;
 pub use pages::{Node, Nodes, Page, Reads};
 pub use refusals::Refusal;

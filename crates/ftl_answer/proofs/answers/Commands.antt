@@ -6,8 +6,8 @@ use Rattle.std.specs.Str.{IsUtf8}
 use Rattle.std.proofs.lemmas.Bool.{ltb-false}
 use Rattle.std.proofs.lemmas.Str.{IsUtf8-nil}
 use Rattle.ftl_edits.specs.declared.meaning.types.Edit.{Edit}
-use Rattle.ftl_nest_example.specs.examples.NestExamples.{NestExamplesBySize}
-use Rattle.ftl_nest_example.specs.pairs.NestPair.{NestFaultsHavePairs}
+use Rattle.ftl_example.specs.nests.examples.NestExamples.{NestExamplesBySize}
+use Rattle.ftl_example.specs.nests.pairs.NestPair.{NestFaultsHavePairs}
 use Rattle.ftl_model.specs.layout.Table.{value_in}
 use Rattle.ftl_model.specs.layout.Tree.{Forest}
 use Rattle.ftl_model.specs.layout.TreeOf.{IsTreeOf}

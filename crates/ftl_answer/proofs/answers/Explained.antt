@@ -14,9 +14,9 @@ use Rattle.ftl_order.specs.declared.faults.fault.VerifyFault.TheVariants as veri
 use Rattle.ftl_nest_check.specs.check.NestFault.{first_nest_fault}
 use Rattle.ftl_nest_check.specs.stages.Nested.{nests_of}
 use Rattle.ftl_nest_check.specs.declared.stages.types.NestingSchedule.{NestingSchedule}
-use Rattle.ftl_nest_example.specs.examples.NestExamples.{HasNestExample, NestExamplesBySize, NestSizeSays}
-use Rattle.ftl_nest_example.specs.pairs.NestPair.{NestFaultsHavePairs}
-use Rattle.ftl_nest_example.proofs.pairs.NestFaultPairs.{is_refused}
+use Rattle.ftl_example.specs.nests.examples.NestExamples.{HasNestExample, NestExamplesBySize, NestSizeSays}
+use Rattle.ftl_example.specs.nests.pairs.NestPair.{NestFaultsHavePairs}
+use Rattle.ftl_example.proofs.nests.pairs.NestFaultPairs.{is_refused}
 use Rattle.ftl_nest_text.proofs.reading.NestRead.{read_kept}
 use Rattle.ftl_nests.specs.Nests.{nest_placing_of, outer_schedule}
 use Rattle.ftl_order.proofs.faults.Entries.{stands_once}

@@ -31,7 +31,7 @@ use Rattle.ftl_tree.specs.trees.CheckedTree.{CheckedTree}
 use Rattle.ftl_document.specs.reading.ReadTree.{IsTreeRead, ReadsTree}
 use Rattle.ftl_document.proofs.reading.Widths.{fields_within}
 use Rattle.ftl_document.proofs.reading.ReadOnce.{any_two_trees, some_tree}
-use Rattle.ftl_limits.specs.faults.PlanFaults.{first_fault}
+use Rattle.ftl_step_value.specs.limits.faults.PlanFaults.{first_fault}
 use Rattle.ftl_answer.specs.refusals.DocumentLines.{document_line}
 use Rattle.ftl_answer.specs.refusals.PlanLines.{plan_line}
 use Rattle.ftl_answer.specs.refusals.TextLines.{token_line}

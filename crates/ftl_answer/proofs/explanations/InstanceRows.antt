@@ -6,7 +6,7 @@ use Rattle.std.specs.Prelude.{codes}
 use Rattle.std.proofs.lemmas.List.{flat_map_more, get_or-map, length-map, map-append, take_all, take_more}
 use Rattle.ftl_checked.proofs.lookup.AttrInfos.{attribute_count_is}
 use Rattle.ftl_deps.specs.reads.Meant.{meant}
-use Rattle.ftl_limits.proofs.reads.Entries.{Entry, attribute_in_range, class_entry}
+use Rattle.ftl_step_value.proofs.limits.reads.Entries.{Entry, attribute_in_range, class_entry}
 use Rattle.ftl_meaning.specs.faults.Checked.{all_attributes, attribute_at}
 use Rattle.ftl_meaning.specs.lawful.Faultless.{IsFaultless}
 use Rattle.ftl_meaning.proofs.lawful.Lawfulness.{faultless_lawful}

@@ -25,7 +25,7 @@ use Rattle.ftl_page.specs.declared.sections.fault.Section.{Section}
 use Rattle.ftl_page.specs.declared.sections.fault.Section.TheVariants as section
 use Rattle.ftl_page.specs.declared.sections.page.Need.{Need}
 use Rattle.ftl_page.specs.declared.sections.page.Page.{Page}
-use Rattle.ftl_limits.specs.faults.PlanFaults as plans
+use Rattle.ftl_step_value.specs.limits.faults.PlanFaults as plans
 use Rattle.ftl_answer.specs.refusals.CircularLines.{circular_line}
 use Rattle.ftl_answer.specs.refusals.DocumentLines.{document_line}
 use Rattle.ftl_answer.specs.refusals.EditLines.{edit_line}

@@ -13,8 +13,8 @@ use Rattle.ftl_model.specs.layout.Solves.{Instance}
 use Rattle.ftl_model.specs.layout.Tree.{Forest, size}
 use Rattle.ftl_nest_check.specs.stages.Nested.{nests_of}
 use Rattle.ftl_nest_check.specs.declared.stages.types.NestingSchedule.{NestingSchedule}
-use Rattle.ftl_nest_example.specs.examples.NestExamples.{IsNumberedNestExample}
-use Rattle.ftl_nest_example.specs.pairs.NestPair.{IsNestFaultPair}
+use Rattle.ftl_example.specs.nests.examples.NestExamples.{IsNumberedNestExample}
+use Rattle.ftl_example.specs.nests.pairs.NestPair.{IsNestFaultPair}
 use Rattle.ftl_order.specs.orders.Pairs.{Pair}
 
 -- ---- texts

@@ -20,8 +20,8 @@ use Rattle.ftl_schedule.specs.text.ScheduleText.{schedule_text}
 use Rattle.ftl_nest_check.specs.check.NestFault.{first_nest_fault}
 use Rattle.ftl_nest_check.specs.declared.stages.types.NestingSchedule.{NestingSchedule}
 use Rattle.ftl_nest_check.specs.stages.Nested.{nests_of}
-use Rattle.ftl_nest_example.specs.examples.NestExamples.{IsNestExample}
-use Rattle.ftl_nest_example.specs.pairs.NestPair.{IsNestFaultPair}
+use Rattle.ftl_example.specs.nests.examples.NestExamples.{IsNestExample}
+use Rattle.ftl_example.specs.nests.pairs.NestPair.{IsNestFaultPair}
 use Rattle.ftl_nest_text.specs.printing.NestWritten.{nest_written_of}
 use Rattle.ftl_nest_text.specs.reading.NestReading.{IsNestRead}
 use Rattle.ftl_nest_text.specs.text.NestText.{nesting_schedule_text}

@@ -31,7 +31,7 @@ use Rattle.ftl_order.specs.automatic.Automatic.{IsAutomatic, IsStuck}
 use Rattle.ftl_document.specs.declared.faults.fault.DocFault.TheVariants as document
 use Rattle.ftl_tree.specs.trees.CheckedTree.{CheckedTree}
 use Rattle.ftl_document.specs.reading.ReadTree.{ReadsTree}
-use Rattle.ftl_limits.specs.faults.PlanFaults as plans
+use Rattle.ftl_step_value.specs.limits.faults.PlanFaults as plans
 use Rattle.ftl_noncircular.specs.search.Circles.{TellsCircles}
 use Rattle.ftl_noncircular.specs.declared.search.fault.CircularFault.TheVariants as circles
 use Rattle.ftl_edits.specs.declared.meaning.types.Edit.{Edit}

@@ -8,7 +8,7 @@ use Rattle.ftl_model.specs.layout.AttributeGrammar.{attributes_of}
 use Rattle.ftl_model.specs.layout.Path.{class_at, node_at, number_of, top}
 use Rattle.ftl_model.specs.layout.Solves.{Instance, instance_of}
 use Rattle.ftl_model.specs.layout.Table.{instance_count, instances}
-use Rattle.ftl_nest_example.specs.examples.NestExamples.{IsNumberedNestExample}
+use Rattle.ftl_example.specs.nests.examples.NestExamples.{IsNumberedNestExample}
 use Rattle.ftl_nests.specs.Nests.{NestingSchedule}
 use Rattle.ftl_order.specs.orders.Pairs.{Pair}
 use Rattle.ftl_tree.specs.trees.CheckedTree.{CheckedTree}

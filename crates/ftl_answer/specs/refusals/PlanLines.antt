@@ -1,8 +1,8 @@
 -- The lines that refuse documents whose stages read too much.
 use Rattle.std.specs.Prelude.{ℕ, List, [], ◌++◌, codes}
 use Rattle.std.specs.Fmt.{decimal}
-use Rattle.ftl_limits.specs.declared.faults.fault.PlanFault.{PlanFault}
-use Rattle.ftl_limits.specs.declared.faults.fault.PlanFault.TheVariants as fault
+use Rattle.ftl_step_value.specs.declared.limits.faults.fault.PlanFault.{PlanFault}
+use Rattle.ftl_step_value.specs.declared.limits.faults.fault.PlanFault.TheVariants as fault
 
 -- the first fault of a plan
 abbrev pub plan_line : PlanFault → List ℕ

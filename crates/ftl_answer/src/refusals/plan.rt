@@ -5,7 +5,7 @@ ghost use Rattle.std.specs.Fmt.{decimal};
 ghost use Rattle.ftl_answer.specs.refusals.PlanLines.{plan_line};
 
 use crate::refusals::pieces::{numbered, numbered_large};
-use ftl_limits::PlanFault;
+use ftl_step_value::limits::PlanFault;
 use std::alloc::AllocError;
 
 /// Adds the line of a plan's first fault.

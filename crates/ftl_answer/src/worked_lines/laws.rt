@@ -13,7 +13,7 @@ ghost use Rattle.ftl_answer.specs.answers.Answers.{touched_line};
 ghost use Rattle.ftl_answer.specs.refusals.EditLines.{edit_line};
 ghost use Rattle.ftl_answer.specs.refusals.GrammarLines.{what_text};
 ghost use Rattle.ftl_answer.specs.refusals.Names.{read_text};
-ghost use Rattle.ftl_limits.specs.declared.faults.fault.PlanFault.TheVariants as plan;
+ghost use Rattle.ftl_step_value.specs.declared.limits.faults.fault.PlanFault.TheVariants as plan;
 ghost use Rattle.ftl_answer.specs.refusals.PageLines.{too_long_line, words_line};
 ghost use Rattle.ftl_answer.specs.refusals.PlanLines.{plan_line};
 ghost use Rattle.ftl_answer.specs.refusals.ScheduleLines.{stuck_line, verify_line};

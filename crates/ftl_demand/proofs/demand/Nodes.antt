@@ -2,8 +2,8 @@
 use Rattle.std.proofs.Common.{◌≡◌, ◌≢◌, ℕ, ◌<◌, List, Contains, get_or, length, sym, ◌∙◌, ap, subst}
 use Rattle.std.proofs.lemmas.List.Elements.{Contains-get_or}
 use Rattle.ftl_deps.specs.reads.Meant.{meant}
-use Rattle.ftl_limits.proofs.reads.Entries.{class_entry}
-use Rattle.ftl_limits.specs.reads.ReadTables.{class_in}
+use Rattle.ftl_step_value.proofs.limits.reads.Entries.{class_entry}
+use Rattle.ftl_step_value.specs.limits.reads.ReadTables.{class_in}
 use Rattle.ftl_model.specs.layout.AttributeGrammar.{attributes_of}
 use Rattle.ftl_model.specs.layout.Tree.{size}
 use Rattle.ftl_model.specs.layout.TreeOf.{IsTreeOf}

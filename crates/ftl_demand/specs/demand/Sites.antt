@@ -2,7 +2,7 @@
 use Rattle.std.specs.Prelude.{◌≡◌, ℕ, ◌<◌, true, List, Contains, length, map, slice_index}
 use Rattle.ftl_deps.specs.parts.RuleParts.{read_meant}
 use Rattle.ftl_deps.specs.reads.Meant.{meant}
-use Rattle.ftl_limits.specs.reads.ReadTables.{AreTables, IsSound, class_in, instance_in}
+use Rattle.ftl_step_value.specs.limits.reads.ReadTables.{AreTables, IsSound, class_in, instance_in}
 use Rattle.ftl_model.specs.layout.AttributeGrammar.{reads_in}
 use Rattle.ftl_model.specs.layout.Solves.{Instance, IsInstance}
 use Rattle.ftl_model.specs.layout.Table.{instance_count, instance_number}

@@ -1,7 +1,7 @@
 //! The words of the values that solve a tree.
 ghost use Rattle.std.specs.Prelude.{◌≡◌, ◌≢◌, ◌<◌, ◌≤◌, ℕ, [], IfOk, OnOk};
 ghost use Rattle.ftl_deps.specs.reads.Meant.{meant};
-ghost use Rattle.ftl_limits.specs.reads.ReadTables.{class_in, instance_in};
+ghost use Rattle.ftl_step_value.specs.limits.reads.ReadTables.{class_in, instance_in};
 ghost use Rattle.ftl_model.specs.layout.Solves.{Instance, IsInstance};
 ghost use Rattle.ftl_model.specs.layout.Tree.{size};
 ghost use Rattle.ftl_order.specs.orders.Lawful.{OfClass};
@@ -16,10 +16,10 @@ use crate::demand::waiting::{Buffers, NodeAttr, Site, Waiting};
 use crate::demand::writer::own_rule;
 use ftl_base::CodeStack;
 use ftl_checked::Checked;
-use ftl_limits::{ReadTables, is_sound};
 use ftl_noncircular::{Noncircular, chains_of_reads_end, one_list_where_noncircular};
 use ftl_order::values_are_in_range;
 use ftl_plan::first_words;
+use ftl_step_value::limits::{ReadTables, is_sound};
 use ftl_step_value::{neighbour_parts, rule_copies};
 use ftl_tree::Tree;
 use ftl_visit::Programs;

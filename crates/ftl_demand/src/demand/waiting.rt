@@ -1,8 +1,8 @@
 //! Steps that wait, and what they wait for.
 use ftl_base::{CodeStack, Val};
 use ftl_deps::PartRead;
-use ftl_limits::ReadTables;
 use ftl_order::Step;
+use ftl_step_value::limits::ReadTables;
 use ftl_step_value::{NeighbourParts, RuleCopy};
 use ftl_tree::Tree;
 use ftl_visit::{Part, Programs};

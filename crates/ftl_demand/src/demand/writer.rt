@@ -1,7 +1,7 @@
 //! The step that computes an attribute of a node.
 ghost use Rattle.std.specs.Prelude.{◌≡◌, ◌≢◌, ◌<◌, None, Some};
 ghost use Rattle.ftl_deps.specs.reads.Meant.{meant};
-ghost use Rattle.ftl_limits.specs.reads.ReadTables.{AreTables, IsSound, class_in};
+ghost use Rattle.ftl_step_value.specs.limits.reads.ReadTables.{AreTables, IsSound, class_in};
 ghost use Rattle.ftl_model.specs.layout.AttributeGrammar.{input};
 ghost use Rattle.ftl_model.specs.layout.Tree.{size};
 ghost use Rattle.ftl_order.specs.orders.Lawful.{OfClass};
@@ -10,8 +10,8 @@ ghost use Rattle.ftl_visit.specs.visits.Visits.{rule_number};
 ghost use Rattle.ftl_demand.specs.demand.Sites.{IsAttr, IsSite, instance_at};
 
 use crate::demand::waiting::{NodeAttr, Site};
-use ftl_limits::ReadTables;
 use ftl_order::Step;
+use ftl_step_value::limits::ReadTables;
 use ftl_tree::Tree;
 
 /// The step that computes an attribute that is no input.

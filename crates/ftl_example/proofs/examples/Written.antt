@@ -13,8 +13,8 @@ use Rattle.ftl_order.specs.orders.Pairs.{Pair}
 use Rattle.ftl_order.specs.steps.Steps.{IsStepOf, rule_at, target_of}
 use Rattle.ftl_deps.specs.parts.RuleParts.{parts_named}
 use Rattle.ftl_deps.specs.reads.Meant.{meant}
-use Rattle.ftl_limits.specs.reads.ReadTables.{IsSound}
-use Rattle.ftl_limits.proofs.reads.RuleReads.{rule_may_stand}
+use Rattle.ftl_step_value.specs.limits.reads.ReadTables.{IsSound}
+use Rattle.ftl_step_value.proofs.limits.reads.RuleReads.{rule_may_stand}
 use Rattle.ftl_step_value.proofs.cells.StepRules.{reads_there, seen_at, target_there}
 use Rattle.ftl_step_value.specs.cells.ReadCells.{filled_cell}
 use Rattle.ftl_step_value.specs.cells.Seen.{IsThere, cell_seen}

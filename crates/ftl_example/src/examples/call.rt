@@ -7,7 +7,7 @@ ghost use Rattle.ftl_example.specs.examples.Numbered.{IsFaultPair, IsNumberedExa
 ghost use Rattle.ftl_example.specs.pairs.PairMeant.{pair_meant};
 ghost use Rattle.ftl_example.specs.shows.Examples.{AllAreLarger, NoneShows};
 ghost use Rattle.ftl_example.specs.sizes.PlaceTable.{IsKnownPair};
-ghost use Rattle.ftl_limits.specs.reads.ReadTables.{IsSound};
+ghost use Rattle.ftl_step_value.specs.limits.reads.ReadTables.{IsSound};
 ghost use Rattle.ftl_model.specs.layout.Tree.{size};
 ghost use Rattle.ftl_order.specs.declared.faults.fault.VerifyFault.TheVariants.{Unordered};
 ghost use Rattle.ftl_order.specs.faults.FaultLaws.{AreComputed};
@@ -25,9 +25,9 @@ use crate::pairs::{RefusedPair, first_pair};
 use crate::trees::{ExampleFault, least_tree};
 use ftl_checked::Checked;
 use ftl_deps::DepTable;
-use ftl_limits::is_sound;
 use ftl_schedule::Schedule;
 use ftl_schedule::places::Placed;
+use ftl_step_value::limits::is_sound;
 use std::alloc::Global;
 
 /// An example of the pair by which a schedule is refused: a least tree that shows it, and an order

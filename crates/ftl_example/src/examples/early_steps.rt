@@ -4,7 +4,7 @@ ghost use Rattle.ftl_deps.specs.reads.Meant.{meant};
 ghost use Rattle.ftl_example.specs.examples.EarlySteps.{early_steps, is_early_step, is_in_half};
 ghost use Rattle.ftl_example.specs.examples.ShownSteps.{AreOfTree};
 ghost use Rattle.ftl_example.specs.orders.EarlyVisits.{is_near, is_over};
-ghost use Rattle.ftl_limits.specs.reads.ReadTables.{IsSound};
+ghost use Rattle.ftl_step_value.specs.limits.reads.ReadTables.{IsSound};
 ghost use Rattle.ftl_model.specs.layout.Path.{node_at};
 ghost use Rattle.ftl_model.specs.layout.Tree.{size};
 ghost use Rattle.ftl_order.specs.orders.Schedule.{placing_of};

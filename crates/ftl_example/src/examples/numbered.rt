@@ -5,7 +5,7 @@ ghost use Rattle.ftl_example.specs.examples.ShownOrders.{IsNumberedOrder};
 ghost use Rattle.ftl_example.specs.pairs.PairMeant.{pair_meant};
 ghost use Rattle.ftl_example.specs.shows.Shows.{Shows};
 ghost use Rattle.ftl_example.specs.sizes.PlaceTable.{IsKnownPair};
-ghost use Rattle.ftl_limits.specs.reads.ReadTables.{IsSound};
+ghost use Rattle.ftl_step_value.specs.limits.reads.ReadTables.{IsSound};
 ghost use Rattle.ftl_model.specs.layout.Solves.{Instance};
 ghost use Rattle.ftl_order.specs.orders.Ordered.{IsOrderedPair};
 ghost use Rattle.ftl_order.specs.orders.Pairs.{IsPair};

@@ -8,7 +8,7 @@ ghost use Rattle.ftl_cursors.specs.visits.VisitSteps.{AreVisits, steps_of_nodes}
 ghost use Rattle.ftl_deps.specs.reads.Meant.{meant};
 ghost use Rattle.ftl_example.specs.examples.PlainSteps.{steps_of_pass, steps_of_passes};
 ghost use Rattle.ftl_example.specs.orders.PlainOrder.{plain_order};
-ghost use Rattle.ftl_limits.specs.reads.ReadTables.{IsSound};
+ghost use Rattle.ftl_step_value.specs.limits.reads.ReadTables.{IsSound};
 ghost use Rattle.ftl_model.specs.layout.Path.{top};
 ghost use Rattle.ftl_model.specs.layout.Tree.{size};
 ghost use Rattle.ftl_order.specs.orders.Schedule.{EachStandsOnce};

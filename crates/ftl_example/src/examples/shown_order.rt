@@ -5,7 +5,7 @@ ghost use Rattle.ftl_deps.specs.reads.Meant.{meant};
 ghost use Rattle.ftl_example.specs.examples.ShownOrders.{ComputeWrongly};
 ghost use Rattle.ftl_example.specs.examples.ShownSteps.{AreOfTree, step_in};
 ghost use Rattle.ftl_example.specs.orders.PlainOrder.{plain_order};
-ghost use Rattle.ftl_limits.specs.reads.ReadTables.{IsSound};
+ghost use Rattle.ftl_step_value.specs.limits.reads.ReadTables.{IsSound};
 ghost use Rattle.ftl_order.specs.orders.LegalOrder.{MustPrecede};
 ghost use Rattle.ftl_order.specs.orders.Schedule.{EachStandsOnce};
 ghost use Rattle.ftl_order.specs.steps.Steps.{target_of};

@@ -12,7 +12,7 @@ ghost use Rattle.ftl_example.specs.examples.ShownSteps.{NoneIsFilled, NoneIsFoun
 ghost use Rattle.ftl_example.specs.examples.ShownSteps.{kids_at_hand};
 ghost use Rattle.ftl_example.specs.pairs.PairMeant.{pair_meant};
 ghost use Rattle.ftl_example.specs.sizes.PlaceTable.{IsKnownPair};
-ghost use Rattle.ftl_limits.specs.reads.ReadTables.{IsSound};
+ghost use Rattle.ftl_step_value.specs.limits.reads.ReadTables.{IsSound};
 ghost use Rattle.ftl_order.specs.orders.Pairs.{IsPair};
 ghost use Rattle.ftl_order.specs.steps.Steps.{IsStepOf, rule_at};
 

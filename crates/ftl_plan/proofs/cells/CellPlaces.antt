@@ -13,7 +13,7 @@ use Rattle.ftl_model.proofs.layout.Numbering.{length-preorder, number_of-node_at
 use Rattle.ftl_order.specs.orders.Lawful.{IsLawful}
 use Rattle.ftl_order.proofs.orders.Instances.{instance_at_number}
 use Rattle.ftl_order.proofs.orders.Owners.{class_distinct}
-use Rattle.ftl_limits.proofs.reads.Entries.{class_in_range, there, whole}
+use Rattle.ftl_step_value.proofs.limits.reads.Entries.{class_in_range, there, whole}
 use Rattle.ftl_items.specs.stage_items.StageWork.{kind_by, kind_by_stage, no_instance}
 use Rattle.ftl_plan.specs.cells.NodeCells.{IsCellOf}
 

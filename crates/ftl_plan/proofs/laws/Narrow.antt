@@ -14,8 +14,8 @@ use Rattle.ftl_order.specs.orders.LegalOrder.{IsStep}
 use Rattle.ftl_order.specs.orders.Reads.{reads_of}
 use Rattle.ftl_order.specs.orders.Schedule.{Schedule, placing_of}
 use Rattle.ftl_order.proofs.orders.Instances.{is_listed_instance}
-use Rattle.ftl_limits.specs.faults.PlanFaults.{first_fault, first_of_stages, step_too_wide, too_many_reads}
-use Rattle.ftl_limits.specs.declared.faults.fault.PlanFault.{PlanFault}
+use Rattle.ftl_step_value.specs.limits.faults.PlanFaults.{first_fault, first_of_stages, step_too_wide, too_many_reads}
+use Rattle.ftl_step_value.specs.declared.limits.faults.fault.PlanFault.{PlanFault}
 
 none_mapped : {X : Type 0} (f : X → PlanFault) (o : Option X) → option_map f o ≡ None → o ≡ None
 none_mapped f None e = refl

@@ -10,7 +10,7 @@ use Rattle.ftl_cells.specs.shared.Shape.{HasStep, WorkShape, listed, listing}
 use Rattle.ftl_cells.specs.shared.Work.{Meaning, IsStepOfItem, cell_total, item_total, kind_at, next_at, next_total, pred_total, read_total, reads_of_step, solution_at, step_total, target_of as cell_of}
 use Rattle.ftl_cells.proofs.shared.Shapes.{cell_total-listed, has_step, item_below, item_total-listed, kind_at-listed, next_at-listed, next_total-listed, pred_total-listed, read_total-listed, reads_of_step-listed, solution_at-listed, step_total-listed, target_of-listed}
 use Rattle.ftl_deps.specs.reads.Meant.{meant}
-use Rattle.ftl_limits.specs.reads.ReadTables.{AreTables, IsSound}
+use Rattle.ftl_step_value.specs.limits.reads.ReadTables.{AreTables, IsSound}
 use Rattle.ftl_cursors.specs.item_cursor.ItemSteps.{AreStepsOf, no_step}
 use Rattle.ftl_cursors.specs.items.StageItems.{cuts_in, hosts_in, items_in, passes_in}
 use Rattle.ftl_host_cursors.specs.NestTables.{IsNestCursorOf, nest_steps_left, nesting_passes, own_pass}

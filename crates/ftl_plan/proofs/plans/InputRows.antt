@@ -15,7 +15,7 @@ use Rattle.ftl_model.specs.layout.TreeOf.{IsTreeOf}
 use Rattle.ftl_model.proofs.layout.Standing.{node_at-number_of, number_of-lt}
 use Rattle.ftl_order.specs.orders.Lawful.{IsLawful, OfClass}
 use Rattle.ftl_order.proofs.orders.Instances.{Numbered, instance_at_number, length-instances, number_within, numbered}
-use Rattle.ftl_limits.proofs.reads.Entries.{class_entry, there, whole}
+use Rattle.ftl_step_value.proofs.limits.reads.Entries.{class_entry, there, whole}
 use Rattle.ftl_plan.specs.plans.InputWords.{AreInputsSet, AreSet, HoldsItsFirst, inputs_by_class}
 use Rattle.ftl_plan.proofs.plans.Inputs.{input_listed}
 

@@ -8,7 +8,7 @@ use Rattle.ftl_cells.specs.declared.shared.kind.CellKind.TheVariants.{Given, Tar
 use Rattle.ftl_cells.proofs.shared.Shapes.{cell_total-listed, kind_at-listed}
 use Rattle.ftl_items.specs.stage_items.Items.{PassForm}
 use Rattle.ftl_items.specs.stage_items.StageWork.{kind_by, kind_by_stage, kind_of, no_instance, work_by}
-use Rattle.ftl_limits.proofs.reads.Entries.{whole}
+use Rattle.ftl_step_value.proofs.limits.reads.Entries.{whole}
 use Rattle.ftl_model.specs.layout.AttributeGrammar.{AttributeGrammar, Sort, attributes_of, inherited, input, local, synthesized}
 use Rattle.ftl_model.specs.layout.Path.{class_at, number_of}
 use Rattle.ftl_model.specs.layout.Solves.{Instance, IsInstance}

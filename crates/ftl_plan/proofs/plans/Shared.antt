@@ -49,7 +49,7 @@ use Rattle.ftl_schedule.proofs.places.placed.Placed.TheSendSync as placed
 use Rattle.ftl_schedule.specs.contracts.check.accepted.Accepted as Accepted
 use Rattle.ftl_schedule.specs.contracts.check.accepted.Accepted.TheInside as accepted_inside
 use Rattle.ftl_visit.proofs.compiled.programs.Programs.TheSendSync as programs
-use Rattle.ftl_limits.proofs.reads.tables.ReadTables.TheSendSync as reads
+use Rattle.ftl_step_value.proofs.limits.reads.tables.ReadTables.TheSendSync as reads
 use Rattle.ftl_step_value.proofs.neighbours.parts.NeighbourParts.TheSendSync as neighbours
 use Rattle.ftl_step_value.proofs.forms.step_form.RuleForm.TheSendSync as form
 use Rattle.ftl_plan.specs.contracts.plans.parts.StageParts as StageParts

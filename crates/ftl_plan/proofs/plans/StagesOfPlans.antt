@@ -6,7 +6,7 @@ use Rattle.std.proofs.lemmas.Simd.{map-map}
 use Rattle.std.proofs.Math.ListN.{get_or-map as same_or-map}
 use Rattle.ftl_deps.specs.reads.Meant.{meant}
 use Rattle.ftl_meaning.specs.faults.Checked.{CheckedGrammar}
-use Rattle.ftl_limits.specs.reads.ReadTables.{AreTables, IsSound}
+use Rattle.ftl_step_value.specs.limits.reads.ReadTables.{AreTables, IsSound}
 use Rattle.ftl_cursors.specs.item_cursor.ItemSteps.{forest_in}
 use Rattle.ftl_cursors.specs.items.HostRows.{hosts_by}
 use Rattle.ftl_cursors.specs.items.StageItems.{pass_numbered}

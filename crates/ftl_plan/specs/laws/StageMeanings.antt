@@ -14,7 +14,7 @@ use Rattle.ftl_order.specs.orders.Reads.{reads_of}
 use Rattle.ftl_nests.specs.NestItems.{nest_work, pass_count}
 use Rattle.ftl_nests.specs.Nests.{IsNestOrdered, NestingSchedule, outer_schedule}
 use Rattle.ftl_nests.specs.WorkLaws.{NoInorderNests}
-use Rattle.ftl_limits.specs.faults.PlanFaults.{first_fault}
+use Rattle.ftl_step_value.specs.limits.faults.PlanFaults.{first_fault}
 use Rattle.ftl_items.specs.solution.Solution.{solution}
 
 -- what a stage means; no step reads more cells than it may

@@ -1,13 +1,13 @@
 -- The fields of a plan.
 use Rattle.std.specs.Prelude.{◌≡◌, None, map}
 use Rattle.ftl_deps.specs.reads.Meant.{meant}
-use Rattle.ftl_limits.specs.reads.ReadTables.{AreTables, IsSound}
+use Rattle.ftl_step_value.specs.limits.reads.ReadTables.{AreTables, IsSound}
 use Rattle.ftl_step_value.specs.neighbours.NeighbourParts.{AreNeighbourParts}
 use Rattle.ftl_nests.specs.Nests.{outer_schedule}
 use Rattle.ftl_nest_check.specs.check.NestAccepted.{IsNestAccepted}
 use Rattle.ftl_nest_check.specs.stages.Nested.{nests_of}
 use Rattle.ftl_step_value.specs.forms.RuleForms.{AreForms}
-use Rattle.ftl_limits.specs.faults.PlanFaults.{first_fault}
+use Rattle.ftl_step_value.specs.limits.faults.PlanFaults.{first_fault}
 use Rattle.ftl_visit.specs.passes.VisitRows.{target_of}
 use Rattle.ftl_plan.specs.plans.Planned.{MayBePlanned, PlanMeaning}
 use Rattle.ftl_plan.specs.plans.PlannedStages.{AreStagesKept}

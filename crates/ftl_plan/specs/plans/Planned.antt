@@ -8,8 +8,8 @@ use Rattle.ftl_visit.specs.compiled.RuleCode.{Compiled, rule_codes}
 use Rattle.ftl_nest_check.specs.stages.Nested.{nests_of}
 use Rattle.ftl_nest_check.specs.declared.stages.types.NestingSchedule.{NestingSchedule}
 use Rattle.ftl_nests.specs.Nests.{outer_schedule}
-use Rattle.ftl_limits.specs.faults.PlanFaults.{first_fault}
-use Rattle.ftl_limits.specs.declared.faults.fault.PlanFault.{PlanFault}
+use Rattle.ftl_step_value.specs.limits.faults.PlanFaults.{first_fault}
+use Rattle.ftl_step_value.specs.declared.limits.faults.fault.PlanFault.{PlanFault}
 
 -- a grammar, a schedule, the code of the rules, a tree, and how many nodes an item has at most
 pub record PlanMeaning : Type 0 where

@@ -3,7 +3,7 @@ use Rattle.std.specs.Prelude.{◌≡◌, ℕ, List}
 use Rattle.ftl_cells.specs.shared.Work.{Meaning}
 use Rattle.ftl_deps.specs.reads.Meant.{meant}
 use Rattle.ftl_meaning.specs.faults.Checked.{CheckedGrammar}
-use Rattle.ftl_limits.specs.reads.ReadTables.{AreTables, IsSound}
+use Rattle.ftl_step_value.specs.limits.reads.ReadTables.{AreTables, IsSound}
 use Rattle.ftl_cursors.specs.item_cursor.ItemSteps.{forest_in, grammar_in}
 use Rattle.ftl_host_cursors.specs.NestTables.{AreNestTables, AreOfStage}
 use Rattle.ftl_items.specs.stage_items.Items.{PassForm}

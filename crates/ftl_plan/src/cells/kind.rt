@@ -2,16 +2,16 @@
 ghost use Rattle.std.specs.Prelude.{◌≡◌, ◌<◌, slice_index_or};
 ghost use Rattle.ftl_deps.specs.reads.Meant.{meant};
 ghost use Rattle.ftl_model.specs.layout.Table.{instance_count, instances};
-ghost use Rattle.ftl_limits.specs.reads.ReadTables.{AreTables, IsSound};
+ghost use Rattle.ftl_step_value.specs.limits.reads.ReadTables.{AreTables, IsSound};
 ghost use Rattle.ftl_items.specs.stage_items.StageWork.{kind_by_stage, kind_of, no_instance};
 ghost use Rattle.ftl_nests.specs.Nests.{outer_schedule};
 ghost use Rattle.ftl_nest_check.specs.stages.Nested.{nests_of};
 
 use crate::cells::node::attr_of_cell;
 use ftl_cells::CellKind;
-use ftl_limits::ReadTables;
 use ftl_nest_check::AcceptedNests;
 use ftl_schedule::is_input;
+use ftl_step_value::limits::ReadTables;
 use ftl_tree::Tree;
 
 /// The kind of a cell in an outer stage: an input is given, and what is computed is given after its

@@ -2,11 +2,11 @@
 ghost use Rattle.std.specs.Prelude.{◌≡◌, ◌<◌, slice_index_or};
 ghost use Rattle.ftl_deps.specs.reads.Meant.{meant};
 ghost use Rattle.ftl_model.specs.layout.Table.{instance_count, instances};
-ghost use Rattle.ftl_limits.specs.reads.ReadTables.{AreTables, IsSound};
+ghost use Rattle.ftl_step_value.specs.limits.reads.ReadTables.{AreTables, IsSound};
 ghost use Rattle.ftl_items.specs.stage_items.StageWork.{no_instance};
 ghost use Rattle.ftl_plan.specs.cells.NodeCells.{IsCellOf};
 
-use ftl_limits::ReadTables;
+use ftl_step_value::limits::ReadTables;
 use ftl_tree::Tree;
 
 /// The node that has a cell, by halving over where the cells of the nodes begin.

@@ -1,15 +1,15 @@
 //! Which stages fill a cell.
 ghost use Rattle.std.specs.Prelude.{◌≡◌, length, IfOk};
 ghost use Rattle.ftl_deps.specs.reads.Meant.{meant};
-ghost use Rattle.ftl_limits.specs.reads.ReadTables.{AreTables, IsSound};
+ghost use Rattle.ftl_step_value.specs.limits.reads.ReadTables.{AreTables, IsSound};
 ghost use Rattle.ftl_model.specs.layout.Tree.{size};
 ghost use Rattle.ftl_nest_check.specs.stages.Nested.{nests_of};
 ghost use Rattle.ftl_nests.specs.Nests.{outer_schedule};
 ghost use Rattle.ftl_plan.specs.plans.FilledStages.{AreClassesSet, AreSetForNodes, AreStagesSet};
 ghost use Rattle.ftl_plan.specs.plans.FilledStages.{StaySet};
 
-use ftl_limits::ReadTables;
 use ftl_nest_check::AcceptedNests;
+use ftl_step_value::limits::ReadTables;
 use ftl_tree::Tree;
 use std::alloc::{AllocError, Global};
 

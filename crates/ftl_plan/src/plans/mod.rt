@@ -28,7 +28,7 @@ mod words;
 mod work;
 
 pub use alone::solve_alone;
-pub use ftl_limits::PlanFault;
+pub use ftl_step_value::limits::PlanFault;
 pub use kept::PlanStage;
 pub use parts::StageParts;
 pub use phases::KindPhases;

@@ -8,9 +8,9 @@ ghost use Rattle.ftl_plan.specs.plans.StageParts.{steps_of};
 ghost use Rattle.ftl_plan.specs.plans.StageParts.{tree_of};
 
 use ftl_host_cursors::{NestCursor, NestTables, item_steps, step_at};
-use ftl_limits::ReadTables;
 use ftl_nest_check::AcceptedNests;
 use ftl_order::Step;
+use ftl_step_value::limits::ReadTables;
 use ftl_step_value::{NeighbourParts, RuleForm};
 use ftl_tree::Tree;
 use ftl_visit::Programs;

@@ -10,7 +10,7 @@ ghost use Rattle.ftl_nest_check.specs.stages.Nested.{nests_of};
 ghost use Rattle.ftl_plan.specs.plans.FilledStages.{TellFilling};
 ghost use Rattle.ftl_plan.specs.plans.Planned.{MayBePlanned, planned};
 ghost use Rattle.ftl_plan.specs.plans.StageTables.{AreTablesOf, stage_in};
-ghost use Rattle.ftl_limits.specs.declared.faults.fault.PlanFault.TheVariants.{OutOfMemory};
+ghost use Rattle.ftl_step_value.specs.declared.limits.faults.fault.PlanFault.TheVariants.{OutOfMemory};
 
 use crate::plans::filled::marks_for_nodes;
 use crate::plans::hosts::nest_hosts;
@@ -22,8 +22,8 @@ use crate::plans::work::StageWork;
 use ftl_checked::Checked;
 use ftl_cursors::{ItemTables, StageItems, TreeRows};
 use ftl_host_cursors::NestTables;
-use ftl_limits::{PlanFault, ReadTables, first_fault, is_sound};
 use ftl_nest_check::AcceptedNests;
+use ftl_step_value::limits::{PlanFault, ReadTables, first_fault, is_sound};
 use ftl_step_value::{NeighbourParts, RuleForm, neighbour_parts, rule_forms};
 use ftl_tree::Tree;
 use ftl_visit::{Programs, RuleTarget, rule_targets};

@@ -1,7 +1,8 @@
 //! The words of cells before the first stage.
 ghost use Rattle.std.specs.Prelude.{◌≡◌, ◌<◌, filter, length, replicate, slice_index_or, IfOk};
 ghost use Rattle.ftl_deps.specs.reads.Meant.{meant};
-ghost use Rattle.ftl_limits.specs.reads.ReadTables.{AreTables, IsSound, class_in, instance_in};
+ghost use Rattle.ftl_step_value.specs.limits.reads.ReadTables.{AreTables, IsSound, class_in};
+ghost use Rattle.ftl_step_value.specs.limits.reads.ReadTables.{instance_in};
 ghost use Rattle.ftl_items.specs.stage_items.WordLaws.{first_word, first_words};
 ghost use Rattle.ftl_model.specs.layout.AttributeGrammar.{class_inputs, is_input, input};
 ghost use Rattle.ftl_model.specs.layout.Path.{node_at};
@@ -11,8 +12,8 @@ ghost use Rattle.ftl_plan.specs.plans.InputWords.{AreInputsSet, inputs_by_class}
 
 use ftl_base::{Val, word_of};
 use ftl_checked::Checked;
-use ftl_limits::ReadTables;
 use ftl_schedule::is_input;
+use ftl_step_value::limits::ReadTables;
 use ftl_tree::Tree;
 use sqlite_items::Items;
 use std::alloc::{AllocError, Global};

@@ -2,7 +2,7 @@
 use Rattle.std.proofs.Common.{◌≡◌, ℕ, zero, suc, ◌+◌, ◌<◌, ◌≤◌, ◌==◌, Bool, true, false, if◌then◌else◌, cond, ltb, ltb-true, ltb-false, refl, sym, subst, arith, eq-eqb, List, [], ◌∷◌, length, get_or, flat_map, count_by, Contains, length-append}
 use Rattle.std.proofs.lemmas.List.Sums.{sum_by-cons}
 use Rattle.ftl_deps.specs.reads.Meant.{meant}
-use Rattle.ftl_limits.specs.reads.ReadTables.{IsSound}
+use Rattle.ftl_step_value.specs.limits.reads.ReadTables.{IsSound}
 use Rattle.ftl_meaning.specs.faults.Checked.{CheckedGrammar}
 use Rattle.ftl_model.proofs.lists.Elements.{here_in, later_in}
 use Rattle.ftl_model.proofs.lists.Listed.{counted_in}

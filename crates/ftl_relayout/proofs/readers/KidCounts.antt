@@ -1,6 +1,6 @@
 -- A node has no more kids in a child than the tree has nodes.
 use Rattle.std.proofs.Common.{ℕ, suc, ◌+◌, ◌≤◌, ◌==◌, true, false, if◌then◌else◌, arith}
-use Rattle.ftl_limits.proofs.reads.Entries.{whole}
+use Rattle.ftl_step_value.proofs.limits.reads.Entries.{whole}
 use Rattle.ftl_model.proofs.layout.Standing.{has_parent}
 use Rattle.ftl_model.specs.layout.AttributeGrammar.{AttributeGrammar}
 use Rattle.ftl_model.specs.layout.Path.{Has, Path, at as tree_at, down, kids_at, number_of, size_at, top}

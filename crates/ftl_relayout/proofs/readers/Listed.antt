@@ -3,8 +3,8 @@ use Rattle.std.proofs.Common.{◌≡◌, ℕ, ◌<◌, List, [], ap, ◌∙◌, 
 use Rattle.std.proofs.lemmas.List.{get_or_default}
 use Rattle.std.proofs.lemmas.List.Elements.{Contains-get_or}
 use Rattle.ftl_deps.specs.reads.Products.{name_of_info}
-use Rattle.ftl_limits.proofs.reads.Entries.{class_in_range}
-use Rattle.ftl_limits.specs.reads.ReadTables.{class_in}
+use Rattle.ftl_step_value.proofs.limits.reads.Entries.{class_in_range}
+use Rattle.ftl_step_value.specs.limits.reads.ReadTables.{class_in}
 use Rattle.ftl_model.specs.layout.AttributeGrammar.{AttributeGrammar}
 use Rattle.ftl_model.specs.layout.Tree.{size}
 use Rattle.ftl_model.specs.layout.TreeOf.{IsTreeOf}

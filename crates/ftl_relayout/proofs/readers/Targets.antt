@@ -4,7 +4,7 @@ use Rattle.std.specs.Option.{IfSome}
 use Rattle.ftl_deps.specs.parts.RuleParts.{parts_named, read_meant}
 use Rattle.ftl_deps.specs.reads.Meant.{meant}
 use Rattle.ftl_deps.specs.reads.Products.{name_of_child, name_of_info}
-use Rattle.ftl_limits.proofs.reads.Entries.{there}
+use Rattle.ftl_step_value.proofs.limits.reads.Entries.{there}
 use Rattle.ftl_meaning.specs.declared.faults.info.RuleInfo.{RuleInfo}
 use Rattle.ftl_model.specs.layout.AttributeGrammar.{AttributeGrammar, Parts, Read, RuleName, first_then, fold_over, for_child, for_self, plain}
 use Rattle.ftl_model.specs.layout.Path.{class_at, down, kids_at, node_at, number_of}

@@ -1,6 +1,6 @@
 -- The node and the attribute that a key tells.
 use Rattle.std.proofs.Common.{◌≡◌, ℕ, ◌<◌, sym, ap, ap₂, ◌∙◌, subst}
-use Rattle.ftl_limits.proofs.reads.Entries.{attribute_in_range}
+use Rattle.ftl_step_value.proofs.limits.reads.Entries.{attribute_in_range}
 use Rattle.ftl_model.proofs.layout.Standing.{node_at-number_of}
 use Rattle.ftl_model.specs.layout.Path.{class_at, node_at, number_of}
 use Rattle.ftl_model.specs.layout.Solves.{Instance, instance_of}

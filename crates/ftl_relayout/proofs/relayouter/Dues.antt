@@ -9,7 +9,7 @@ use Rattle.ftl_model.specs.layout.Table.{instance_count}
 use Rattle.ftl_model.specs.layout.Tree.{Forest}
 use Rattle.ftl_model.specs.layout.Values.{Value, number, overflow}
 use Rattle.ftl_model.specs.layout.WithInput.{value_at}
-use Rattle.ftl_limits.proofs.reads.Entries.{attribute_in_range}
+use Rattle.ftl_step_value.proofs.limits.reads.Entries.{attribute_in_range}
 use Rattle.ftl_order.proofs.orders.Instances.{number_within}
 use Rattle.ftl_tree.proofs.rows.Access.{has_at}
 use Rattle.ftl_edits.specs.declared.meaning.types.Edit.{Edit}

@@ -2,7 +2,7 @@
 use Rattle.std.specs.Prelude.{◌≡◌, ◌⊎◌, ℕ, ◌<◌, ◌≤◌, List, Contains}
 use Rattle.ftl_deps.specs.reads.Meant.{meant}
 use Rattle.ftl_deps.specs.reads.Products.{name_of_info}
-use Rattle.ftl_limits.specs.reads.ReadTables.{instance_in}
+use Rattle.ftl_step_value.specs.limits.reads.ReadTables.{instance_in}
 use Rattle.ftl_model.specs.layout.Table.{instance_number}
 use Rattle.ftl_model.specs.layout.AttributeGrammar.{AttributeGrammar, Occurrence, RuleName}
 use Rattle.ftl_model.specs.layout.Path.{node_at}

@@ -2,8 +2,8 @@
 use Rattle.std.specs.Prelude.{◌≡◌, ℕ, ◌+◌, ◌≤◌, List}
 use Rattle.std.specs.List.Sorted.{IsStrictlyIncreasing}
 use Rattle.ftl_deps.specs.reads.Meant.{meant}
-use Rattle.ftl_limits.specs.declared.reads.tables.ReadTables.{ReadTables}
-use Rattle.ftl_limits.specs.reads.ReadTables.{AreTables, IsSound}
+use Rattle.ftl_step_value.specs.declared.limits.reads.tables.ReadTables.{ReadTables}
+use Rattle.ftl_step_value.specs.limits.reads.ReadTables.{AreTables, IsSound}
 use Rattle.ftl_schedule.specs.check.AcceptedSchedule.{AcceptedSchedule}
 use Rattle.ftl_relayout.specs.declared.keys.places.KeyPlace.{KeyPlace}
 use Rattle.ftl_relayout.specs.declared.readers.reader.Reader.{Reader}

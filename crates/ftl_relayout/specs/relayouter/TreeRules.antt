@@ -1,8 +1,8 @@
 -- The rules of a tree with what they are run by.
 use Rattle.std.specs.Prelude.{ℕ}
 use Rattle.ftl_deps.specs.reads.Meant.{meant}
-use Rattle.ftl_limits.specs.declared.reads.tables.ReadTables.{ReadTables}
-use Rattle.ftl_limits.specs.reads.ReadTables.{AreTables, IsSound}
+use Rattle.ftl_step_value.specs.declared.limits.reads.tables.ReadTables.{ReadTables}
+use Rattle.ftl_step_value.specs.limits.reads.ReadTables.{AreTables, IsSound}
 use Rattle.ftl_meaning.specs.faults.Checked.{CheckedGrammar}
 use Rattle.ftl_model.specs.layout.Tree.{Forest}
 use Rattle.ftl_order.specs.orders.Ordered.{IsOrdered}

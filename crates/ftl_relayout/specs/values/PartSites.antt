@@ -3,7 +3,7 @@ use Rattle.std.specs.Prelude.{◌≡◌, ℕ, ◌<◌, ◌≤◌, true, List, ma
 use Rattle.std.specs.Option.{IfSome}
 use Rattle.ftl_deps.specs.parts.RuleParts.{read_meant}
 use Rattle.ftl_deps.specs.reads.Meant.{meant}
-use Rattle.ftl_limits.specs.reads.ReadTables.{AreTables, IsSound}
+use Rattle.ftl_step_value.specs.limits.reads.ReadTables.{AreTables, IsSound}
 use Rattle.ftl_meaning.specs.faults.Checked.{CheckedGrammar}
 use Rattle.ftl_meaning.specs.grammars.Meaning.{sight}
 use Rattle.ftl_model.specs.layout.AttributeGrammar.{Occurrence, reads_in}

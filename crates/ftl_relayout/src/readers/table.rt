@@ -13,9 +13,9 @@ use crate::readers::lists::{list_count, list_of};
 use crate::readers::reader::{Reader, When};
 use ftl_checked::Checked;
 use ftl_deps::{PartRead, RuleParts};
-use ftl_limits::is_sound;
 use ftl_meaning::RuleInfo;
 use ftl_schedule::attribute_count;
+use ftl_step_value::limits::is_sound;
 use sqlite_items::Items;
 use std::alloc::{AllocError, Global};
 

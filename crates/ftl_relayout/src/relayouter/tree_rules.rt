@@ -7,7 +7,7 @@ use crate::queue::{Rules, Waiting};
 use crate::readers::{ReaderSite, add_readers, told_instance};
 use crate::values::{Buffers, Site, value_of, writer};
 use ftl_base::Val;
-use ftl_limits::ReadTables;
+use ftl_step_value::limits::ReadTables;
 use ftl_visit::Runner;
 use std::alloc::AllocError;
 use std::marker::Model;

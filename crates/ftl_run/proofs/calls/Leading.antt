@@ -9,20 +9,20 @@ use Rattle.ftl_model.specs.layout.Tree.{Forest}
 use Rattle.ftl_answer.specs.answers.Answers.{solved_anew}
 use Rattle.ftl_answer.specs.answers.Stages.{ends, hands_on}
 use Rattle.ftl_answer.specs.answers.Texts.{grammar, page}
-use Rattle.ftl_requests.specs.sections.Outcomes.{IsOutcome, answer_of}
-use Rattle.ftl_requests.specs.declared.sections.decision.Decided.{Decided}
-use Rattle.ftl_requests.specs.declared.sections.decision.Undecided.{Undecided}
-use Rattle.ftl_requests.specs.declared.sections.decision.Undecided.TheVariants.{OutOfMemory, Refused}
-use Rattle.ftl_requests.specs.requests.RulesAnswers.{EndsIn}
-use Rattle.ftl_requests.specs.requests.Requests.{IsAnsweredBy, evaluated, problem_stage}
-use Rattle.ftl_requests.specs.requests.ShownTexts.{text_shown}
+use Rattle.ftl_answer.specs.reading.sections.Outcomes.{IsOutcome, answer_of}
+use Rattle.ftl_answer.specs.declared.reading.sections.decision.Decided.{Decided}
+use Rattle.ftl_answer.specs.declared.reading.sections.decision.Undecided.{Undecided}
+use Rattle.ftl_answer.specs.declared.reading.sections.decision.Undecided.TheVariants.{OutOfMemory, Refused}
+use Rattle.ftl_answer.specs.reading.requests.RulesAnswers.{EndsIn}
+use Rattle.ftl_answer.specs.reading.requests.Requests.{IsAnsweredBy, evaluated, problem_stage}
+use Rattle.ftl_answer.specs.reading.requests.ShownTexts.{text_shown}
 use Rattle.ftl_run.specs.calls.SolvedPages.{LeadsTo, page_stage, rules_stage, task_stage}
-use Rattle.ftl_requests.specs.declared.requests.request.EditedPage.{EditedPage}
-use Rattle.ftl_requests.specs.declared.requests.request.Evaluation.{Evaluation}
-use Rattle.ftl_requests.specs.declared.requests.request.Problem.{Problem}
-use Rattle.ftl_requests.specs.declared.requests.request.Request.{Request}
-use Rattle.ftl_requests.specs.declared.requests.request.Request.TheVariants.{Edit, Solve}
-use Rattle.ftl_requests.specs.declared.requests.request.Undone.{Undone}
+use Rattle.ftl_answer.specs.declared.reading.requests.request.EditedPage.{EditedPage}
+use Rattle.ftl_answer.specs.declared.reading.requests.request.Evaluation.{Evaluation}
+use Rattle.ftl_answer.specs.declared.reading.requests.request.Problem.{Problem}
+use Rattle.ftl_answer.specs.declared.reading.requests.request.Request.{Request}
+use Rattle.ftl_answer.specs.declared.reading.requests.request.Request.TheVariants.{Edit, Solve}
+use Rattle.ftl_answer.specs.declared.reading.requests.request.Undone.{Undone}
 use Rattle.ftl_run.specs.declared.calls.solving.PageRead.{PageRead}
 use Rattle.ftl_run.specs.declared.calls.task.Task.{Task}
 

@@ -9,13 +9,13 @@ use Rattle.ftl_answer.specs.answers.Stages.{Stage, ends}
 use Rattle.ftl_answer.specs.headline.Headline.{AreTold, Call, GivesTheAnswer, HasCauses, IsAnswered, MatchesAnswer, OfTheBytes}
 use Rattle.ftl_answer.specs.headline.Headline.{SinkFailed, SourceFailed, bytes_answered, words_read}
 use Rattle.ftl_answer.specs.refusals.PageLines.{too_long_line}
-use Rattle.ftl_requests.specs.sections.Outcomes.{answer_of}
-use Rattle.ftl_requests.specs.declared.sections.decision.Decided.{Decided}
-use Rattle.ftl_requests.specs.requests.Requests.{MayEndAs, IsAnswerTo, IsAnsweredBy, IsAsked, IsTooLong, IsWritten}
-use Rattle.ftl_requests.specs.declared.requests.request.Request.{Request}
-use Rattle.ftl_requests.specs.declared.requests.request.Request.TheVariants.{Answered, Edit, Solve}
-use Rattle.ftl_requests.specs.declared.requests.request.Undone.{Undone}
-use Rattle.ftl_requests.specs.declared.requests.request.Undone.TheVariants.{OutOfMemory, ReadFault}
+use Rattle.ftl_answer.specs.reading.sections.Outcomes.{answer_of}
+use Rattle.ftl_answer.specs.declared.reading.sections.decision.Decided.{Decided}
+use Rattle.ftl_answer.specs.reading.requests.Requests.{MayEndAs, IsAnswerTo, IsAnsweredBy, IsAsked, IsTooLong, IsWritten}
+use Rattle.ftl_answer.specs.declared.reading.requests.request.Request.{Request}
+use Rattle.ftl_answer.specs.declared.reading.requests.request.Request.TheVariants.{Answered, Edit, Solve}
+use Rattle.ftl_answer.specs.declared.reading.requests.request.Undone.{Undone}
+use Rattle.ftl_answer.specs.declared.reading.requests.request.Undone.TheVariants.{OutOfMemory, ReadFault}
 
 -- the bytes that are told; where none are, none
 abbrev bytes_or_none : Option (List ℕ) → List ℕ

@@ -14,9 +14,9 @@ use Rattle.ftl_meaning.specs.grammars.GrammarOf.{names_of}
 use Rattle.ftl_model.specs.layout.Boxes.{shows_overflow}
 use Rattle.ftl_demand.specs.demand.Solved.{IsSolvedBy}
 use Rattle.ftl_run.specs.calls.ShownTables.{text_by}
-use Rattle.ftl_requests.specs.requests.ShownTexts.{text_shown}
-use Rattle.ftl_requests.specs.declared.requests.shown.Shown.{Shown}
-use Rattle.ftl_requests.specs.declared.requests.shown.Shown.TheVariants as shown
+use Rattle.ftl_answer.specs.reading.requests.ShownTexts.{text_shown}
+use Rattle.ftl_answer.specs.declared.reading.requests.shown.Shown.{Shown}
+use Rattle.ftl_answer.specs.declared.reading.requests.shown.Shown.TheVariants as shown
 
 pub back : WordsAreUndone → (values : List Value) → ((i : ℕ) → i < length values → IsValue (get_or values i overflow))
     → map value_of_word (map word_of_value values) ≡ values

@@ -7,8 +7,8 @@ use Rattle.ftl_model.specs.layout.Solves.{Instance}
 use Rattle.ftl_model.specs.layout.Values.{Value}
 use Rattle.ftl_tree.specs.trees.CheckedTree.{CheckedTree}
 use Rattle.ftl_answer.specs.answers.Summary.{summary}
-use Rattle.ftl_requests.specs.declared.requests.shown.Shown.{Shown}
-use Rattle.ftl_requests.specs.declared.requests.shown.Shown.TheVariants as shown
+use Rattle.ftl_answer.specs.declared.reading.requests.shown.Shown.{Shown}
+use Rattle.ftl_answer.specs.declared.reading.requests.shown.Shown.TheVariants as shown
 
 -- the text of a tree by the values of its instances
 abbrev pub text_by : Shown → CheckedTree → (Instance → Value) → List ℕ

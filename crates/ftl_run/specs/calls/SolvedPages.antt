@@ -9,10 +9,10 @@ use Rattle.ftl_nest_check.specs.declared.stages.types.NestingSchedule.{NestingSc
 use Rattle.ftl_answer.specs.answers.Answers.{document_text, edited_by, shown_by, text_or_none, with_rules}
 use Rattle.ftl_answer.specs.answers.Stages.{Outcome, Stage, Then, ends}
 use Rattle.ftl_answer.specs.answers.Texts.{edits, schedule, tree}
-use Rattle.ftl_requests.specs.sections.Outcomes.{answer_of}
-use Rattle.ftl_requests.specs.requests.ShownTexts.{text_shown}
-use Rattle.ftl_requests.specs.declared.sections.decision.Undecided.{Undecided}
-use Rattle.ftl_requests.specs.declared.sections.decision.Undecided.TheVariants.{OutOfMemory, Refused}
+use Rattle.ftl_answer.specs.reading.sections.Outcomes.{answer_of}
+use Rattle.ftl_answer.specs.reading.requests.ShownTexts.{text_shown}
+use Rattle.ftl_answer.specs.declared.reading.sections.decision.Undecided.{Undecided}
+use Rattle.ftl_answer.specs.declared.reading.sections.decision.Undecided.TheVariants.{OutOfMemory, Refused}
 use Rattle.ftl_run.specs.declared.calls.solving.PageRead.{PageRead}
 use Rattle.ftl_run.specs.declared.calls.solving.Rules.{Rules}
 use Rattle.ftl_run.specs.declared.calls.task.Task.{Task}

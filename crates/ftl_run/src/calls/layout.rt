@@ -5,9 +5,9 @@ ghost use Rattle.ftl_answer.specs.headline.Headline.{ReadsSoFar, call_of, texts}
 
 use crate::calls::alone::answered_alone;
 use crate::calls::workers::answered_by_workers;
+use ftl_answer::reading::{Status, requested, written};
 use ftl_answer::{answers_have_statuses, one_answer, one_table};
 use ftl_edge::{Gate, Sink, Source};
-use ftl_requests::{Status, requested, written};
 use std::alloc::Global;
 use std::sync::Wait;
 use std::thread::Threads;

@@ -16,6 +16,6 @@ mod workers;
 
 pub use alone::words_alone;
 pub use change::{values_of, words_of};
-pub use ftl_requests::Status;
+pub use ftl_answer::reading::Status;
 pub use layout::{layout_alone, layout_top};
 pub use workers::words_by_workers;

@@ -8,13 +8,13 @@ ghost use Rattle.ftl_deps.specs.reads.Meant.{meant};
 ghost use Rattle.ftl_meaning.specs.grammars.GrammarOf.{names_of};
 ghost use Rattle.ftl_model.specs.layout.Boxes.{shows_overflow};
 ghost use Rattle.ftl_model.specs.layout.Table.{instance_count};
-ghost use Rattle.ftl_requests.specs.sections.Outcomes.{answer_of};
-ghost use Rattle.ftl_requests.specs.requests.ShownTexts.{text_shown};
+ghost use Rattle.ftl_answer.specs.reading.sections.Outcomes.{answer_of};
+ghost use Rattle.ftl_answer.specs.reading.requests.ShownTexts.{text_shown};
 ghost use Rattle.ftl_demand.specs.demand.Solved.{IsSolvedBy};
 ghost use Rattle.ftl_run.specs.calls.ShownTables.{text_by};
 
+use ftl_answer::reading::{Decided, Shown, Status};
 use ftl_answer::{print_summary, write_touched};
-use ftl_requests::{Decided, Shown, Status};
 use ftl_tree::{Printed, Tree, print_boxes, shows_overflow, words_are_undone};
 use std::alloc::{AllocError, Global};
 

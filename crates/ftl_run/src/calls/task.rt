@@ -1,7 +1,7 @@
 //! What becomes of the tree of a page.
 
+use ftl_answer::reading::Shown;
 use ftl_page::Text;
-use ftl_requests::Shown;
 
 /// What becomes of the tree of a page.
 #[derive(Drop)]

@@ -6,12 +6,12 @@ ghost use Rattle.ftl_answer.specs.answers.Answers.{edited_by, shown_by, solved, 
 ghost use Rattle.ftl_answer.specs.answers.Stages.{ends};
 ghost use Rattle.ftl_edits.specs.meaning.Editable.{AreEditsOf};
 ghost use Rattle.ftl_deps.specs.reads.Meant.{meant};
-ghost use Rattle.ftl_limits.specs.faults.PlanFaults.{first_fault};
-ghost use Rattle.ftl_requests.specs.requests.RulesAnswers.{EndsIn};
-ghost use Rattle.ftl_requests.specs.requests.Requests.{IsAnsweredBy, problem_stage};
-ghost use Rattle.ftl_requests.specs.requests.ShownTexts.{text_shown};
+ghost use Rattle.ftl_step_value.specs.limits.faults.PlanFaults.{first_fault};
+ghost use Rattle.ftl_answer.specs.reading.requests.RulesAnswers.{EndsIn};
+ghost use Rattle.ftl_answer.specs.reading.requests.Requests.{IsAnsweredBy, problem_stage};
+ghost use Rattle.ftl_answer.specs.reading.requests.ShownTexts.{text_shown};
 ghost use Rattle.ftl_demand.specs.demand.Solved.{IsSolvedBy};
-ghost use Rattle.ftl_requests.specs.sections.Outcomes.{answer_of};
+ghost use Rattle.ftl_answer.specs.reading.sections.Outcomes.{answer_of};
 ghost use Rattle.ftl_run.specs.calls.SolvedPages.{AreReady, IsShort, IsTaskReady, document_stage};
 ghost use Rattle.ftl_run.specs.calls.SolvedPages.{rules_stage, task_stage};
 ghost use Rattle.ftl_run.specs.declared.calls.task.Task.TheVariants.{Edit};
@@ -27,15 +27,15 @@ use crate::calls::solving::{
 };
 use crate::calls::task::Task;
 use crate::solve::solve;
+use ftl_answer::reading::{
+    Decided, EditedPage, Evaluation, Problem, Request, Shown, Undecided, Undone, edits_of, ended,
+    schedule_of, tree_of,
+};
 use ftl_checked::Checked;
 use ftl_edge::Gate;
 use ftl_edits::EditList;
 use ftl_nest_check::AcceptedNests;
 use ftl_page::{Solving, Text};
-use ftl_requests::{
-    Decided, EditedPage, Evaluation, Problem, Request, Shown, Undecided, Undone, edits_of, ended,
-    schedule_of, tree_of,
-};
 use ftl_tree::Tree;
 use ftl_visit::{Programs, compile};
 use std::alloc::{AllocError, Global};

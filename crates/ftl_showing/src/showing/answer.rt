@@ -14,8 +14,8 @@ use crate::lines::{Style, node_lines, styled, tree_text, why_text};
 use crate::showing::texts::{Texts, grammar_name, has_edits, texts_of};
 use crate::showing::told::{page_told, refusal_told};
 use crate::words::{View, Why};
+use ftl_answer::reading::{Decided, Undecided};
 use ftl_refusals::Spot;
-use ftl_requests::{Decided, Undecided};
 use maugzeris::{Grammar, Page, Rules, Status};
 use std::alloc::{AllocError, Global};
 

@@ -1,7 +1,7 @@
 //! The texts of a page.
 
+use ftl_answer::reading::{Undecided, read_page};
 use ftl_page::{Need, Page, Text};
-use ftl_requests::{Undecided, read_page};
 use maugzeris::Width;
 use std::alloc::Global;
 

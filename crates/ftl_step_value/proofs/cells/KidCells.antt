@@ -9,7 +9,7 @@ use Rattle.ftl_model.proofs.layout.Fits.{kid_stands}
 use Rattle.ftl_model.proofs.layout.Standing.{node_at-number_of, number_of-lt}
 use Rattle.ftl_order.proofs.orders.Kids.{kid_counted}
 use Rattle.ftl_tree.specs.rows.KidRuns.{IsChildOf}
-use Rattle.ftl_limits.proofs.reads.Entries.{whole}
+use Rattle.ftl_step_value.proofs.limits.reads.Entries.{whole}
 
 -- a kid of a node, and the number of it
 pub record KidThere (g : AttributeGrammar) (t : Forest) (node child number : ℕ) : Type 0 where

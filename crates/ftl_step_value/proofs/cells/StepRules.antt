@@ -11,7 +11,7 @@ use Rattle.ftl_order.specs.orders.Lawful.{IsLawful, IsOwnSort, IsRule, OfClass, 
 use Rattle.ftl_order.specs.orders.Reads.{equation_reads, reads_of, rule_reads}
 use Rattle.ftl_order.proofs.orders.TreeEquations.{inside_by, kid_instance}
 use Rattle.ftl_deps.specs.parts.RuleParts.{parts_named}
-use Rattle.ftl_limits.proofs.reads.Entries.{there}
+use Rattle.ftl_step_value.proofs.limits.reads.Entries.{there}
 use Rattle.ftl_order.specs.steps.Steps.{IsKidFor, IsStepOf, rule_at, target_of, target_of_rule}
 use Rattle.ftl_order.specs.declared.steps.step.Step.{Step}
 

@@ -6,8 +6,8 @@ use Rattle.ftl_deps.specs.reads.Meant.{meant}
 use Rattle.ftl_deps.specs.parts.RuleParts.{all_parts, parts_meant, parts_named}
 use Rattle.ftl_deps.specs.declared.parts.rule_parts.RuleParts.{RuleParts}
 use Rattle.ftl_deps.proofs.reads.RuleNumbers.{rules_long}
-use Rattle.ftl_limits.specs.reads.ReadTables.{rule_at}
-use Rattle.ftl_limits.proofs.reads.RuleReads.{parts_at}
+use Rattle.ftl_step_value.specs.limits.reads.ReadTables.{rule_at}
+use Rattle.ftl_step_value.proofs.limits.reads.RuleReads.{parts_at}
 
 pub table_parts : (c : CheckedGrammar) → first_fault c.grammar ≡ None → (n : ℕ) (d : RuleParts)
     → {rows parts : List RuleParts} → rows ≡ parts → map parts_meant parts ≡ all_parts (meant c)

@@ -5,8 +5,8 @@ use Rattle.std.proofs.lemmas.List.{map-append}
 use Rattle.std.proofs.lemmas.List.Elements.{Contains-append_left, Contains-append_right}
 use Rattle.std.proofs.lemmas.Option.{same_Some}
 use Rattle.ftl_deps.specs.reads.Meant.{meant}
-use Rattle.ftl_limits.specs.reads.ReadTables.{IsSound}
-use Rattle.ftl_limits.proofs.reads.RuleReads.{rule_may_stand}
+use Rattle.ftl_step_value.specs.limits.reads.ReadTables.{IsSound}
+use Rattle.ftl_step_value.proofs.limits.reads.RuleReads.{rule_may_stand}
 use Rattle.ftl_model.proofs.lists.Elements.{flat_map_has}
 use Rattle.ftl_model.proofs.lists.Rising.{in_map}
 use Rattle.ftl_model.specs.layout.AttributeGrammar.{Occurrence, Parts, Read, RuleName, first_then, fold_over, for_child, for_self, plain, seen_by}

@@ -4,7 +4,7 @@ use Rattle.std.proofs.lemmas.List.{get_or-map, length-map}
 use Rattle.std.proofs.lemmas.List.FromFn.{get_or-map-range_with_len, length-map-range_with_len}
 use Rattle.ftl_deps.specs.reads.Meant.{meant}
 use Rattle.ftl_deps.specs.reads.Products.{name_of_child}
-use Rattle.ftl_limits.specs.reads.ReadTables.{IsSound}
+use Rattle.ftl_step_value.specs.limits.reads.ReadTables.{IsSound}
 use Rattle.ftl_model.specs.layout.AttributeGrammar.{AttributeGrammar, for_self}
 use Rattle.ftl_model.specs.layout.Path.{Path, down, kids_at, number_of}
 use Rattle.ftl_model.specs.layout.Tree.{Forest}

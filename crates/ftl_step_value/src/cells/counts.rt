@@ -2,13 +2,13 @@
 ghost use Rattle.std.specs.Prelude.{◌≡◌, ◌<◌, length, slice_index};
 ghost use Rattle.ftl_deps.specs.reads.Meant.{meant};
 ghost use Rattle.ftl_order.specs.orders.Reads.{reads_of};
-ghost use Rattle.ftl_limits.specs.reads.ReadTables.{AreTables, IsSound};
+ghost use Rattle.ftl_step_value.specs.limits.reads.ReadTables.{AreTables, IsSound};
 ghost use Rattle.ftl_order.specs.steps.Steps.{IsStepOf, target_of};
 ghost use Rattle.ftl_step_value.specs.cells.ReadCells.{read_cells};
 
 use crate::cells::cursor::StepReads;
 use crate::cells::parts::step_parts;
-use ftl_limits::ReadTables;
+use crate::limits::ReadTables;
 use ftl_order::Step;
 use ftl_tree::Tree;
 use ftl_visit::read_count as count_by_parts;

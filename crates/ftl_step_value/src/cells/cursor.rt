@@ -7,15 +7,15 @@ ghost use Rattle.ftl_model.specs.layout.Tree.{size};
 ghost use Rattle.ftl_order.specs.orders.Lawful.{EachMay};
 ghost use Rattle.ftl_deps.specs.parts.RuleParts.{read_meant};
 ghost use Rattle.ftl_visit.specs.step_reads.StepReads.{kids_in};
-ghost use Rattle.ftl_limits.specs.reads.ReadTables.{AreTables, IsSound};
+ghost use Rattle.ftl_step_value.specs.limits.reads.ReadTables.{AreTables, IsSound};
 ghost use Rattle.ftl_order.specs.steps.Steps.{IsStepOf};
 ghost use Rattle.ftl_step_value.specs.cells.ReadCells.{read_cells};
 ghost use Rattle.ftl_step_value.specs.cells.Seen.{IsThere, cell_seen};
 
 use crate::cells::parts::step_parts;
 use crate::cells::seen::read_cell;
+use crate::limits::ReadTables;
 use ftl_deps::{PartRead, RuleParts};
-use ftl_limits::ReadTables;
 use ftl_order::Step;
 use ftl_tree::Tree;
 use std::marker::Model;

@@ -3,11 +3,11 @@ ghost use Rattle.std.specs.Prelude.{◌≡◌};
 ghost use Rattle.ftl_deps.specs.reads.Meant.{meant};
 ghost use Rattle.ftl_deps.specs.parts.RuleParts.{parts_meant, parts_named};
 ghost use Rattle.ftl_visit.specs.step_reads.StepReads.{MayStandAt};
-ghost use Rattle.ftl_limits.specs.reads.ReadTables.{AreTables, IsSound};
+ghost use Rattle.ftl_step_value.specs.limits.reads.ReadTables.{AreTables, IsSound};
 ghost use Rattle.ftl_order.specs.steps.Steps.{IsStepOf, rule_at};
 
+use crate::limits::ReadTables;
 use ftl_deps::RuleParts;
-use ftl_limits::ReadTables;
 use ftl_order::Step;
 use ftl_tree::Tree;
 

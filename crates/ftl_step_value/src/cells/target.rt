@@ -1,7 +1,7 @@
 //! The cell that a step fills.
 ghost use Rattle.std.specs.Prelude.{◌≡◌};
 ghost use Rattle.ftl_deps.specs.reads.Meant.{meant};
-ghost use Rattle.ftl_limits.specs.reads.ReadTables.{IsSound};
+ghost use Rattle.ftl_step_value.specs.limits.reads.ReadTables.{IsSound};
 ghost use Rattle.ftl_order.specs.steps.Steps.{IsStepOf};
 ghost use Rattle.ftl_step_value.specs.cells.ReadCells.{filled_cell};
 

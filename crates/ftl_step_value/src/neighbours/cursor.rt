@@ -3,7 +3,7 @@ ghost use Rattle.std.specs.Prelude.{◌≡◌, ◌<◌, [], is_some, map, slice_
 ghost use Rattle.std.specs.List.{cons_option};
 ghost use Rattle.ftl_model.specs.layout.Tree.{size};
 ghost use Rattle.ftl_deps.specs.reads.Meant.{meant};
-ghost use Rattle.ftl_limits.specs.reads.ReadTables.{IsSound};
+ghost use Rattle.ftl_step_value.specs.limits.reads.ReadTables.{IsSound};
 ghost use Rattle.ftl_order.specs.steps.Steps.{IsStepOf};
 ghost use Rattle.ftl_step_value.specs.cells.ReadCells.{read_cells};
 ghost use Rattle.ftl_step_value.specs.neighbours.NeighbourParts.{AreNeighbourParts};

@@ -1,17 +1,17 @@
 //! What each rule reads of neighbours.
 ghost use Rattle.std.specs.Prelude.{◌≡◌, false, map, None, Some, IfOk};
 ghost use Rattle.ftl_deps.specs.reads.Meant.{meant};
-ghost use Rattle.ftl_limits.specs.reads.ReadTables.{AreTables};
+ghost use Rattle.ftl_step_value.specs.limits.reads.ReadTables.{AreTables};
 ghost use Rattle.ftl_deps.specs.parts.RuleParts.{parts_meant, read_meant};
 ghost use Rattle.ftl_step_value.specs.neighbours.NeighbourParts.{AreNeighbourParts, fold_parts};
 ghost use Rattle.ftl_step_value.specs.neighbours.NeighbourParts.{kids_parts};
 ghost use Rattle.ftl_step_value.specs.neighbours.NeighbourParts.{neighbour_list};
 ghost use Rattle.ftl_step_value.specs.neighbours.NeighbourParts.{neighbour_parts_of, own_parts};
 
+use crate::limits::ReadTables;
 use crate::neighbours::reads::{NeighbourRead, neighbour_list};
 use ftl_checked::Checked;
 use ftl_deps::{PartRead, RuleParts};
-use ftl_limits::ReadTables;
 use sqlite_items::Items;
 use std::alloc::{AllocError, Global};
 

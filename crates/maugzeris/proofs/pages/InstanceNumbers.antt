@@ -3,7 +3,7 @@ use Rattle.std.proofs.Common.{◌≡◌, ℕ, ◌+◌, ◌-◌, ◌<◌, ◌≤�
 use Rattle.std.proofs.lemmas.List.Elements.{Contains-get_or}
 use Rattle.std.specs.List.{All}
 use Rattle.ftl_deps.specs.reads.Meant.{meant}
-use Rattle.ftl_limits.proofs.reads.Entries.{class_in_range, there, whole}
+use Rattle.ftl_step_value.proofs.limits.reads.Entries.{class_in_range, there, whole}
 use Rattle.ftl_model.proofs.layout.Numbering.{number_of-node_at}
 use Rattle.ftl_model.proofs.layout.Standing.{node_at-number_of}
 use Rattle.ftl_model.proofs.lists.Rising.{in_map}

@@ -5,7 +5,7 @@ use Rattle.std.proofs.lemmas.List.Elements.{Contains-get_or}
 use Rattle.ftl_checked.proofs.lookup.AttrInfos.{attribute_count_is}
 use Rattle.std.specs.List.{All}
 use Rattle.ftl_deps.specs.reads.Meant.{meant}
-use Rattle.ftl_limits.proofs.reads.Entries.{attribute_in_range, class_in_range, there}
+use Rattle.ftl_step_value.proofs.limits.reads.Entries.{attribute_in_range, class_in_range, there}
 use Rattle.ftl_meaning.specs.faults.Checked.{CheckedGrammar, all_attributes}
 use Rattle.ftl_model.specs.layout.AttributeGrammar.{AttributeGrammar, attributes_of, class_inputs, is_input}
 use Rattle.ftl_model.specs.layout.Path.{class_at, node_at}

@@ -3,9 +3,9 @@ use Rattle.std.proofs.Common.{◌≡◌, inl, inr, refl, sym, subst, Result, Ok,
 use Rattle.ftl_answer.specs.answers.Answer.{Answer, answer}
 use Rattle.ftl_answer.specs.answers.Stages.{Outcome, Stage, Then, ends, hands_on}
 use Rattle.ftl_meaning.specs.faults.Checked.{CheckedGrammar}
-use Rattle.ftl_requests.specs.sections.Outcomes.{IsOutcome}
-use Rattle.ftl_requests.specs.declared.sections.decision.Undecided.{Undecided}
-use Rattle.ftl_requests.specs.declared.sections.decision.Undecided.TheVariants as end
+use Rattle.ftl_answer.specs.reading.sections.Outcomes.{IsOutcome}
+use Rattle.ftl_answer.specs.declared.reading.sections.decision.Undecided.{Undecided}
+use Rattle.ftl_answer.specs.declared.reading.sections.decision.Undecided.TheVariants as end
 use Rattle.maugzeris.specs.declared.refusals.refusal.Refusal.{Refusal}
 use Rattle.maugzeris.specs.declared.refusals.refusal.Refusal.TheVariants.{Refused, OutOfMemory}
 use Rattle.maugzeris.specs.refusals.Answers.{Answers, Tells, refusal_of}

@@ -2,7 +2,7 @@
 use Rattle.std.specs.Prelude.{◌≡◌, Bool, true, false, if◌then◌else◌, List, Option, Some, None}
 use Rattle.ftl_deps.specs.reads.Meant.{meant}
 use Rattle.ftl_edits.specs.meaning.Editable.{AreEditsOf}
-use Rattle.ftl_limits.specs.faults.PlanFaults.{first_fault}
+use Rattle.ftl_step_value.specs.limits.faults.PlanFaults.{first_fault}
 use Rattle.ftl_model.specs.layout.Table.{SolvesList}
 use Rattle.ftl_model.specs.layout.Values.{Value}
 use Rattle.ftl_nest_check.specs.stages.Nested.{nests_of}

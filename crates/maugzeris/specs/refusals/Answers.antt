@@ -4,8 +4,8 @@ use Rattle.ftl_model.specs.layout.Limits.{most_page_bytes}
 use Rattle.ftl_answer.specs.answers.Answer.{Answer, answer, refused}
 use Rattle.ftl_answer.specs.answers.Stages.{Is, Stage, ends, hands_on}
 use Rattle.ftl_answer.specs.refusals.PageLines.{too_long_line}
-use Rattle.ftl_requests.specs.declared.sections.decision.Undecided.{Undecided}
-use Rattle.ftl_requests.specs.declared.sections.decision.Undecided.TheVariants as end
+use Rattle.ftl_answer.specs.declared.reading.sections.decision.Undecided.{Undecided}
+use Rattle.ftl_answer.specs.declared.reading.sections.decision.Undecided.TheVariants as end
 use Rattle.maugzeris.specs.declared.refusals.refusal.Refusal.{Refusal}
 use Rattle.maugzeris.specs.declared.refusals.refusal.Refusal.TheVariants.{Refused, OutOfMemory}
 

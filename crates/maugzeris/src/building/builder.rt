@@ -11,7 +11,7 @@ ghost use Rattle.ftl_building.specs.building.PartSizes.{TakesField, TakesKid, Ta
 ghost use Rattle.ftl_document.specs.nodes.Found.{AreRowsOf, IsWritten};
 ghost use Rattle.ftl_document.specs.syntax.Sizes.{RowIsWithin};
 ghost use Rattle.ftl_document.specs.syntax.Written.{WrittenNode, no_fields};
-ghost use Rattle.ftl_requests.specs.sections.WrittenTrees.{built_tree};
+ghost use Rattle.ftl_answer.specs.reading.sections.WrittenTrees.{built_tree};
 ghost use Rattle.maugzeris.specs.building.PageParts.{TakesNumber, changed, page_part};
 ghost use Rattle.maugzeris.specs.pages.PageState.{page_read};
 ghost use Rattle.maugzeris.specs.refusals.Answers.{Answers};
@@ -19,9 +19,9 @@ ghost use Rattle.maugzeris.specs.refusals.Answers.{Answers};
 use crate::pages::{Page, is_number, of_tree};
 use crate::refusals::{Refusal, refusal_of};
 use crate::rules::Rules;
+use ftl_answer::reading::tree_of_document;
 use ftl_building::{DocumentBuilder, numbers_stay_within};
 use ftl_document::WrittenDocument;
-use ftl_requests::tree_of_document;
 use std::alloc::{AllocError, Global};
 use std::marker::Model;
 

@@ -13,9 +13,9 @@ ghost use Rattle.maugzeris.specs.rules.RuleTexts.{edits_text};
 
 use crate::pages::page::Page;
 use crate::refusals::{Refusal, refusal_of, short_text};
+use ftl_answer::reading::edits_of;
 use ftl_document_printing::print_document;
 use ftl_edits::EditList;
-use ftl_requests::edits_of;
 use std::alloc::{AllocError, Global};
 
 impl<'a> Page<'a> {

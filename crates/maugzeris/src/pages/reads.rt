@@ -4,7 +4,7 @@ ghost use Rattle.std.specs.Prelude.{◌≡◌, ◌<◌, None, Some, IfOk, MatchO
 ghost use Rattle.std.specs.List.{All};
 ghost use Rattle.std.specs.Option.{option_map};
 ghost use Rattle.ftl_deps.specs.reads.Meant.{meant};
-ghost use Rattle.ftl_limits.specs.reads.ReadTables.{AreTables};
+ghost use Rattle.ftl_step_value.specs.limits.reads.ReadTables.{AreTables};
 ghost use Rattle.ftl_meaning.specs.faults.Checked.{all_rules};
 ghost use Rattle.ftl_model.specs.layout.Path.{node_at, number_of, parent_of};
 ghost use Rattle.ftl_model.specs.layout.Tree.{size};
@@ -16,9 +16,9 @@ ghost use Rattle.maugzeris.specs.pages.Instances.{rule_at_node, rule_on};
 ghost use Rattle.maugzeris.specs.pages.PageState.{HasAttribute, class_on};
 
 use crate::pages::page::Page;
-use ftl_limits::{ReadTables, is_sound};
 use ftl_order::Step;
 use ftl_step_value::StepReads;
+use ftl_step_value::limits::{ReadTables, is_sound};
 use std::alloc::{AllocError, Global};
 use std::marker::Model;
 
@@ -32,7 +32,7 @@ pub struct Reads<'p> {
 impl<'p> Model for Reads<'p> {
     ghost use Rattle.std.specs.Coded.{codes};
     ghost use Rattle.ftl_deps.specs.reads.Meant.{meant};
-    ghost use Rattle.ftl_limits.specs.reads.ReadTables.{AreTables};
+    ghost use Rattle.ftl_step_value.specs.limits.reads.ReadTables.{AreTables};
     ghost use Rattle.ftl_model.specs.layout.ForestCode.{forest_code};
     ghost use Rattle.ftl_grammar.specs.contracts.syntax.expression.Expr as e;
     ghost use Rattle.maugzeris.specs.pages.PageState.{PageState};

@@ -8,8 +8,8 @@ ghost use Rattle.maugzeris.specs.refusals.Answers.{line_told, refusal_of, status
 ghost use Rattle.maugzeris.specs.refusals.Places.{TellsByte, ToldByte};
 
 use crate::refusals::place::byte_in;
+use ftl_answer::reading::{Decided, Status, Undecided};
 use ftl_page::Section;
-use ftl_requests::{Decided, Status, Undecided};
 use std::alloc::{AllocError, AllocFailed};
 
 /// Why a text is refused.

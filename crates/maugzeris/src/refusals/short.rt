@@ -7,7 +7,7 @@ ghost use Rattle.ftl_answer.specs.refusals.PageLines.{too_long_line};
 ghost use Rattle.maugzeris.specs.refusals.Answers.{Answers, Tells, short_text};
 
 use crate::refusals::refusal::Refusal;
-use ftl_requests::Status;
+use ftl_answer::reading::Status;
 use std::alloc::Global;
 
 /// The most bytes of a text.

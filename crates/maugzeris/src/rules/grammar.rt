@@ -11,9 +11,9 @@ ghost use Rattle.maugzeris.specs.refusals.Answers.{Answers};
 ghost use Rattle.maugzeris.specs.rules.RuleTexts.{grammar_text};
 
 use crate::refusals::{Refusal, refusal_of, short_text};
+use ftl_answer::reading::grammar_of_text;
 use ftl_base::Width;
 use ftl_checked::Checked;
-use ftl_requests::grammar_of_text;
 use ftl_tree::shown_rows;
 use ftl_visit::rule_tables::class_attributes;
 use ftl_visit::{Programs, compile};

@@ -9,8 +9,8 @@ ghost use Rattle.maugzeris.specs.rules.RuleTexts.{schedule_text};
 
 use crate::refusals::{Refusal, refusal_of, short_text};
 use crate::rules::grammar::Grammar;
+use ftl_answer::reading::{Undecided, automatic_schedule, written_schedule};
 use ftl_nest_check::AcceptedNests;
-use ftl_requests::{Undecided, automatic_schedule, written_schedule};
 use ftl_schedule::Accepted;
 use std::alloc::Global;
 use std::marker::Model;

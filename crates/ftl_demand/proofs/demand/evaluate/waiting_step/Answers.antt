@@ -1,6 +1,6 @@
 -- An input's word would be there.
 use Rattle.ftl_deps.specs.reads.Meant.{meant}
-use Rattle.ftl_limits.proofs.reads.Entries.{there}
+use Rattle.ftl_step_value.proofs.limits.reads.Entries.{there}
 use Rattle.ftl_demand.specs.demand.Sites.{instance_at}
 use Rattle.ftl_demand.proofs.demand.evaluate.waiting_step.Goals as goal
 

@@ -2,8 +2,8 @@
 use Rattle.std.proofs.Common.{◌≡◌, ◌≢◌, ℕ, ◌-◌, ◌<◌, arith, get_or, subst, sym, ◌∙◌, ⊎_elim}
 use Rattle.std.proofs.lemmas.Bool.{cases_eq}
 use Rattle.ftl_deps.specs.reads.Meant.{meant}
-use Rattle.ftl_limits.proofs.reads.Entries.{whole}
-use Rattle.ftl_limits.specs.reads.ReadTables.{class_in, instance_in}
+use Rattle.ftl_step_value.proofs.limits.reads.Entries.{whole}
+use Rattle.ftl_step_value.specs.limits.reads.ReadTables.{class_in, instance_in}
 use Rattle.ftl_model.proofs.layout.Standing.{node_at-number_of, number_of-lt}
 use Rattle.ftl_model.specs.layout.Path.{class_at, node_at, number_of}
 use Rattle.ftl_model.specs.layout.Solves.{instance_of}

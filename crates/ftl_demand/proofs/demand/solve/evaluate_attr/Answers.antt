@@ -1,6 +1,6 @@
 use Rattle.std.proofs.Common.{arith}
 use Rattle.ftl_deps.specs.reads.Meant.{meant}
-use Rattle.ftl_limits.proofs.reads.Entries.{there}
+use Rattle.ftl_step_value.proofs.limits.reads.Entries.{there}
 use Rattle.ftl_model.specs.layout.Path.{node_at}
 use Rattle.ftl_order.proofs.orders.Instances.{number_within}
 use Rattle.ftl_demand.proofs.demand.solve.evaluate_attr.Goals as goal

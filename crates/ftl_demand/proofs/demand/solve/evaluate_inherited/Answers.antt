@@ -1,7 +1,7 @@
 -- The attributes are those of the node's class.
 use Rattle.std.proofs.Common.{◌∙◌}
 use Rattle.ftl_deps.specs.reads.Meant.{meant}
-use Rattle.ftl_limits.proofs.reads.Entries.{class_entry}
+use Rattle.ftl_step_value.proofs.limits.reads.Entries.{class_entry}
 use Rattle.ftl_model.specs.layout.AttributeGrammar.{attributes_of}
 use Rattle.ftl_demand.proofs.demand.Nodes.{in_row}
 use Rattle.ftl_demand.proofs.demand.solve.evaluate_inherited.Goals as goal

@@ -2,8 +2,8 @@
 use Rattle.std.proofs.Common.{◌≡◌, ◌≢◌, ℕ, List, Contains, arith, get_or, subst, sym, ◌∙◌}
 use Rattle.std.proofs.lemmas.Grind.{get_or_default_zero}
 use Rattle.ftl_deps.specs.reads.Meant.{meant}
-use Rattle.ftl_limits.proofs.reads.Entries.{class_entry}
-use Rattle.ftl_limits.specs.reads.ReadTables.{class_in, instance_in}
+use Rattle.ftl_step_value.proofs.limits.reads.Entries.{class_entry}
+use Rattle.ftl_step_value.specs.limits.reads.ReadTables.{class_in, instance_in}
 use Rattle.ftl_model.specs.layout.AttributeGrammar.{attributes_of}
 use Rattle.ftl_model.specs.layout.Table.{instance_number}
 use Rattle.ftl_demand.proofs.demand.Nodes.{in_row, row_is, stays_on, there_still}

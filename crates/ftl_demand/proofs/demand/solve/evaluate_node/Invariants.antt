@@ -1,6 +1,6 @@
 use Rattle.std.proofs.Common.{◌≡◌, ◌≢◌, ℕ, ◌<◌, [], get_or}
 use Rattle.ftl_deps.specs.reads.Meant.{meant}
-use Rattle.ftl_limits.specs.reads.ReadTables.{instance_in}
+use Rattle.ftl_step_value.specs.limits.reads.ReadTables.{instance_in}
 use Rattle.ftl_model.specs.layout.Table.{instance_number}
 use Rattle.ftl_demand.specs.demand.Words.{AreWordsSoFar, StaysWhereThere}
 use Rattle.ftl_demand.proofs.demand.solve.evaluate_node.Given as goal

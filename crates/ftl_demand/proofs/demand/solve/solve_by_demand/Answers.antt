@@ -1,7 +1,7 @@
 -- The first words are those of inputs, and in the end all are there.
 use Rattle.std.proofs.Common.{◌≡◌, arith, length, subst, sym, ◌∙◌}
 use Rattle.ftl_deps.specs.reads.Meant.{meant}
-use Rattle.ftl_limits.specs.reads.ReadTables.{AreTables, IsSound}
+use Rattle.ftl_step_value.specs.limits.reads.ReadTables.{AreTables, IsSound}
 use Rattle.ftl_meaning.specs.faults.Checked.{CheckedGrammar}
 use Rattle.ftl_plan.proofs.plans.InputRows.{written}
 use Rattle.ftl_step_value.specs.neighbours.NeighbourParts.{AreNeighbourParts}

@@ -9,7 +9,7 @@ use Rattle.ftl_example.specs.pairs.PairMeant.{is_child, pair_meant, part_meant}
 use Rattle.ftl_example.specs.shows.Shows.{at_hand}
 use Rattle.ftl_example.specs.sizes.Place.{goes_over}
 use Rattle.ftl_example.specs.sizes.PlaceTable.{IsKnownPair}
-use Rattle.ftl_limits.proofs.reads.RuleReads.{rule_may_stand}
+use Rattle.ftl_step_value.proofs.limits.reads.RuleReads.{rule_may_stand}
 use Rattle.ftl_model.specs.layout.AttributeGrammar.{AttributeGrammar, Parts, reads_in, with_part}
 use Rattle.ftl_model.specs.layout.Path.{class_at, kids_at, node_at}
 use Rattle.ftl_model.specs.layout.Solves.{rule_named}

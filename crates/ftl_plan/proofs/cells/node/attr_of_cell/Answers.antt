@@ -2,7 +2,7 @@ use Rattle.std.proofs.Common.{◌≡◌, ◌-◌, List, ℕ, length, get_or, ap,
 use Rattle.ftl_model.specs.layout.AttributeGrammar.{attributes_of}
 use Rattle.ftl_model.specs.layout.Path.{class_at, node_at}
 use Rattle.ftl_deps.specs.reads.Meant.{meant}
-use Rattle.ftl_limits.proofs.reads.Entries.{class_in_range, entry}
+use Rattle.ftl_step_value.proofs.limits.reads.Entries.{class_in_range, entry}
 use Rattle.ftl_plan.proofs.cells.CellPlaces.{attribute_here}
 use Rattle.ftl_plan.proofs.cells.node.attr_of_cell.Goals as goal
 

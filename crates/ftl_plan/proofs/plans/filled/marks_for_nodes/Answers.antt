@@ -3,7 +3,7 @@ use Rattle.std.proofs.lemmas.Bool.{cases_eq}
 use Rattle.std.specs.List.{range_with_len}
 use Rattle.std.proofs.lemmas.List.FromFn.{length-map-range_with_len}
 use Rattle.ftl_deps.specs.reads.Meant.{meant}
-use Rattle.ftl_limits.proofs.reads.Entries.{class_in_range, entry}
+use Rattle.ftl_step_value.proofs.limits.reads.Entries.{class_in_range, entry}
 use Rattle.ftl_model.specs.layout.AttributeGrammar.{attributes_of}
 use Rattle.ftl_model.specs.layout.Path.{class_at, node_at}
 use Rattle.ftl_nest_check.specs.stages.Nested.{nests_of}

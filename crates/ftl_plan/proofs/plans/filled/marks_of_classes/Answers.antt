@@ -1,6 +1,6 @@
 use Rattle.std.proofs.Common.{◌<◌, ◌∙◌, length, length-set, arith}
 use Rattle.ftl_deps.specs.reads.Meant.{meant}
-use Rattle.ftl_limits.proofs.reads.Entries.{class_in_range}
+use Rattle.ftl_step_value.proofs.limits.reads.Entries.{class_in_range}
 use Rattle.ftl_model.specs.layout.Tree.{size}
 use Rattle.ftl_plan.proofs.plans.Marking.{classes_next}
 use Rattle.ftl_plan.proofs.plans.filled.marks_of_classes.Goals as goal

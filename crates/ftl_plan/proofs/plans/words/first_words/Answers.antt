@@ -1,6 +1,6 @@
 use Rattle.std.proofs.Common.{◌≡◌, ◌+◌, ℕ, List, length, ap, ◌∙◌, subst, sym, arith}
 use Rattle.ftl_meaning.specs.faults.Checked.{CheckedGrammar}
-use Rattle.ftl_limits.specs.reads.ReadTables.{AreTables}
+use Rattle.ftl_step_value.specs.limits.reads.ReadTables.{AreTables}
 use Rattle.ftl_model.specs.layout.Path.{node_at}
 use Rattle.ftl_plan.specs.plans.InputWords.{AreInputsSet, inputs_by_class}
 use Rattle.ftl_model.specs.layout.Tree.{size}

@@ -8,7 +8,7 @@ use Rattle.ftl_model.specs.layout.Values.{number, word_of_value}
 use Rattle.ftl_model.proofs.layout.Fits.{fits_at}
 use Rattle.ftl_order.proofs.orders.Owners.{class_distinct}
 use Rattle.ftl_deps.specs.reads.Meant.{meant}
-use Rattle.ftl_limits.proofs.reads.Entries.{class_in_range, there}
+use Rattle.ftl_step_value.proofs.limits.reads.Entries.{class_in_range, there}
 use Rattle.ftl_plan.proofs.plans.Inputs.{input_kept}
 use Rattle.ftl_plan.proofs.plans.words.input_word.Goals as goal
 

@@ -3,7 +3,7 @@ use Rattle.std.specs.List.{range_with_len}
 use Rattle.std.proofs.lemmas.List.FromFn.{length-map-range_with_len, map-range_with_len_more}
 use Rattle.ftl_model.specs.layout.AttributeGrammar.{attributes_of, class_inputs, is_input}
 use Rattle.ftl_deps.specs.reads.Meant.{meant}
-use Rattle.ftl_limits.proofs.reads.Entries.{entry}
+use Rattle.ftl_step_value.proofs.limits.reads.Entries.{entry}
 use Rattle.ftl_plan.proofs.plans.words.inputs_of_classes.Goals as goal
 
 pub loop-attrs-preserved : goal.loop-attrs-preserved

@@ -5,7 +5,7 @@ use Rattle.ftl_model.specs.layout.AttributeGrammar.{input}
 use Rattle.ftl_model.specs.layout.Path.{node_at}
 use Rattle.ftl_model.specs.layout.Solves.{instance_of}
 use Rattle.ftl_deps.specs.reads.Meant.{meant}
-use Rattle.ftl_limits.specs.reads.ReadTables.{class_in}
+use Rattle.ftl_step_value.specs.limits.reads.ReadTables.{class_in}
 use Rattle.ftl_plan.specs.plans.InputWords.{AreSet}
 use Rattle.ftl_plan.proofs.plans.InputRows.{input_at, input_row, none_set, number_inside, of_class, row_inputs, set_more}
 use Rattle.ftl_plan.proofs.plans.words.set_inputs.Goals as goal

@@ -1,6 +1,6 @@
 -- What reads an attribute runs at its node or at the parent.
 use Rattle.std.proofs.Common.{◌≡◌, ap, sym, ◌∙◌, subst, ⊎_elim, arith}
-use Rattle.ftl_limits.proofs.reads.Entries.{parent_is, root_is, there}
+use Rattle.ftl_step_value.proofs.limits.reads.Entries.{parent_is, root_is, there}
 use Rattle.ftl_model.proofs.layout.Fits.{kid_stands}
 use Rattle.ftl_model.proofs.layout.Standing.{has_parent}
 use Rattle.ftl_model.specs.layout.AttributeGrammar.{kid, own}

@@ -1,5 +1,5 @@
 -- The kids for which the rule reads it are those of the reader.
-use Rattle.ftl_limits.proofs.reads.Entries.{there}
+use Rattle.ftl_step_value.proofs.limits.reads.Entries.{there}
 use Rattle.ftl_model.specs.layout.Path.{node_at}
 use Rattle.ftl_relayout.specs.readers.Readers.{attribute_read, seen_as}
 use Rattle.ftl_relayout.specs.readers.Sites.{IsKeyOfKid, IsReaderKeyAt, site_grammar, site_placing}

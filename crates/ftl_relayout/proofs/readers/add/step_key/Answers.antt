@@ -1,7 +1,7 @@
 -- The rule's target is an instance of the tree.
 use Rattle.std.proofs.Common.{ap, ap₂, ◌∙◌, sym, subst}
 use Rattle.ftl_deps.specs.reads.Products.{name_of_info}
-use Rattle.ftl_limits.proofs.reads.Entries.{attribute_in_range, there}
+use Rattle.ftl_step_value.proofs.limits.reads.Entries.{attribute_in_range, there}
 use Rattle.ftl_model.specs.layout.Path.{class_at, node_at}
 use Rattle.ftl_model.specs.layout.Solves.{instance_of}
 use Rattle.ftl_order.specs.orders.Lawful.{OfClass}

@@ -6,8 +6,8 @@ use Rattle.ftl_deps.specs.reads.Meant.{meant}
 use Rattle.ftl_visit.specs.visits.Visits.{rule_number}
 use Rattle.ftl_visit.specs.rule_tables.RuleTables.{class_kid_rules, kid_rules, rules_by_attribute}
 use Rattle.ftl_tree.specs.trees.CheckedTree.{CheckedTree}
-use Rattle.ftl_limits.specs.reads.ReadTables.{class_in}
-use Rattle.ftl_limits.proofs.reads.Entries.{Entry, class_entry, entry}
+use Rattle.ftl_step_value.specs.limits.reads.ReadTables.{class_in}
+use Rattle.ftl_step_value.proofs.limits.reads.Entries.{Entry, class_entry, entry}
 use Rattle.ftl_relayout.proofs.values.writer.kid_rule.Goals as goal
 
 -- the rules of a node's class for the kids in a child

@@ -2,7 +2,7 @@ use Rattle.std.proofs.Common.{None, ap, ◌∙◌}
 use Rattle.ftl_deps.specs.reads.Meant.{meant}
 use Rattle.ftl_visit.specs.visits.Visits.{rule_number}
 use Rattle.ftl_visit.specs.rule_tables.RuleTables.{rules_by_attribute}
-use Rattle.ftl_limits.proofs.reads.Entries.{attribute_in_range, class_entry, entry}
+use Rattle.ftl_step_value.proofs.limits.reads.Entries.{attribute_in_range, class_entry, entry}
 use Rattle.ftl_relayout.proofs.values.writer.own_rule.Goals as goal
 
 pub bounds-rows-class : goal.bounds-rows-class

@@ -1,8 +1,8 @@
 -- The attribute is inherited, so its node has a parent, whose class has the rule.
 use Rattle.std.proofs.Common.{◌≡◌, ◌<◌, ap, ◌∙◌, sym, subst}
 use Rattle.ftl_deps.specs.reads.Meant.{meant}
-use Rattle.ftl_limits.proofs.reads.Entries.{parent_is, there}
-use Rattle.ftl_limits.specs.reads.ReadTables.{class_in}
+use Rattle.ftl_step_value.proofs.limits.reads.Entries.{parent_is, there}
+use Rattle.ftl_step_value.specs.limits.reads.ReadTables.{class_in}
 use Rattle.ftl_model.proofs.layout.Fits.{kid_stands}
 use Rattle.ftl_model.specs.layout.Path.{Has, child_at, class_at, down, kid_at, node_at}
 use Rattle.ftl_model.specs.layout.Solves.{instance_of}

@@ -1,7 +1,7 @@
 use Rattle.std.proofs.Common.{Ok}
 use Rattle.ftl_answer.specs.answers.Answers.{solved_anew}
-use Rattle.ftl_requests.specs.requests.Requests.{problem_stage}
-use Rattle.ftl_requests.proofs.requests.Endings.{if_ended}
+use Rattle.ftl_answer.specs.reading.requests.Requests.{problem_stage}
+use Rattle.ftl_answer.proofs.reading.requests.Endings.{if_ended}
 use Rattle.ftl_run.proofs.calls.Leading.{edit_answered, page_answered}
 use Rattle.ftl_run.proofs.calls.alone.answered_alone.Goals as goal
 

@@ -4,9 +4,9 @@ use Rattle.ftl_answer.specs.answers.Stages.{ends, hands_on}
 use Rattle.ftl_answer.specs.answers.Texts.{edits}
 use Rattle.ftl_edits.specs.declared.meaning.types.Edit.{Edit}
 use Rattle.ftl_meaning.specs.faults.Checked.{CheckedGrammar}
-use Rattle.ftl_requests.specs.declared.sections.decision.Undecided.{Undecided}
-use Rattle.ftl_requests.specs.sections.Outcomes.{IsOutcome, answer_of}
-use Rattle.ftl_requests.proofs.requests.Endings.{end_first, end_second}
+use Rattle.ftl_answer.specs.declared.reading.sections.decision.Undecided.{Undecided}
+use Rattle.ftl_answer.specs.reading.sections.Outcomes.{IsOutcome, answer_of}
+use Rattle.ftl_answer.proofs.reading.requests.Endings.{end_first, end_second}
 use Rattle.ftl_run.proofs.calls.alone.edited_tree.Goals as goal
 
 -- the failure, as a result of this type

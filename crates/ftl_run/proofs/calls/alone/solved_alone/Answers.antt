@@ -1,4 +1,4 @@
-use Rattle.ftl_requests.specs.declared.requests.request.Evaluation.TheVariants.{ByDemand, Scheduled}
+use Rattle.ftl_answer.specs.declared.reading.requests.request.Evaluation.TheVariants.{ByDemand, Scheduled}
 use Rattle.ftl_run.proofs.calls.Leading.{as_evaluated}
 use Rattle.ftl_run.proofs.calls.alone.solved_alone.Goals as goal
 

@@ -2,8 +2,8 @@ use Rattle.std.proofs.Common.{subst, ℕ, List}
 use Rattle.ftl_answer.specs.answers.Answers.{text_or_none}
 use Rattle.ftl_answer.specs.answers.Texts.{schedule}
 use Rattle.ftl_nest_check.specs.check.NestAccepted.{AcceptedNestingSchedule}
-use Rattle.ftl_requests.specs.requests.RulesAnswers.{EndsIn}
-use Rattle.ftl_requests.proofs.requests.Endings.{end_first, end_second}
+use Rattle.ftl_answer.specs.reading.requests.RulesAnswers.{EndsIn}
+use Rattle.ftl_answer.proofs.reading.requests.Endings.{end_first, end_second}
 use Rattle.ftl_run.specs.calls.SolvedPages.{document_stage}
 use Rattle.ftl_run.proofs.calls.alone.solved_rules.Goals as goal
 

@@ -5,7 +5,7 @@ use Rattle.ftl_model.specs.layout.Table.{instance_count}
 use Rattle.ftl_tree.specs.boxes.WordValues.{value_of_word}
 use Rattle.ftl_answer.specs.answers.Answers.{boxes_and_touched, edited_by, shown_answer}
 use Rattle.ftl_answer.specs.answers.Stages.{ends}
-use Rattle.ftl_requests.specs.sections.Outcomes.{answer_of}
+use Rattle.ftl_answer.specs.reading.sections.Outcomes.{answer_of}
 use Rattle.ftl_run.proofs.calls.Changed.{as_many, cells_solve, change_is_shown, if_ok, words_fit}
 use Rattle.ftl_run.proofs.calls.Mapped.{written_over}
 use Rattle.ftl_run.proofs.calls.change.edited_shown.Goals as goal

@@ -1,8 +1,8 @@
 use Rattle.std.proofs.Common.{string_bytes}
 use Rattle.ftl_answer.specs.answers.Answers.{shown_by}
 use Rattle.ftl_answer.specs.answers.Texts.{grown_tree}
-use Rattle.ftl_requests.specs.requests.ShownTexts.{text_shown}
-use Rattle.ftl_requests.proofs.requests.Endings.{end_second}
+use Rattle.ftl_answer.specs.reading.requests.ShownTexts.{text_shown}
+use Rattle.ftl_answer.proofs.reading.requests.Endings.{end_second}
 use Rattle.ftl_run.proofs.calls.demand.document_by_demand.Goals as goal
 
 pub returns-in-Ok : goal.returns-in-Ok

@@ -1,8 +1,8 @@
 use Rattle.std.proofs.Common.{string_bytes}
 use Rattle.ftl_answer.specs.answers.Texts.{noncircular_grammar}
 use Rattle.ftl_meaning.specs.faults.Checked.{CheckedGrammar}
-use Rattle.ftl_requests.specs.requests.ShownTexts.{text_shown}
-use Rattle.ftl_requests.proofs.requests.Endings.{end_first, end_second}
+use Rattle.ftl_answer.specs.reading.requests.ShownTexts.{text_shown}
+use Rattle.ftl_answer.proofs.reading.requests.Endings.{end_first, end_second}
 use Rattle.ftl_run.specs.calls.DemandedPages.{document_stage}
 use Rattle.ftl_run.proofs.calls.demand.grammar_by_demand.Goals as goal
 

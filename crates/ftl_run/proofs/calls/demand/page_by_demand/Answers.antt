@@ -1,8 +1,8 @@
 use Rattle.ftl_answer.specs.answers.Answers.{unscheduled_page}
 use Rattle.ftl_answer.specs.answers.Texts.{page}
 use Rattle.ftl_page.specs.declared.sections.page.Page.{Page}
-use Rattle.ftl_requests.specs.requests.ShownTexts.{text_shown}
-use Rattle.ftl_requests.proofs.requests.Endings.{end_first, end_second}
+use Rattle.ftl_answer.specs.reading.requests.ShownTexts.{text_shown}
+use Rattle.ftl_answer.proofs.reading.requests.Endings.{end_first, end_second}
 use Rattle.ftl_run.specs.calls.DemandedPages.{page_stage}
 use Rattle.ftl_run.proofs.calls.demand.page_by_demand.Goals as goal
 

@@ -2,9 +2,9 @@ use Rattle.std.proofs.Common.{ℕ, List, subst}
 use Rattle.ftl_answer.specs.answers.Answers.{document_text}
 use Rattle.ftl_answer.specs.answers.Texts.{grammar}
 use Rattle.ftl_meaning.specs.faults.Checked.{CheckedGrammar}
-use Rattle.ftl_requests.specs.requests.RulesAnswers.{EndsIn}
-use Rattle.ftl_requests.specs.requests.ShownTexts.{text_shown}
-use Rattle.ftl_requests.proofs.requests.Endings.{end_first, end_second}
+use Rattle.ftl_answer.specs.reading.requests.RulesAnswers.{EndsIn}
+use Rattle.ftl_answer.specs.reading.requests.ShownTexts.{text_shown}
+use Rattle.ftl_answer.proofs.reading.requests.Endings.{end_first, end_second}
 use Rattle.ftl_run.specs.calls.DemandedPages.{grammar_stage}
 use Rattle.ftl_run.proofs.calls.demand.sections_by_demand.Goals as goal
 

@@ -2,8 +2,8 @@ use Rattle.std.proofs.Common.{subst}
 use Rattle.ftl_answer.specs.answers.Answers.{shown_by}
 use Rattle.ftl_answer.specs.answers.Stages.{ends}
 use Rattle.ftl_meaning.specs.faults.Checked.{CheckedGrammar}
-use Rattle.ftl_requests.specs.sections.Outcomes.{answer_of}
-use Rattle.ftl_requests.specs.requests.ShownTexts.{text_shown}
+use Rattle.ftl_answer.specs.reading.sections.Outcomes.{answer_of}
+use Rattle.ftl_answer.specs.reading.requests.ShownTexts.{text_shown}
 use Rattle.ftl_run.proofs.calls.demand.tree_by_demand.Goals as goal
 
 pub returns : goal.returns

@@ -1,6 +1,6 @@
 use Rattle.std.proofs.Common.{string_bytes}
 use Rattle.ftl_answer.specs.answers.Texts.{tree}
-use Rattle.ftl_requests.proofs.requests.Endings.{end_second}
+use Rattle.ftl_answer.proofs.reading.requests.Endings.{end_second}
 use Rattle.ftl_run.specs.calls.SolvedPages.{task_stage}
 use Rattle.ftl_run.proofs.calls.workers.solved_document.Goals as goal
 

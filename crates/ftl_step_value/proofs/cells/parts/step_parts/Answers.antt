@@ -4,7 +4,7 @@ use Rattle.ftl_deps.specs.reads.Meant.{meant}
 use Rattle.ftl_model.specs.layout.Path.{class_at, node_at}
 use Rattle.ftl_deps.specs.parts.RuleParts.{all_parts, parts_meant}
 use Rattle.ftl_visit.specs.step_reads.StepReads.{MayStandAt}
-use Rattle.ftl_limits.proofs.reads.RuleReads.{parts_at, rule_may_stand}
+use Rattle.ftl_step_value.proofs.limits.reads.RuleReads.{parts_at, rule_may_stand}
 use Rattle.ftl_step_value.proofs.cells.parts.step_parts.Goals as goal
 
 pub returns-clause-parts : goal.returns-clause-parts

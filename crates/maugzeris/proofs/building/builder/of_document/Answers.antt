@@ -1,15 +1,15 @@
 use Rattle.std.proofs.Common.{◌∙◌, ap, sym, subst}
 use Rattle.ftl_answer.specs.answers.Stages.{hands_on}
 use Rattle.ftl_deps.specs.reads.Meant.{meant}
-use Rattle.ftl_limits.specs.faults.PlanFaults.{first_fault}
+use Rattle.ftl_step_value.specs.limits.faults.PlanFaults.{first_fault}
 use Rattle.ftl_meaning.specs.faults.Checked.{CheckedGrammar}
 use Rattle.ftl_model.specs.layout.Tree.{Forest}
 use Rattle.ftl_nest_check.specs.check.NestAccepted.{AcceptedNestingSchedule}
 use Rattle.ftl_nest_check.specs.stages.Nested.{nests_of}
 use Rattle.ftl_nests.specs.Nests.{outer_schedule}
 use Rattle.ftl_document.specs.syntax.Written.{WrittenNode}
-use Rattle.ftl_requests.specs.sections.Outcomes.{IsOutcome}
-use Rattle.ftl_requests.specs.sections.WrittenTrees.{built_tree}
+use Rattle.ftl_answer.specs.reading.sections.Outcomes.{IsOutcome}
+use Rattle.ftl_answer.specs.reading.sections.WrittenTrees.{built_tree}
 use Rattle.ftl_tree.specs.trees.CheckedTree.{CheckedTree}
 use Rattle.maugzeris.specs.pages.PageState.{PageState}
 use Rattle.maugzeris.proofs.refusals.Ways.{told_end, undecided}

@@ -1,6 +1,6 @@
 use Rattle.std.proofs.Common.{◌<◌, ◌+◌, ◌-◌, ◌/◌, ◌≡◌, ap, ◌∙◌, arith}
 use Rattle.ftl_deps.specs.reads.Meant.{meant}
-use Rattle.ftl_limits.proofs.reads.Entries.{whole}
+use Rattle.ftl_step_value.proofs.limits.reads.Entries.{whole}
 use Rattle.ftl_plan.proofs.cells.CellPlaces.{all_before, cells_before, first_is, is_cell}
 use Rattle.maugzeris.proofs.pages.instances.node_of_cell.Goals as goal
 

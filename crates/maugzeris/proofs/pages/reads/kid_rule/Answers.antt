@@ -1,6 +1,6 @@
 use Rattle.std.proofs.Common.{◌≡◌, ◌<◌, ℕ, List, Option, None, Some, get_or, ap, ◌∙◌, subst, sym}
 use Rattle.ftl_deps.specs.reads.Meant.{meant}
-use Rattle.ftl_limits.proofs.reads.Entries.{Entry, class_entry, entry}
+use Rattle.ftl_step_value.proofs.limits.reads.Entries.{Entry, class_entry, entry}
 use Rattle.ftl_model.specs.layout.Tree.{size}
 use Rattle.ftl_model.specs.layout.TreeOf.{IsTreeOf}
 use Rattle.ftl_order.specs.orders.Lawful.{IsLawful}

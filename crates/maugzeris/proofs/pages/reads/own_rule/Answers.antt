@@ -1,6 +1,6 @@
 use Rattle.std.proofs.Common.{None, ap, ◌∙◌}
 use Rattle.ftl_deps.specs.reads.Meant.{meant}
-use Rattle.ftl_limits.proofs.reads.Entries.{attribute_in_range, class_entry, entry}
+use Rattle.ftl_step_value.proofs.limits.reads.Entries.{attribute_in_range, class_entry, entry}
 use Rattle.ftl_visit.specs.rule_tables.RuleTables.{rules_by_attribute}
 use Rattle.ftl_visit.specs.visits.Visits.{rule_number}
 use Rattle.maugzeris.proofs.pages.reads.own_rule.Goals as goal

@@ -2,7 +2,7 @@
 use Rattle.std.proofs.Common.{◌≡◌, ◌<◌, ◌∙◌, ℕ, Some, ap, sym, subst, arith}
 use Rattle.std.specs.Option.{option_map}
 use Rattle.ftl_deps.specs.reads.Meant.{meant}
-use Rattle.ftl_limits.proofs.reads.Entries.{attribute_in_range, parent_is, there}
+use Rattle.ftl_step_value.proofs.limits.reads.Entries.{attribute_in_range, parent_is, there}
 use Rattle.ftl_model.proofs.layout.Fits.{kid_stands}
 use Rattle.ftl_model.specs.layout.Path.{Has, at, child_at, down, kid_at, kids_at, node_at, number_of, parent_of}
 use Rattle.ftl_model.specs.layout.Tree.{below_of, size}

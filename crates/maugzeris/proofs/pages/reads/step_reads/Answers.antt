@@ -1,6 +1,6 @@
 use Rattle.std.proofs.Common.{◌∙◌, ap, sym, subst}
 use Rattle.ftl_deps.specs.reads.Meant.{meant}
-use Rattle.ftl_limits.specs.reads.ReadTables.{AreTables}
+use Rattle.ftl_step_value.specs.limits.reads.ReadTables.{AreTables}
 use Rattle.ftl_step_value.specs.cells.ReadCells.{read_cells}
 use Rattle.ftl_tree.specs.trees.CheckedTree.{CheckedTree}
 use Rattle.maugzeris.proofs.pages.reads.step_reads.Goals as goal

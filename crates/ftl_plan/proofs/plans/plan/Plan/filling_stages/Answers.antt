@@ -2,7 +2,7 @@ use Rattle.std.proofs.Common.{subst, sym}
 use Rattle.std.proofs.lemmas.Result.{IfOk-weaker}
 use Rattle.ftl_meaning.specs.faults.Checked.{CheckedGrammar}
 use Rattle.ftl_deps.specs.reads.Meant.{meant}
-use Rattle.ftl_limits.specs.reads.ReadTables.{AreTables, IsSound}
+use Rattle.ftl_step_value.specs.limits.reads.ReadTables.{AreTables, IsSound}
 use Rattle.ftl_nest_check.specs.stages.Nested.{nests_of}
 use Rattle.ftl_nests.specs.Nests.{outer_schedule}
 use Rattle.ftl_plan.specs.plans.FilledStages.{AreSetForNodes, TellFilling}

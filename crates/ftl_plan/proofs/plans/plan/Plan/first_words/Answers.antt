@@ -2,7 +2,7 @@ use Rattle.std.proofs.Common.{◌≡◌, ℕ, List, IfOk, ap, ap₂, ◌∙◌, 
 use Rattle.ftl_meaning.specs.faults.Checked.{CheckedGrammar}
 use Rattle.ftl_model.specs.layout.Tree.{Forest}
 use Rattle.ftl_deps.specs.reads.Meant.{meant}
-use Rattle.ftl_limits.specs.reads.ReadTables.{AreTables}
+use Rattle.ftl_step_value.specs.limits.reads.ReadTables.{AreTables}
 use Rattle.ftl_items.specs.stage_items.WordLaws.{first_words}
 use Rattle.ftl_plan.specs.plans.Planned.{PlanMeaning}
 use Rattle.ftl_plan.proofs.plans.plan.Plan.first_words.Goals as goal

@@ -2,9 +2,9 @@ use Rattle.std.proofs.Common.{◌≡◌, ◌≤◌, List, ap, ◌∙◌, sym, su
 use Rattle.std.specs.List.{All}
 use Rattle.ftl_meaning.specs.faults.Checked.{CheckedGrammar}
 use Rattle.ftl_deps.specs.reads.Meant.{meant}
-use Rattle.ftl_limits.specs.faults.PlanFaults.{first_fault}
-use Rattle.ftl_limits.specs.reads.ReadTables.{AreTables}
-use Rattle.ftl_limits.specs.declared.faults.fault.PlanFault.{PlanFault}
+use Rattle.ftl_step_value.specs.limits.faults.PlanFaults.{first_fault}
+use Rattle.ftl_step_value.specs.limits.reads.ReadTables.{AreTables}
+use Rattle.ftl_step_value.specs.declared.limits.faults.fault.PlanFault.{PlanFault}
 use Rattle.ftl_nests.specs.Nests.{outer_schedule}
 use Rattle.ftl_nest_check.specs.check.NestAccepted.{IsNestAccepted}
 use Rattle.ftl_nest_check.specs.stages.Nested.{nests_of}

@@ -1,7 +1,7 @@
 use Rattle.std.proofs.Common.{◌≡◌, true, subst, sym}
 use Rattle.ftl_base.specs.Widths.{greatest_of_width}
 use Rattle.ftl_building.specs.building.PartDocument.{document_so_far, is_whole}
-use Rattle.ftl_requests.specs.sections.WrittenTrees.{built_tree}
+use Rattle.ftl_answer.specs.reading.sections.WrittenTrees.{built_tree}
 use Rattle.maugzeris.specs.building.PageParts.{PagePart}
 use Rattle.maugzeris.specs.pages.PageState.{PageState}
 use Rattle.maugzeris.specs.refusals.Answers.{Answers}

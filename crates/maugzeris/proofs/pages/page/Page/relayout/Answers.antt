@@ -5,7 +5,7 @@ use Rattle.std.proofs.lemmas.List.Elements.{All-nil}
 use Rattle.ftl_deps.specs.reads.Meant.{meant}
 use Rattle.ftl_edits.specs.declared.meaning.types.Edit.{Edit}
 use Rattle.ftl_edits.specs.meaning.Editable.{AreEditsOf, IsEditOf}
-use Rattle.ftl_limits.specs.faults.PlanFaults.{first_fault}
+use Rattle.ftl_step_value.specs.limits.faults.PlanFaults.{first_fault}
 use Rattle.ftl_model.specs.layout.Table.{SolvesList}
 use Rattle.ftl_model.specs.layout.Values.{Value}
 use Rattle.ftl_nest_check.specs.stages.Nested.{nests_of}

@@ -1,6 +1,6 @@
 use Rattle.std.proofs.Common.{◌∙◌, ap}
 use Rattle.ftl_deps.specs.reads.Meant.{meant}
-use Rattle.ftl_limits.specs.faults.PlanFaults.{first_fault}
+use Rattle.ftl_step_value.specs.limits.faults.PlanFaults.{first_fault}
 use Rattle.ftl_meaning.specs.faults.Checked.{CheckedGrammar}
 use Rattle.ftl_nest_check.specs.stages.Nested.{nests_of}
 use Rattle.ftl_nests.specs.Nests.{outer_schedule}

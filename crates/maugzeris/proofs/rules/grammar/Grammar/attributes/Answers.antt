@@ -1,6 +1,6 @@
 use Rattle.std.proofs.Common.{◌<◌, ◌∙◌, ap, sym, subst}
 use Rattle.ftl_deps.specs.reads.Meant.{meant}
-use Rattle.ftl_limits.proofs.reads.Entries.{entry}
+use Rattle.ftl_step_value.proofs.limits.reads.Entries.{entry}
 use Rattle.ftl_meaning.specs.faults.Checked.{CheckedGrammar}
 use Rattle.ftl_model.specs.layout.AttributeGrammar.{attributes_of}
 use Rattle.maugzeris.proofs.rules.grammar.Grammar.attributes.Goals as goal
