@@ -113,9 +113,9 @@ def shared(name):
 # The wrong bodies by name, each with its parts. docs/WRONG_BODIES.md says in words what each does.
 BODIES = {
     "always_one_fault": [
-        Edit("ftl_requests", "requests_always_one_fault"),
-        Edit("ftl_requests", "requests_always_a_read_fault"),
-        Edit("ftl_requests", "requests_always_refuses_the_words"),
+        Edit("ftl_answer", "reading_requests_always_one_fault"),
+        Edit("ftl_answer", "reading_requests_always_a_read_fault"),
+        Edit("ftl_answer", "reading_requests_always_refuses_the_words"),
         Edit("ftl_answer", "headline_write_fault_without_cause"),
         Edit("ftl_answer", "headline_text_only_without_a_write_fault"),
     ],
