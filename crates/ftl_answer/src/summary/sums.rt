@@ -10,7 +10,7 @@ use ftl_tree::number_of_word;
 
 /// How many values there are, how many of them are Overflow, and the sums of the others: once each,
 /// and by the weights of their places.
-#[derive(Clone, Copy, Debug, PartialEq, Eq)]
+#[derive(Clone, Copy)]
 pub(crate) struct Sums {
     pub(crate) shown: u64,
     pub(crate) overflows: u64,

@@ -18,7 +18,7 @@ pub(crate) struct Site<'a> {
 }
 
 /// An attribute of a node.
-#[derive(Clone, Copy, Debug, PartialEq, Eq)]
+#[derive(Clone, Copy)]
 pub(crate) struct NodeAttr {
     pub node: u32,
     pub attr: u32,

@@ -8,7 +8,7 @@ use crate::tokens::says;
 use ftl_tokens::TokenizedText;
 
 /// A mark in a file: the byte that a refusal means, and its place.
-#[derive(Clone, Copy, Debug, PartialEq, Eq)]
+#[derive(Clone, Copy)]
 pub struct Mark {
     pub byte: usize,
     pub place: Place,

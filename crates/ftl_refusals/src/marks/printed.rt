@@ -14,7 +14,7 @@ const GUTTER: usize = 5;
 
 /// Where in a file a refusal is: a line; where one is known, a column; and how many characters are
 /// meant there.
-#[derive(Clone, Copy, Debug, PartialEq, Eq)]
+#[derive(Clone, Copy)]
 pub struct Spot {
     pub line: usize,
     pub column: Option<usize>,

@@ -9,7 +9,7 @@ use ftl_schedule::{Accepted, PassKind, attribute_count};
 use std::alloc::{AllocError, Global};
 
 /// Where a schedule has an attribute, and of which kind that is.
-#[derive(Clone, Copy, Debug, PartialEq, Eq)]
+#[derive(Clone, Copy)]
 pub(crate) struct KeyPlace {
     pub stage: usize,
     /// The kind of its pass.

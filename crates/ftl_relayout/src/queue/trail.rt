@@ -6,7 +6,7 @@ ghost use Rattle.ftl_relayout.specs.queue.Trails.{undone};
 use ftl_base::Val;
 
 /// A cell, with its value before a write.
-#[derive(Clone, Copy, Debug)]
+#[derive(Clone, Copy)]
 pub struct Before {
     pub cell: u32,
     pub value: Val,

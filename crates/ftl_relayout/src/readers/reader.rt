@@ -3,7 +3,7 @@ use ftl_deps::PartRead;
 use ftl_meaning::RuleInfo;
 
 /// When a part of a rule is read.
-#[derive(Clone, Copy, Debug, PartialEq, Eq)]
+#[derive(Clone, Copy)]
 pub(crate) enum When {
     Always,
     /// For the first kid.
@@ -15,7 +15,7 @@ pub(crate) enum When {
 }
 
 /// A read of a part of a rule.
-#[derive(Clone, Copy, Debug, PartialEq, Eq)]
+#[derive(Clone, Copy)]
 pub(crate) struct Reader {
     pub info: RuleInfo,
     pub when: When,
@@ -23,14 +23,14 @@ pub(crate) struct Reader {
 }
 
 /// Whose attribute a read is of: of the node at which its rule runs, or of a kid there.
-#[derive(Clone, Copy, Debug, PartialEq, Eq)]
+#[derive(Clone, Copy)]
 pub(crate) enum Whose {
     Own,
     Kid,
 }
 
 /// Some numbers of kids, from the first to before the last.
-#[derive(Clone, Copy, Debug, PartialEq, Eq)]
+#[derive(Clone, Copy)]
 pub(crate) struct Range {
     pub from: u32,
     pub to: u32,

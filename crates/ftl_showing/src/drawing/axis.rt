@@ -8,7 +8,7 @@ const FARTHEST: i64 = 10_000_000;
 const SQUEEZED: i64 = 800;
 
 /// One direction of a drawing.
-#[derive(Clone, Copy, Debug, PartialEq, Eq)]
+#[derive(Clone, Copy)]
 pub struct Axis {
     from: i64,
     times: i64,

@@ -10,7 +10,7 @@ const SIDE: i64 = 800;
 const MARGIN: i64 = 16;
 
 /// The edges of what is drawn.
-#[derive(Clone, Copy, Debug, PartialEq, Eq)]
+#[derive(Clone, Copy)]
 pub struct Extent {
     pub left: i64,
     pub top: i64,

@@ -17,7 +17,7 @@ const LEVELS: u32 = 64;
 
 /// What is written into a box: whether its class as well as its number, and where, in points of the
 /// enlarged drawing.
-#[derive(Clone, Copy, Debug, PartialEq, Eq)]
+#[derive(Clone, Copy)]
 pub struct Label {
     pub has_name: bool,
     pub space: Rect,

@@ -12,7 +12,7 @@ use std::alloc::{AllocError, Global};
 
 /// A node that has a box: the box, none where Overflow hides it, and the box around, which is that
 /// of the nearest node above that has one.
-#[derive(Clone, Copy, Debug, PartialEq, Eq)]
+#[derive(Clone, Copy)]
 pub struct Placed {
     pub node: u32,
     pub class: u32,
@@ -23,7 +23,7 @@ pub struct Placed {
 }
 
 /// A box that others stand in.
-#[derive(Clone, Copy, Debug, PartialEq, Eq)]
+#[derive(Clone, Copy)]
 pub struct Frame {
     /// Its place among the boxes of the page.
     pub place: usize,

@@ -6,7 +6,7 @@ use crate::drawing::placed::Placed;
 use crate::drawing::rect::Rect;
 
 /// The two directions of a drawing, and the edges of all that is drawn.
-#[derive(Clone, Copy, Debug, PartialEq, Eq)]
+#[derive(Clone, Copy)]
 pub struct Plot {
     across: Axis,
     down: Axis,

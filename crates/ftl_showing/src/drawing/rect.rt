@@ -1,7 +1,7 @@
 //! Boxes by their numbers.
 
 /// A box: where it begins, and its size, which may be negative.
-#[derive(Clone, Copy, Debug, PartialEq, Eq)]
+#[derive(Clone, Copy, PartialEq, Eq)]
 pub struct Rect {
     pub left: i64,
     pub top: i64,

@@ -9,7 +9,7 @@ use crate::words::BoxNames;
 use maugzeris::{Page, Val};
 
 /// What a node has of a box.
-#[derive(Clone, Copy, Debug, PartialEq, Eq)]
+#[derive(Clone, Copy, PartialEq, Eq)]
 pub enum Shape {
     /// It lacks an attribute that places a box.
     Absent,

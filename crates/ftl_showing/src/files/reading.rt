@@ -6,7 +6,7 @@ use std::rt::Files;
 use std::{fs, io};
 
 /// Why a file was not read.
-#[derive(Debug, Drop)]
+#[derive(Drop)]
 pub enum Unread {
     /// The system gave this error.
     Failed(io::Error),

@@ -13,7 +13,7 @@ use maugzeris::{Page, Val};
 use std::alloc::AllocError;
 
 /// Which attributes a line shows.
-#[derive(Clone, Copy, Debug, PartialEq, Eq)]
+#[derive(Clone, Copy)]
 pub enum Fields {
     /// Those that the node's interface shows.
     Shown,

@@ -5,7 +5,7 @@ ghost use Rattle.std.specs.Prelude.{◌≡◌, false, None, IfOk};
 use std::alloc::{AllocError, Global};
 
 /// How lines are written.
-#[derive(Clone, Copy, Debug, PartialEq, Eq)]
+#[derive(Clone, Copy)]
 pub struct Style {
     /// Whether classes stand out, and values that are Overflow.
     pub color: bool,

@@ -12,7 +12,7 @@ use maugzeris::{Page, Reads};
 use std::alloc::{AllocError, Global};
 
 /// How an instance is met.
-#[derive(Clone, Copy, Debug, PartialEq, Eq)]
+#[derive(Clone, Copy)]
 pub enum Seen {
     /// It was met before.
     Before,
@@ -23,7 +23,7 @@ pub enum Seen {
 }
 
 /// An instance, how many reads lead to it, and how it is met.
-#[derive(Clone, Copy, Debug, PartialEq, Eq)]
+#[derive(Clone, Copy)]
 pub struct Step {
     pub instance: u32,
     pub depth: u32,
@@ -31,7 +31,7 @@ pub struct Step {
 }
 
 /// An instance that is yet to be met, and how many reads lead to it.
-#[derive(Clone, Copy, Debug, PartialEq, Eq)]
+#[derive(Clone, Copy)]
 struct Waiting {
     instance: u32,
     depth: u32,

@@ -50,7 +50,7 @@ pub struct Drawing<'w> {
 }
 
 /// Which boxes tell their number and class, as far as they have room.
-#[derive(Clone, Copy, Debug, PartialEq, Eq)]
+#[derive(Clone, Copy)]
 pub enum Labels {
     /// Those of nodes without kids.
     Leaves,

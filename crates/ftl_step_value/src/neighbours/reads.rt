@@ -10,7 +10,7 @@ use sqlite_items::Items;
 use std::alloc::{AllocError, Global};
 
 /// The node whose attribute is read.
-#[derive(Clone, Copy, Debug, PartialEq, Eq)]
+#[derive(Clone, Copy)]
 pub enum NeighbourSite {
     /// The node at which the step runs.
     Own,
@@ -21,7 +21,7 @@ pub enum NeighbourSite {
 }
 
 /// A read of an attribute, by number, of a neighbour.
-#[derive(Clone, Copy, Debug, PartialEq, Eq)]
+#[derive(Clone, Copy)]
 pub struct NeighbourRead {
     pub site: NeighbourSite,
     pub attr: u32,

@@ -9,7 +9,7 @@ use ftl_page::Solving;
 use std::alloc::AllocError;
 
 /// How the values of a tree are computed.
-#[derive(Clone, Copy, Debug, PartialEq, Eq)]
+#[derive(Clone, Copy)]
 pub enum Evaluation {
     /// As the page's schedule says, by so many workers.
     Scheduled(Solving),
@@ -45,7 +45,7 @@ pub enum Request {
 }
 
 /// Why nothing was decided.
-#[derive(Clone, Copy, Debug, PartialEq, Eq)]
+#[derive(Clone, Copy)]
 pub enum Undone {
     ReadFault,
     OutOfMemory,

@@ -20,7 +20,7 @@ use ftl_page::{Need, Page, Text};
 use std::alloc::{AllocError, Global};
 
 /// What is asked of a grammar and a schedule.
-#[derive(Clone, Copy, Debug, PartialEq, Eq)]
+#[derive(Clone, Copy)]
 pub(crate) enum RulesOutput {
     /// Whether they are accepted.
     Verdict,

@@ -9,14 +9,14 @@ use crate::reading::sections::status::Status;
 use std::alloc::{AllocError, Global};
 
 /// What is to be written, and the status to end with.
-#[derive(Debug, Drop)]
+#[derive(Drop)]
 pub struct Decided {
     pub status: Status,
     pub text: Vec<u8>,
 }
 
 /// Why a stage hands nothing on.
-#[derive(Debug, Drop)]
+#[derive(Drop)]
 pub enum Undecided {
     /// It ends with an answer that refuses.
     Refused(Decided),

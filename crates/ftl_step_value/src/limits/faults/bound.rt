@@ -19,7 +19,7 @@ use sqlite_items::Items;
 
 /// The greatest number of reads of a part that is read once, and of a fold's step, which is read
 /// at each kid.
-#[derive(Clone, Copy, Debug, PartialEq, Eq)]
+#[derive(Clone, Copy)]
 pub(crate) struct RuleBound {
     pub(crate) once: u64,
     pub(crate) each: u64,

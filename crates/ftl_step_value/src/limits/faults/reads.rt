@@ -19,7 +19,7 @@ use std::alloc::{AllocError, Global};
 
 /// How much the steps of a stage read in all, and how much the first of them reads that reads more
 /// than 1048576.
-#[derive(Clone, Copy, Debug, PartialEq, Eq)]
+#[derive(Clone, Copy)]
 pub(crate) struct StageReads {
     pub(crate) total: u64,
     pub(crate) wide: Option<u64>,
