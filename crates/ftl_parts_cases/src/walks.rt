@@ -74,9 +74,25 @@ fn write_walk<W: Solved + Drop>(
         state,
         agrees: true,
     };
+    write_cells(alloc, out, work, &mut walk, random)?;
+    write_walked(out, &walk)
+}
+
+/// Opens the cells of the work, walks, and tells their words in the end.
+fn write_cells<W: Solved + Drop>(
+    alloc: Global,
+    out: &mut String,
+    work: W,
+    walk: &mut Walk,
+    random: &mut Random,
+) -> Result<(), AllocError> {
     let first = work.first(alloc)?;
     let (cells, hand) = Cells::open(alloc, work, first)?;
-    write_end(alloc, out, cells, hand, &mut walk, random)?;
+    write_end(alloc, out, cells, hand, walk, random)
+}
+
+/// Tells whether each step agreed, the state in the end, and how often each event came.
+fn write_walked(out: &mut String, walk: &Walk) -> Result<(), AllocError> {
     write!(out, "; agrees {}; ", walk.agrees)?;
     write_state(out, &walk.state)?;
     write!(out, "; made {:?}", counts_of(walk.events.as_slice()))

@@ -54,18 +54,39 @@ fn push_label(
     let Some(rect) = it.rect else {
         return Ok(());
     };
-    let rect = plot.rect(rect);
-    let Rect { left, top, .. } = rect;
+    push_opening(out, plot, &plot.rect(rect), label)?;
+    push_name(out, page, it.node, label.has_name)?;
+    out.push_str("</text>\n")
+}
+
+/// Appends where the text of a label begins, beside the corner of its box.
+fn push_opening(
+    out: &mut String,
+    plot: &Plot,
+    rect: &Rect,
+    label: &Label,
+) -> Result<(), AllocError> {
+    let Rect { left, top, .. } = *rect;
     let shown = rect.enlarged(plot.extent.scale());
     write!(out, "<text x=\"{left}\" y=\"{top}\" dx=\"")?;
     push_ems(out, label.space.left.saturating_sub(shown.left), 3)?;
     out.push_str("\" dy=\"")?;
     push_ems(out, label.space.top.saturating_sub(shown.top), 11)?;
-    write!(out, "\">{}", it.node)?;
-    if label.has_name && it.node < page.node_count() {
-        write!(out, " {}", page.class_name(it.node))?;
+    out.push_str("\">")
+}
+
+/// Appends the number of a node, and its class where that is asked for.
+fn push_name(
+    out: &mut String,
+    page: &Page<'_>,
+    node: u32,
+    has_name: bool,
+) -> Result<(), AllocError> {
+    write!(out, "{node}")?;
+    if has_name && node < page.node_count() {
+        write!(out, " {}", page.class_name(node))?;
     }
-    out.push_str("</text>\n")
+    Ok(())
 }
 
 /// Appends so many points, of which a letter has eleven, and so many tenths of a letter.
