@@ -160,6 +160,15 @@ BODIES = {
         Edit("ftl_items", "stage_items_stage_is_one_item"),
         Edit("ftl_cursors", "items_stage_is_one_item"),
     ],
+    "relayouts_edited_only": [
+        Edit("ftl_relayout", "queue_relayouts_edited_only"),
+        Edit("ftl_relayout", "relayouter_relayouts_edited_only"),
+    ],
+    "relayouts_everything": [
+        Edit("ftl_relayout", "queue_relayouts_everything"),
+        Edit("ftl_relayout", "relayouter_relayouts_everything"),
+        Edit("ftl_relayout", "queue_computes_twice"),
+    ],
     "one_thread_does_all": [
         Plant(
             "one_thread_does_all",
@@ -227,6 +236,12 @@ BODIES = {
         WantsMemory("run_alone", "crates/ftl_steal/src/alone.rt", "pub fn run_alone<", case="run"),
         WantsMemory("cells_open", "crates/ftl_cells/src/shared/open.rt", "pub fn open("),
         WantsMemory("run_stage", "crates/ftl_steal/src/stage.rt", "pub fn run_stage<"),
+        WantsMemory("run_lots", "crates/ftl_lots/src/run/phases.rt", "pub fn run_lots<", case=""),
+        WantsMemory("noncircular", "crates/ftl_noncircular/src/search/searching.rt", "pub fn noncircular<", case="demand"),
+        WantsMemory("solve_by_demand", "crates/ftl_demand/src/demand/solve.rt", "pub fn solve_by_demand(", case="demand"),
+        WantsMemory("read_edits", "crates/ftl_edits/src/reading/read.rt", "pub fn read_edits(", case="edit"),
+        WantsMemory("relayouter_new", "crates/ftl_relayout/src/relayouter/call.rt", "pub fn new(", case="edit"),
+        WantsMemory("relayout", "crates/ftl_relayout/src/relayouter/call.rt", "pub fn relayout(", case="edit"),
         WantsMemory("steal_pool_new", "crates/ftl_pool/src/steal_pool.rt", "pub fn new("),
         WantsMemory("flag_pool_new", "crates/ftl_pool/src/flag_pool.rt", "pub fn new(", PARTS, "pools"),
         WantsMemory("print_boxes", "crates/ftl_tree/src/boxes/print.rt", "pub fn print_boxes("),
