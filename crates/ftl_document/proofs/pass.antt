@@ -3,3 +3,4 @@ pub mod Meaning
 pub mod Document
 pub mod Fields
 pub mod Steps
+pub mod NodesLeft

@@ -13,4 +13,6 @@ pub mod Documents
 pub mod Levels
 pub mod Shallow
 pub mod Takes
+pub mod TokensTaken
+pub mod RowsLeft
 pub mod AnswerLemmas

@@ -1,3 +1,4 @@
 pub mod Good
+pub mod Left
 pub mod Parts
 pub mod Steps

@@ -6,7 +6,7 @@ pub mod Braces
 pub mod Sizes
 pub mod Read
 pub mod RowReading
-pub mod Nests
+pub mod RowsLeft
 pub mod Worked
 pub use Rattle.ftl_tokens.specs.reading.Depth
 pub use Rattle.ftl_tokens.specs.reading.Place

@@ -1,10 +1,8 @@
 -- What the steps of a pass take, and what is known of the grammar.
 use Rattle.std.specs.Prelude.{◌≡◌, ℕ, ◌≤◌, ◌<◌, List, [], ◌∷◌, length, get_or, ℤ, None}
 use Rattle.ftl_model.specs.layout.TreeOf.{IsInput}
-use Rattle.ftl_tokens.specs.declared.scanner.kind.Kind.TheVariants as kind
-use Rattle.ftl_tokens.specs.scanner.Tokenized.{name, fixed}
+use Rattle.ftl_tokens.specs.scanner.Tokenized.{name}
 use Rattle.ftl_tokens.specs.reading.Reader.{Tokens}
-use Rattle.ftl_grammar.specs.declared.syntax.rules.Child.{Child}
 use Rattle.ftl_grammar.specs.declared.syntax.rules.Grammar.{Grammar}
 use Rattle.ftl_meaning.specs.faults.FirstFault.{first_fault}
 use Rattle.ftl_meaning.specs.faults.Numbering.{class_at, interface_number, interface_of}
@@ -14,7 +12,7 @@ use Rattle.ftl_document.specs.syntax.Braces.{deepest}
 use Rattle.ftl_document.specs.syntax.Spelling.{SpellsNumber}
 use Rattle.ftl_document.specs.declared.pass.nodes.ClassAt.{ClassAt}
 use Rattle.ftl_document.specs.declared.pass.nodes.Pass.{Pass}
-use Rattle.ftl_document.specs.pass.Good.{AreChildren, AreKids, IsDone, IsNode, IsPlainName, State, before, with_input}
+use Rattle.ftl_document.specs.pass.Good.{IsDone, IsNode, IsPlainName, State, before, with_input}
 use Rattle.ftl_document.specs.pass.Parts.{Begins}
 
 -- the names of a class and of its fields are such as texts can have
@@ -51,17 +49,6 @@ pub record IsInputTaken (greatest : ℕ) (s t : State) : Type 0 where
   pub input : IsInput greatest n
   pub taken : s ≡ before front behind
   pub is : t ≡ with_input n behind
-
--- what stands in this child was, whatever children come behind it
-pub record IsChildTaken (g : Grammar) (greatest depth n : ℕ) (c : ℕ × Child) (s t : State) : Type 0 where
-  pub more : (children : List (ℕ × Child)) (u : State) → AreChildren g greatest depth n children t u
-      → AreChildren g greatest depth n (c ∷ children) s u
-
--- a list was
-pub record IsList (g : Grammar) (greatest depth wanted n c : ℕ) (s t : State) : Type 0 where
-  pub inside : State
-  pub opens : s ≡ before (fixed kind.LeftBracket ∷ []) inside
-  pub kids : AreKids g greatest depth wanted n c 0 inside (before (fixed kind.RightBracket ∷ []) t)
 
 -- a whole document was, within the limits
 pub record IsGoodDocument (g : Grammar) (greatest : ℕ) (s t : State) : Type 0 where

@@ -1,23 +1,22 @@
-//! The nodes of a document, as they come.
+//! What stands at the front of a node: the name of its class, and its inputs.
 
 ghost use Rattle.std.specs.Prelude.{◌≡◌, ◌<◌, ◌≤◌, [], ◌∷◌, length, get_or, IfOk, OnOk, IfSome};
 ghost use Rattle.ftl_tokens.specs.scanner.Tokenized.{name, fixed};
-ghost use Rattle.ftl_meaning.specs.faults.Numbering.{child_at, children_of, class_at, class_attributes};
+ghost use Rattle.ftl_meaning.specs.faults.Numbering.{child_at, class_at, class_attributes};
 ghost use Rattle.ftl_document.specs.faults.FirstFault.{input_names, needed_names};
-ghost use Rattle.ftl_document.specs.pass.Good.{AreChildren, AreInputs, AreKids, IsNode, IsPlainName};
-ghost use Rattle.ftl_document.specs.pass.Good.{before};
+ghost use Rattle.ftl_document.specs.pass.Good.{AreInputs, IsPlainName, before};
 ghost use Rattle.ftl_document.specs.pass.Parts.{state_of};
-ghost use Rattle.ftl_document.specs.pass.Steps.{IsChildTaken, IsClassAt, IsClassBefore};
-ghost use Rattle.ftl_document.specs.pass.Steps.{IsInputTaken, IsList, IsReady};
+ghost use Rattle.ftl_document.specs.pass.Steps.{IsClassAt, IsClassBefore, IsInputTaken, IsReady};
 
 use crate::nodes::ClassTable;
-use crate::pass::passed::{Passed, Standing};
+use crate::pass::passed::Passed;
 use crate::pass::tokens::{InputAt, past_gap, past_input, past_name};
 use crate::plain::word_length;
-use crate::syntax::MOST_NODES;
 use ftl_checked::Checked;
 use ftl_tokens::{Kind, ReadFault};
-use ftl_tree::Place;
+
+/// Of a longer word, no more bytes are looked up, so that one that fills a page is gone over once.
+const LONGEST_LOOKED_UP: usize = 4096;
 
 /// What a pass goes by: the grammar, a table for each class, and the greatest number.
 #[derive(Clone, Copy)]
@@ -55,6 +54,7 @@ impl<'g> Pass<'g> {
     #[inline(never)]
     fn likely_class(&self, bytes: &[u8]) -> Option<u32> {
         let word = past_gap(bytes);
+        let word = &word[..word.len().min(LONGEST_LOOKED_UP)];
         match str::from_utf8(&word[..word_length(word)]) {
             Ok(name) => self.checked.find_class(name),
             Err(_) => None,
@@ -89,7 +89,7 @@ impl<'g> Pass<'g> {
 
     /// Takes the name of a class of the interface `wanted`.
     #[inline(always)]
-    fn class(&self, wanted: u32, passed: &mut Passed<'_>) -> Result<u32, ReadFault>
+    pub(crate) fn class(&self, wanted: u32, passed: &mut Passed<'_>) -> Result<u32, ReadFault>
         requires ready { IsReady self.now }
         ensures class { IfOk result (λ k. IsClassBefore self.now.checked.now.grammar wanted k
             (state_of self.now.greatest passed.old) (state_of self.now.greatest passed.new)) }
@@ -105,31 +105,6 @@ impl<'g> Pass<'g> {
         }
     }
 
-    /// Takes a node in which fewer braces than `depth` stand in one another.
-    #[cycle(pass)]
-    #[tactic(auto, using(crate::proofs::pass::Steps::node_taken))]
-    pub(crate) fn node(
-        &self,
-        next: Standing,
-        depth: usize,
-        passed: &mut Passed<'_>,
-    ) -> Result<(), ReadFault>
-        requires ready { IsReady self.now }
-        ensures node { OnOk result (IsNode self.now.checked.now.grammar self.now.greatest depth
-            next.wanted next.parent next.place.child next.place.kid
-            (state_of self.now.greatest passed.old) (state_of self.now.greatest passed.new)) }
-    {
-        if depth == 0 {
-            return Err(ReadFault::Refused);
-        }
-        let class = self.class(next.wanted, passed)?;
-        passed.mark(Kind::LeftBrace)?;
-        let node = passed.add_node(next, class, self.width(class))?;
-        self.inputs(class, passed)?;
-        self.children(class, node, depth - 1, passed)?;
-        passed.mark(Kind::RightBrace)
-    }
-
     /// How many inputs a node of this class has.
     #[inline(always)]
     fn input_count(&self, class: u32) -> u32
@@ -142,7 +117,7 @@ impl<'g> Pass<'g> {
 
     /// How many attributes it has.
     #[inline(always)]
-    fn width(&self, class: u32) -> u32
+    pub(crate) fn width(&self, class: u32) -> u32
         requires ready { IsReady self.now }
         requires known { class < length self.now.checked.now.grammar.classes }
         ensures width { result ≡ length (class_attributes self.now.checked.now.grammar class) }
@@ -182,7 +157,12 @@ impl<'g> Pass<'g> {
     /// Takes the name of a child and `=`.
     #[inline(always)]
     #[tactic(auto, using(crate::proofs::pass::Fields::child_within, crate::proofs::pass::Fields::child_name))]
-    fn child_name(&self, class: u32, child: u32, passed: &mut Passed<'_>) -> Result<(), ReadFault>
+    pub(crate) fn child_name(
+        &self,
+        class: u32,
+        child: u32,
+        passed: &mut Passed<'_>,
+    ) -> Result<(), ReadFault>
         requires ready { IsReady self.now }
         requires known { class < length self.now.checked.now.grammar.classes }
         requires child { child < length (class_at self.now.checked.now.grammar class).children }
@@ -196,7 +176,7 @@ impl<'g> Pass<'g> {
 
     /// Takes the inputs of a node of this class.
     #[inline(always)]
-    fn inputs(&self, class: u32, passed: &mut Passed<'_>) -> Result<(), ReadFault>
+    pub(crate) fn inputs(&self, class: u32, passed: &mut Passed<'_>) -> Result<(), ReadFault>
         requires ready { IsReady self.now }
         requires known { class < length self.now.checked.now.grammar.classes }
         ensures inputs { OnOk result (AreInputs self.now.greatest
@@ -228,95 +208,5 @@ impl<'g> Pass<'g> {
             }
             None => Err(ReadFault::Refused),
         }
-    }
-
-    /// Takes the children of a node of this class.
-    #[cycle(pass)]
-    #[tactic(auto, using(crate::proofs::pass::Steps::children_step, crate::proofs::pass::Steps::children_end))]
-    fn children(
-        &self,
-        class: u32,
-        node: u32,
-        depth: usize,
-        passed: &mut Passed<'_>,
-    ) -> Result<(), ReadFault>
-        requires ready { IsReady self.now }
-        requires known { class < length self.now.checked.now.grammar.classes }
-        ensures children { OnOk result (AreChildren self.now.checked.now.grammar self.now.greatest
-            depth node (children_of self.now.checked.now.grammar class)
-            (state_of self.now.greatest passed.old) (state_of self.now.greatest passed.new)) }
-    {
-        let mut child = 0;
-        while child < self.checked.child_count(class) {
-            self.child(class, child, node, depth, passed)?;
-            child += 1;
-        }
-        Ok(())
-    }
-
-    /// Takes what stands in one child of a node.
-    #[cycle(pass)]
-    #[tactic(auto, using(crate::proofs::pass::Steps::child_single, crate::proofs::pass::Steps::child_list))]
-    fn child(
-        &self,
-        class: u32,
-        child: u32,
-        node: u32,
-        depth: usize,
-        passed: &mut Passed<'_>,
-    ) -> Result<(), ReadFault>
-        requires ready { IsReady self.now }
-        requires known { class < length self.now.checked.now.grammar.classes }
-        requires child { child < length (class_at self.now.checked.now.grammar class).children }
-        ensures child { OnOk result (IsChildTaken self.now.checked.now.grammar self.now.greatest
-            depth node (child, child_at self.now.checked.now.grammar class child)
-            (state_of self.now.greatest passed.old) (state_of self.now.greatest passed.new)) }
-    {
-        self.child_name(class, child, passed)?;
-        let info = self.checked.child(class, child);
-        let next = Standing {
-            wanted: info.interface,
-            parent: node,
-            place: Place { child, kid: 0 },
-        };
-        if info.many {
-            self.list(next, depth, passed)
-        } else {
-            self.node(next, depth, passed)
-        }
-    }
-
-    /// Takes a list, the first of whose nodes stands so.
-    #[cycle(pass)]
-    #[tactic(auto, using(crate::proofs::pass::Steps::list_taken))]
-    fn list(&self, first: Standing, depth: usize, passed: &mut Passed<'_>) -> Result<(), ReadFault>
-        requires ready { IsReady self.now }
-        ensures list { OnOk result (IsList self.now.checked.now.grammar self.now.greatest depth
-            first.wanted first.parent first.place.child (state_of self.now.greatest passed.old)
-            (state_of self.now.greatest passed.new)) }
-    {
-        passed.mark(Kind::LeftBracket)?;
-        self.kids(first, depth, passed)?;
-        passed.mark(Kind::RightBracket)
-    }
-
-    /// Takes nodes up to `]`.
-    #[cycle(pass)]
-    #[tactic(auto, using(crate::proofs::pass::Steps::kids_step, crate::proofs::pass::Steps::kids_end))]
-    fn kids(&self, first: Standing, depth: usize, passed: &mut Passed<'_>) -> Result<(), ReadFault>
-        requires ready { IsReady self.now }
-        ensures kids { OnOk result (AreKids self.now.checked.now.grammar self.now.greatest depth
-            first.wanted first.parent first.place.child 0 (state_of self.now.greatest passed.old)
-            (state_of self.now.greatest passed.new)) }
-    {
-        let mut kid = 0;
-        while kid < MOST_NODES {
-            if passed.ends() {
-                return Ok(());
-            }
-            self.node(first.with_kid(kid), depth, passed)?;
-            kid += 1;
-        }
-        Err(ReadFault::Refused)
     }
 }

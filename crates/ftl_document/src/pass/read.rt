@@ -10,8 +10,8 @@ ghost use Rattle.ftl_document.specs.reading.OfText.{AreNodesOfText};
 use crate::nodes::{DocumentNodes, class_tables};
 use crate::pass::names::names_are_plain;
 use crate::pass::nodes::Pass;
+use crate::pass::open_nodes::OpenNodes;
 use crate::pass::passed::{Passed, Standing};
-use crate::syntax::DEEPEST;
 use ftl_checked::Checked;
 use ftl_tokens::ReadFault;
 use ftl_tree::Place;
@@ -39,7 +39,7 @@ pub fn passed_nodes(
         tables: tables.as_slice(),
         greatest,
     };
-    match pass.document(&mut passed) {
+    match pass.document(alloc, &mut passed) {
         Ok(()) => {
             let Passed { rows, inputs, .. } = passed;
             Ok(Some(DocumentNodes { rows, inputs }))
@@ -51,7 +51,7 @@ pub fn passed_nodes(
 
 impl<'g> Pass<'g> {
     /// Takes all of a document.
-    fn document(&self, passed: &mut Passed<'_>) -> Result<(), ReadFault>
+    fn document(&self, alloc: Global, passed: &mut Passed<'_>) -> Result<(), ReadFault>
         requires ready { IsReady self.now }
         ensures document { OnOk result (IsGoodDocument self.now.checked.now.grammar
             self.now.greatest (state_of self.now.greatest passed.old)
@@ -62,7 +62,9 @@ impl<'g> Pass<'g> {
             parent: 0,
             place: Place { child: 0, kid: 0 },
         };
-        self.node(root, DEEPEST, passed)?;
+        let mut stack = OpenNodes::new(alloc);
+        self.node(root, &mut stack, passed)?;
+        self.finish(&mut stack, passed)?;
         if passed.is_done() {
             Ok(())
         } else {

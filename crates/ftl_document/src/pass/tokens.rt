@@ -163,6 +163,10 @@ fn number_in<'a>(digits: &'a [u8], greatest: u64) -> Option<NumberAt<'a>>
             return number_of(digits, number, at, greatest);
         }
         number = (number * 10 + u64::from(byte - b'0')).min(greatest + 1);
+        // Of a number out of range, as long as it may be, no more is gone over.
+        if number > greatest {
+            return None;
+        }
     }
     number_of(digits, number, digits.len(), greatest)
 }

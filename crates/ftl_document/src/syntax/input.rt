@@ -1,7 +1,7 @@
 //! The tokens that are left to read of a document, whether they stand in a list or are found in the
 //! text as they are asked for.
 
-ghost use Rattle.std.specs.Prelude.{◌≡◌, ◌≤◌, length, IfOk, MatchResult};
+ghost use Rattle.std.specs.Prelude.{◌≡◌, ◌≤◌, ◌<◌, length, IfOk, OnOk, MatchResult};
 ghost use Rattle.ftl_tokens.specs.reading.Reader as spec;
 ghost use Rattle.ftl_tokens.specs.reading.Reader.{Reads, IsFixed};
 
@@ -71,8 +71,10 @@ impl<'a> DocumentInput<'a> {
 
     /// Takes the next token, if there is one.
     #[inline(always)]
+    #[tactic(auto, using(crate::proofs::syntax::TokensTaken::rest_takes))]
     pub(crate) fn skip(&mut self)
         ensures rest { self.new ≡ spec.rest_of self.old }
+        ensures takes { length self.new ≤ length self.old }
     {
         match &mut self.source {
             Source::Scanned(input) => input.skip(),
@@ -82,9 +84,11 @@ impl<'a> DocumentInput<'a> {
 
     /// Takes a reserved word or a mark.
     #[inline(always)]
+    #[tactic(auto, using(crate::proofs::syntax::TokensTaken::expect_takes))]
     pub(crate) fn expect(&mut self, kind: Kind) -> Result<(), ReadFault>
         requires fixed { IsFixed kind }
         ensures reads { Reads (spec.expect kind self.old) result self.new }
+        ensures takes { OnOk result (length self.new < length self.old) }
     {
         match &mut self.source {
             Source::Scanned(input) => input.expect(kind),
@@ -94,10 +98,12 @@ impl<'a> DocumentInput<'a> {
 
     /// Takes a name, and lends its text. No memory is taken, so there is no other fault.
     #[inline(always)]
+    #[tactic(auto, using(crate::proofs::syntax::TokensTaken::name_takes))]
     pub(crate) fn name_text(&mut self) -> Result<&'a str, ReadFault>
         ensures text { MatchResult result
             (λ text. spec.take_name self.old ≡ Ok (text.now, self.new))
             (λ _. spec.take_name self.old ≡ Err self.new) }
+        ensures takes { OnOk result (length self.new < length self.old) }
     {
         match &mut self.source {
             Source::Scanned(input) => input.name_text(),
@@ -107,9 +113,11 @@ impl<'a> DocumentInput<'a> {
 
     /// Takes a number.
     #[inline(always)]
+    #[tactic(auto, using(crate::proofs::syntax::TokensTaken::number_takes))]
     pub(crate) fn number(&mut self) -> Result<u64, ReadFault>
         ensures reads { Reads (spec.take_number self.old) result self.new }
         ensures small { IfOk result (λ n. n ≤ 140737488355327) }
+        ensures takes { OnOk result (length self.new < length self.old) }
     {
         match &mut self.source {
             Source::Scanned(input) => input.number(),

@@ -5,13 +5,13 @@
 //! `specs/syntax/Read.antt` what the reader answers.
 
 mod counts;
-mod depth;
 mod document;
 mod fault;
 mod input;
 mod laws;
 mod name_ref;
-mod nested;
+mod open;
+mod open_rows;
 mod read;
 mod row;
 mod worked;
@@ -21,7 +21,8 @@ pub use fault::WrittenDocumentFault;
 pub(crate) use input::DocumentInput;
 pub use laws::{one_answer, one_place, one_written_document};
 pub use name_ref::NameRef;
+pub(crate) use open::DEEPEST;
 pub use read::read_written_document;
-pub(crate) use read::{DEEPEST, MOST_NODES, document};
+pub(crate) use read::{MOST_NODES, document};
 pub use row::WrittenRow;
 pub use worked::worked_document;

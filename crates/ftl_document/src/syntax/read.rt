@@ -5,21 +5,17 @@ ghost use Rattle.ftl_document.specs.syntax.Read.{ReadsDocument};
 ghost use Rattle.ftl_document.specs.syntax.RowReading as spec;
 
 use crate::syntax::counts::{node_count, token_count};
-use crate::syntax::depth::fields;
 use crate::syntax::document::WrittenDocument;
 use crate::syntax::fault::WrittenDocumentFault;
 use crate::syntax::input::DocumentInput;
 use crate::syntax::name_ref::NameRef;
-use crate::syntax::nested::Nested;
+use crate::syntax::open::{DEEPEST, root};
 use ftl_tokens::{Kind, ReadFault, WideInput, WideScanned, first_too_deep_in, place_in};
 use std::alloc::Global;
 
 const OPENING: [Kind; 1] = [Kind::LeftBrace];
 
 const CLOSING: [Kind; 1] = [Kind::RightBrace];
-
-/// How many braces may be open at once.
-pub(crate) const DEEPEST: usize = 512;
 
 /// How many nodes a document may have.
 pub(crate) const MOST_NODES: u32 = 1_048_576;
@@ -61,11 +57,7 @@ pub(crate) fn document<'a>(
 {
     let class = input.name_text()?;
     let mut rows = Vec::with_capacity(alloc, room)?;
-    let node = Nested {
-        depth: DEEPEST,
-        fields,
-    };
-    node.braces(&mut rows, input)?;
+    root(alloc, &mut rows, input)?;
     input.end()?;
     Ok(WrittenDocument::new(NameRef::new(class), rows))
 }
