@@ -1,10 +1,14 @@
 pub mod FormCode
+pub mod Turning
+pub mod Instructions
+pub mod Formulas
+pub mod KeptForms
+pub mod SharedForms
 pub mod FormTable
 pub mod FormSteps
 pub mod FormTargets
 pub mod FormValues
 pub mod FormEntries
-pub mod FormPicks
 pub mod FormFolds
 pub mod FoldValues
 pub mod FoldEntries

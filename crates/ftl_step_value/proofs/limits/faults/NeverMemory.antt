@@ -1,5 +1,5 @@
 -- No first fault of a plan is want of memory.
-use Rattle.std.proofs.Common.{◌≡◌, ◌≢◌, ℕ, ◌+◌, length, nat_lt, Option, Some, None}
+use Rattle.std.proofs.Common.{◌≢◌, ℕ, ◌+◌, length, nat_lt, Option, Some, None}
 use Rattle.std.specs.List.{range_with_len}
 use Rattle.std.specs.Option.{option_map}
 use Rattle.ftl_model.specs.layout.AttributeGrammar.{AttributeGrammar}

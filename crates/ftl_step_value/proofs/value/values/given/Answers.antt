@@ -1,5 +1,5 @@
 -- Before the value of a read stand those of the reads before it.
-use Rattle.std.proofs.Common.{◌≡◌, ◌<◌, Some, ap, arith, get_or, length, map, subst, sym, ◌∙◌, take, Contains}
+use Rattle.std.proofs.Common.{◌≡◌, ◌<◌, Some, ap, arith, get_or, length, map, subst, sym, ◌∙◌, take}
 use Rattle.std.proofs.lemmas.List.{get_or-map, length-map}
 use Rattle.std.proofs.lemmas.List.Elements.{Contains-get_or}
 use Rattle.std.proofs.lemmas.Option.{slice_get-get_or}
