@@ -4,3 +4,4 @@ pub mod VisitLemmas
 pub mod TargetLemmas
 pub mod PlaceLemmas
 pub mod ItemLemmas
+pub mod PartLemmas

@@ -1,3 +1,4 @@
+pub mod classes
 pub mod visit_steps
 pub mod inorder
 pub mod items

@@ -3,3 +3,5 @@ pub mod NodeRanges
 pub mod Places
 pub mod StepLaws
 pub mod VisitSteps
+pub mod NodeParts
+pub mod SparsePlaces

@@ -7,10 +7,14 @@
 //! - `items`: `ItemRows`, `TreeRows`, `StageItems`: the items of a stage in flat rows
 //! - `sequence`: `SequenceCursor`: the steps of an in-order pass
 //! - `stages`: `StageRows`: what a plan keeps for a stage, once for all nodes
-//! - `visits`: `VisitCursor`: the steps of the visits of a range of nodes
-//! - `item_cursor`: `ItemCursor`: the steps of an item
+//! - `classes`: which classes the nodes of a tree have, block by block
+//! - `visits`: `VisitCursor`, and `SparseCursor` where few nodes have rules: the steps of the visits
+//!   of a range of nodes
+//! - `item_cursor`: `ItemCursor`: the steps of an item; `sparse_steps`: those of one in which few
+//!   nodes have rules
 #![tactic(auto)]
 
+mod classes;
 pub mod inorder;
 pub mod item_cursor;
 pub mod items;
@@ -19,6 +23,6 @@ pub mod stages;
 pub mod visit_steps;
 pub mod visits;
 
-pub use item_cursor::{ItemCursor, ItemTables, found_steps};
+pub use item_cursor::{ItemCursor, ItemTables, found_steps, sparse_steps};
 pub use items::{ItemRows, StageItems, TreeRows};
 pub use stages::{PassTables, StageRows};

@@ -17,7 +17,7 @@ use Rattle.ftl_cursors.specs.declared.items.view.FoundItem.{FoundItem}
 use Rattle.ftl_host_cursors.specs.HostLaws.{passes_in_order}
 use Rattle.ftl_host_cursors.specs.HostPlaces.{AreHostTables}
 use Rattle.ftl_host_cursors.specs.declared.nest_cursor.NestCursor.{NestCursor}
-use Rattle.ftl_host_cursors.specs.declared.nest_cursor.NestCursor.TheVariants.{Hosted, Plain}
+use Rattle.ftl_host_cursors.specs.declared.nest_cursor.NestCursor.TheVariants.{Hosted, Plain, Sparse}
 use Rattle.ftl_host_cursors.specs.declared.nest_rows.NestRows.{NestRows}
 use Rattle.ftl_host_cursors.specs.declared.tables.HostTables.{HostTables}
 use Rattle.ftl_host_cursors.specs.declared.tables.NestTables.{NestTables}
@@ -51,6 +51,7 @@ pub record AreHostTablesOf (x : NestTables) (found : FoundItem) (nest : NestRows
 -- the steps that are left
 abbrev pub nest_steps_left : NestCursor → List Step
 nest_steps_left (Plain steps) = steps_left steps
+nest_steps_left (Sparse steps) = steps
 nest_steps_left (Hosted steps) = steps
 
 -- ---- in a schedule with nests

@@ -11,8 +11,8 @@ use crate::cursor::HostCursor;
 use crate::nest_cursor::NestCursor;
 use crate::nest_rows::NestRows;
 use crate::tables::{HostTables, NestTables};
-use ftl_cursors::found_steps;
 use ftl_cursors::items::FoundItem;
+use ftl_cursors::{found_steps, sparse_steps};
 
 /// The steps of an item.
 #[inline(always)]
@@ -24,7 +24,10 @@ pub fn item_steps<'a>(tables: NestTables<'a>, item: u32) -> NestCursor<'a>
 {
     let found = tables.own.items.find(item);
     match &tables.nests[found.pass as usize] {
-        None => NestCursor::Plain(found_steps(tables.own, item, found)),
+        None => match sparse_steps(tables.own, item, found) {
+            Some(steps) => NestCursor::Sparse(steps),
+            None => NestCursor::Plain(found_steps(tables.own, item, found)),
+        },
         Some(nest) => NestCursor::Hosted(hosted_steps(tables, item, found, nest)),
     }
 }

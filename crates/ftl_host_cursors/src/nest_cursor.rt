@@ -5,6 +5,7 @@ ghost use Rattle.ftl_host_cursors.specs.NestTables.{nest_steps_left};
 
 use crate::cursor::HostCursor;
 use ftl_cursors::ItemCursor;
+use ftl_cursors::visits::SparseCursor;
 use ftl_order::Step;
 
 /// Goes through the steps of an item.
@@ -12,6 +13,8 @@ use ftl_order::Step;
 pub enum NestCursor<'a> {
     /// Of a pass that nests nothing.
     Plain(ItemCursor<'a>),
+    /// Of such a one, where few of the item's nodes have rules.
+    Sparse(SparseCursor<'a>),
     /// By the visits of its nodes, those of hosts with the inner passes over their trees.
     Hosted(HostCursor<'a>),
 }
@@ -26,6 +29,7 @@ impl<'a> NestCursor<'a> {
     {
         match self {
             NestCursor::Plain(steps) => steps.next(),
+            NestCursor::Sparse(steps) => steps.next(),
             NestCursor::Hosted(steps) => steps.next(),
         }
     }

@@ -6,6 +6,7 @@ mod Leaving
 mod Marking
 pub mod Driven
 mod Formed
+mod NextReads
 mod Folded
 mod FoldedKids
 pub mod Inputs

@@ -1,6 +1,7 @@
 pub mod StageParts
 pub mod KindPhases
 pub mod Driving
+pub mod FormReads
 pub mod FilledStages
 pub mod Planned
 pub mod PlannedStages

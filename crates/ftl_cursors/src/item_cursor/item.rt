@@ -76,7 +76,7 @@ fn sequence_steps<'a>(tables: ItemTables<'a>, item: u32, found: FoundItem) -> Se
 }
 
 /// In which order a pass visits the nodes of an item.
-fn node_order(kind: PassKind) -> NodeOrder
+pub(crate) fn node_order(kind: PassKind) -> NodeOrder
     requires kind { kind ≢ InOrder }
     ensures order { result ≡ order_of kind }
 {

@@ -5,6 +5,7 @@ ghost use Rattle.ftl_cursors.specs.items.HostRows.{AreMadeFor, AreNumbered, AreN
 ghost use Rattle.ftl_cursors.specs.items.HostRows.{IsNumberFor};
 ghost use Rattle.ftl_cursors.specs.items.HostRows.{hosts_of, is_one_host};
 
+use crate::classes::class_blocks;
 use crate::items::by_host::TreeRows;
 use crate::items::columns::ItemRows;
 use ftl_tree::Tree;
@@ -28,10 +29,12 @@ impl<'a> TreeRows<'a> {
             let rows = ItemRows::new(alloc, tree, grain, Some(*host))?;
             by_host.push(rows)?;
         }
+        let blocks = class_blocks(alloc, tree)?;
         Ok(TreeRows {
             tree,
             grain,
             by_host,
+            blocks,
         })
     }
 

@@ -51,7 +51,7 @@ use Rattle.ftl_schedule.specs.contracts.check.accepted.Accepted.TheInside as acc
 use Rattle.ftl_visit.proofs.compiled.programs.Programs.TheSendSync as programs
 use Rattle.ftl_step_value.proofs.limits.reads.tables.ReadTables.TheSendSync as reads
 use Rattle.ftl_step_value.proofs.neighbours.parts.NeighbourParts.TheSendSync as neighbours
-use Rattle.ftl_step_value.proofs.forms.step_form.RuleForm.TheSendSync as form
+use Rattle.ftl_step_value.proofs.forms.SharedForms.{rule_form_sync}
 use Rattle.ftl_plan.specs.contracts.plans.parts.StageParts as StageParts
 use Rattle.ftl_plan.specs.contracts.plans.work.StageWork as StageWork
 
@@ -153,7 +153,7 @@ parts_sync κ =
       programs.the_sync,
       reads.the_field_sync,
       neighbours.the_sync,
-      form.the_sync,
+      rule_form_sync,
       sendable,
     ) depth 30
 

@@ -5,14 +5,15 @@
 //! through an item with each step made once; and the words of the values that solve the tree,
 //! computed by one thread, stage after stage. `specs/plans/StageParts.antt` says what a stage is
 //! made of, `specs/plans/StageWords.antt` which words fit it, `specs/plans/Driving.antt` where a
-//! filler stands around a step. The work of a stage may be shared by threads, as
-//! `proofs/plans/Shared.antt` shows.
+//! filler stands around a step, `specs/plans/FormReads.antt` where it stands within one. The work of
+//! a stage may be shared by threads, as `proofs/plans/Shared.antt` shows.
 
 mod alone;
 mod filled;
 mod fitting;
 mod folding;
 mod forming;
+mod formulas;
 mod hosts;
 mod items;
 mod kept;

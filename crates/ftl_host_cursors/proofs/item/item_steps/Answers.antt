@@ -13,8 +13,28 @@ bounds-tables-found c =
 pub found_steps-requires-clause-tables : goal.found_steps-requires-clause-tables
 found_steps-requires-clause-tables c = c.requires.tables.own
 
-pub returns-in-None : goal.returns-in-None
-returns-in-None c =
+-- the pass nests nothing, so the item has the steps of a flat one
+pub returns-in-Some-sparse_steps : goal.returns-in-Some-sparse_steps
+returns-in-Some-sparse_steps c =
+    let x = c.args.tables in
+    let i = c.args.item in
+    let found = c.find-found.result in
+    let is = c.find-found.ensures.found in
+    let known = nest_known x i found is c.requires.tables in
+    let nothing : get_or x.nests.now found.pass None ≡ None =
+    sym (get_or_default x.nests.now found.pass c.index-tables-found.result None known)
+    ∙ c.in-None.is in
+    record {
+      steps = λ s stage once of.
+          subst
+          (λ (instances : List Instance). AreStepsOf (grammar_in x.own) (forest_in x.own) instances
+          c.in-Some-sparse_steps.steps)
+          (plain_is x i found is s stage of nothing)
+          (c.in-Some-sparse_steps.ensures.steps (outer_schedule s) stage once (outer_is x i found is s stage of nothing));
+    }
+
+pub returns-in-None-sparse_steps : goal.returns-in-None-sparse_steps
+returns-in-None-sparse_steps c =
     let x = c.args.tables in
     let i = c.args.item in
     let found = c.find-found.result in

@@ -1,0 +1,35 @@
+-- Sets of classes as bits of a number, and those of the nodes of a tree, block by block.
+use Rattle.std.specs.Prelude.{◌≡◌, ◌≢◌, ℕ, ◌*◌, ◌/◌, ◌%◌, ◌<◌, ◌≤◌, List, [], length, slice_index_or}
+use Rattle.std.specs.Int.{bit_at}
+use Rattle.ftl_model.specs.layout.Path.{class_at, node_at}
+use Rattle.ftl_model.specs.layout.Tree.{Forest, size}
+use Rattle.ftl_visit.specs.declared.visits.visit_op.VisitOp.{VisitOp}
+
+-- the set has the class; classes that are 128 apart count as one
+abbrev pub HasClass : (set class : ℕ) → Type 0
+HasClass set class = bit_at set (class % 128) ≡ 1
+
+-- it has the classes of another set
+abbrev pub HasAllOf : (set other : ℕ) → Type 0
+HasAllOf set other = (class : ℕ) → HasClass other class → HasClass set class
+
+-- it has each class whose visit has an operation
+abbrev pub HasVisited : (set : ℕ) → (visits : List (List VisitOp)) → Type 0
+HasVisited set visits = (class : ℕ) → slice_index_or visits class [] ≢ [] → HasClass set class
+
+-- the class of a node
+abbrev pub class_of : Forest → (node : ℕ) → ℕ
+class_of t n = class_at t (node_at t n)
+
+-- the set has the classes of the nodes from the first on, up to the end
+abbrev pub HasClassesBetween : (set : ℕ) → Forest → (first end : ℕ) → Type 0
+HasClassesBetween set t first end = (n : ℕ) → first ≤ n → n < end → HasClass set (class_of t n)
+
+-- the number of the block of a node
+abbrev pub block_of : (node : ℕ) → ℕ
+block_of n = n / 64
+
+-- there is a set for each block, and it has the classes of the block's nodes
+pub record AreClassBlocks (t : Forest) (sets : List ℕ) : Type 0 where
+  pub count : size t ≤ 64 * length sets
+  pub classes : (n : ℕ) → n < size t → HasClass (slice_index_or sets (block_of n) 0) (class_of t n)

@@ -1,0 +1,28 @@
+//! Sets of classes.
+ghost use Rattle.std.specs.Prelude.{◌≡◌, length};
+ghost use Rattle.ftl_cursors.specs.classes.ClassSets.{HasAllOf, HasClass, HasVisited};
+
+use ftl_visit::PassVisits;
+
+/// The set with one more class.
+#[inline(always)]
+pub(crate) fn with_class(set: u128, class: u32) -> u128
+    ensures has { HasClass result class }
+    ensures stays { HasAllOf result set }
+{
+    set | 1 << (class % 128)
+}
+
+/// The classes that a pass with these visits has operations for.
+pub(crate) fn visited_classes(visits: &PassVisits, class_count: u32) -> u128
+    requires count { class_count ≡ length visits.now }
+    ensures visited { HasVisited result visits.now }
+{
+    let mut set = 0;
+    for class in 0..class_count {
+        if !visits.visit(class).is_empty() {
+            set = with_class(set, class);
+        }
+    }
+    set
+}
