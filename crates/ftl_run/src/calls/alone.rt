@@ -23,7 +23,7 @@ use crate::calls::change::edited_shown;
 use crate::calls::demand::page_by_demand;
 use crate::calls::shown::table_shown;
 use crate::calls::solving::{
-    EDITED_PAGE, PageRead, Rules, WHOLE_PAGE, is_solved, plan_of, rules_of, text_of,
+    EDITED_PAGE, MOST_GRAIN, PageRead, Rules, WHOLE_PAGE, is_solved, plan_of, rules_of, text_of,
 };
 use crate::calls::task::Task;
 use ftl_answer::reading::{
@@ -63,24 +63,19 @@ fn solved_alone(alloc: Global, problem: Problem) -> Result<Decided, Undecided>
         bytes,
     } = problem;
     match evaluation {
-        Evaluation::Scheduled(how) => solved_page(alloc, shown, how.grain, bytes),
+        Evaluation::Scheduled(_how) => solved_page(alloc, shown, bytes),
         Evaluation::ByDemand => page_by_demand(alloc, &shown, bytes),
     }
 }
 
 /// The table of a page whose schedule says how it is solved.
-fn solved_page(
-    alloc: Global,
-    shown: Shown,
-    grain: u32,
-    bytes: Vec<u8>,
-) -> Result<Decided, Undecided>
+fn solved_page(alloc: Global, shown: Shown, bytes: Vec<u8>) -> Result<Decided, Undecided>
     ensures outcome { EndsIn (solved bytes.items (text_shown shown)) result }
 {
     match rules_of(alloc, bytes, WHOLE_PAGE) {
         Ok(page) => {
             let PageRead { rules, edits: _ } = page;
-            solved_rules(alloc, Task::Show(shown), grain, rules)
+            solved_rules(alloc, Task::Show(shown), rules)
         }
         Err(end) => Err(end),
     }
@@ -90,17 +85,17 @@ fn solved_page(
 fn edited_alone(alloc: Global, page: EditedPage) -> Result<Decided, Undecided>
     ensures outcome { EndsIn (solved_anew page.bytes.items) result }
 {
-    let EditedPage { solving, bytes } = page;
+    let EditedPage { solving: _, bytes } = page;
     match rules_of(alloc, bytes, EDITED_PAGE) {
         Ok(page) => {
             let PageRead { rules, edits } = page;
-            solved_rules(alloc, Task::Edit(edits), solving.grain, rules)
+            solved_rules(alloc, Task::Edit(edits), rules)
         }
         Err(end) => Err(end),
     }
 }
 
-fn solved_rules(alloc: Global, task: Task, grain: u32, rules: Rules) -> Result<Decided, Undecided>
+fn solved_rules(alloc: Global, task: Task, rules: Rules) -> Result<Decided, Undecided>
     requires ready { AreReady rules }
     requires edits { IsTaskReady task }
     ensures outcome { EndsIn (rules_stage rules task) result }
@@ -112,7 +107,7 @@ fn solved_rules(alloc: Global, task: Task, grain: u32, rules: Rules) -> Result<D
     } = rules;
     let document = text_of(alloc, document);
     match schedule_of(alloc, &checked, schedule) {
-        Ok(accepted) => solved_document(alloc, task, grain, &checked, &accepted, document),
+        Ok(accepted) => solved_document(alloc, task, &checked, &accepted, document),
         Err(end) => Err(end),
     }
 }
@@ -120,7 +115,6 @@ fn solved_rules(alloc: Global, task: Task, grain: u32, rules: Rules) -> Result<D
 fn solved_document(
     alloc: Global,
     task: Task,
-    grain: u32,
     checked: &Checked,
     accepted: &AcceptedNests<'_>,
     document: String,
@@ -132,7 +126,7 @@ fn solved_document(
         (string_bytes document) task) result }
 {
     match tree_of(alloc, checked, accepted, document) {
-        Ok(tree) => solved_tree(alloc, task, grain, checked, accepted, tree),
+        Ok(tree) => solved_tree(alloc, task, checked, accepted, tree),
         Err(end) => Err(end),
     }
 }
@@ -140,7 +134,6 @@ fn solved_document(
 fn solved_tree(
     alloc: Global,
     task: Task,
-    grain: u32,
     checked: &Checked,
     accepted: &AcceptedNests<'_>,
     tree: Tree<'_>,
@@ -153,8 +146,8 @@ fn solved_tree(
     ensures outcome { EndsIn (task_stage task checked.now tree.entry.tree) result }
 {
     match task {
-        Task::Show(shown) => Ok(tree_shown(alloc, &shown, grain, checked, accepted, &tree)?),
-        Task::Edit(edits) => edited_tree(alloc, edits, grain, checked, accepted, tree),
+        Task::Show(shown) => Ok(tree_shown(alloc, &shown, checked, accepted, &tree)?),
+        Task::Edit(edits) => edited_tree(alloc, edits, checked, accepted, tree),
     }
 }
 
@@ -162,7 +155,6 @@ fn solved_tree(
 fn tree_shown(
     alloc: Global,
     shown: &Shown,
-    grain: u32,
     checked: &Checked,
     accepted: &AcceptedNests<'_>,
     tree: &Tree<'_>,
@@ -175,7 +167,7 @@ fn tree_shown(
         tree.now.tree (ends (answer_of d))) }
 {
     let programs = compile(alloc, checked)?;
-    let words = words_alone(alloc, grain, checked, accepted, &programs, tree)?;
+    let words = words_alone(alloc, checked, accepted, &programs, tree)?;
     table_shown(alloc, shown, tree, words.as_slice())
 }
 
@@ -183,7 +175,6 @@ fn tree_shown(
 fn edited_tree(
     alloc: Global,
     text: Option<Text>,
-    grain: u32,
     checked: &Checked,
     accepted: &AcceptedNests<'_>,
     tree: Tree<'_>,
@@ -196,7 +187,7 @@ fn edited_tree(
     ensures outcome { EndsIn (task_stage (Edit text) checked.now tree.entry.tree) result }
 {
     match edits_of(alloc, checked, &tree, text_of(alloc, text)) {
-        Ok(edits) => Ok(changed_tree(alloc, &edits, grain, checked, accepted, tree)?),
+        Ok(edits) => Ok(changed_tree(alloc, &edits, checked, accepted, tree)?),
         Err(end) => Err(end),
     }
 }
@@ -204,7 +195,6 @@ fn edited_tree(
 fn changed_tree(
     alloc: Global,
     edits: &EditList,
-    grain: u32,
     checked: &Checked,
     accepted: &AcceptedNests<'_>,
     tree: Tree<'_>,
@@ -218,7 +208,7 @@ fn changed_tree(
         (ends (answer_of d))) }
 {
     let programs = compile(alloc, checked)?;
-    let words = words_alone(alloc, grain, checked, accepted, &programs, &tree)?;
+    let words = words_alone(alloc, checked, accepted, &programs, &tree)?;
     edited_shown(
         alloc,
         checked,
@@ -230,10 +220,10 @@ fn changed_tree(
     )
 }
 
-/// The words of the values that solve a tree.
+/// The words of the values that solve a tree. The tree is one item where a pass allows, since the
+/// calling thread gives none to others.
 pub fn words_alone(
     alloc: Global,
-    grain: u32,
     checked: &Checked,
     accepted: &AcceptedNests<'_>,
     programs: &Programs,
@@ -247,7 +237,7 @@ pub fn words_alone(
         (outer_schedule (nests_of accepted.now.schedule)) tree.now.tree ≡ None }
     ensures solved { IfOk result (λ v. IsSolvedBy tree.now v.items) }
 {
-    let plan = plan_of(alloc, grain, checked, accepted, programs, tree)?;
+    let plan = plan_of(alloc, MOST_GRAIN, checked, accepted, programs, tree)?;
     let words = solve_alone(alloc, &plan)?;
     is_solved(&plan, tree, words.as_slice());
     Ok(words)

@@ -42,6 +42,9 @@ pub(crate) const EDITED_PAGE: Need = Need {
     edits: true,
 };
 
+/// The greatest grain, and the most nodes of a tree.
+pub(crate) const MOST_GRAIN: u32 = 1_048_576;
+
 /// The grammar of a page, and the texts of its schedule and its document.
 #[derive(Drop)]
 pub(crate) struct Rules {
@@ -119,7 +122,7 @@ pub(crate) fn plan_of<'a>(
     ensures grammar { IfOk result (λ p. p.checked ≡ checked.now) }
     ensures tree { IfOk result (λ p. p.tree ≡ tree.now.tree) }
 {
-    let grain = in_range(grain, 1_048_576);
+    let grain = in_range(grain, MOST_GRAIN);
     match Plan::new(alloc, checked, accepted, programs, tree, grain) {
         Ok(plan) => Ok(plan),
         Err(PlanFault::OutOfMemory) => Err(AllocError),

@@ -23,7 +23,8 @@ use crate::calls::change::edited_shown;
 use crate::calls::demand::page_by_demand;
 use crate::calls::shown::table_shown;
 use crate::calls::solving::{
-    EDITED_PAGE, PageRead, Rules, WHOLE_PAGE, in_range, is_solved, plan_of, rules_of, text_of,
+    EDITED_PAGE, MOST_GRAIN, PageRead, Rules, WHOLE_PAGE, in_range, is_solved, plan_of, rules_of,
+    text_of,
 };
 use crate::calls::task::Task;
 use crate::solve::solve;
@@ -287,9 +288,15 @@ pub fn words_by_workers<R: Threads + Wait + Sync, G: Gate>(
         (outer_schedule (nests_of accepted.now.schedule)) tree.now.tree ≡ None }
     ensures solved { IfOk result (λ v. IsSolvedBy tree.now v.items) }
 {
-    let plan = plan_of(alloc, how.grain, checked, accepted, programs, tree)?;
     let workers = in_range(how.workers, 64);
+    let grain = grain_for(workers, how.grain);
+    let plan = plan_of(alloc, grain, checked, accepted, programs, tree)?;
     let words = solve(rt, alloc, &plan, workers, gate)?;
     is_solved(&plan, tree, words.as_slice());
     Ok(words)
+}
+
+/// The grain for so many workers: the greatest for one, who gives no items to others.
+fn grain_for(workers: u32, grain: u32) -> u32 {
+    if workers == 1 { MOST_GRAIN } else { grain }
 }

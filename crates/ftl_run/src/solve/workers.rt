@@ -35,13 +35,16 @@ pub fn solve<R: Threads + Wait + Sync, G: Gate>(
         return solve_alone(alloc, plan);
     }
     plan.words_fit();
+    let filling = plan.filling_stages(alloc)?;
     let lots = lot_count(plan.node_count(), plan.cell_count(), workers);
     let mut words = CellWords::in_a_row(plan.first_words(alloc)?, Vec::new(alloc));
     let mut kept = Vec::new(alloc);
     for stage in 0..plan.stage_count() {
-        let work = plan.stage(stage);
-        let place = work.phases(alloc, lots, &mut kept)?;
-        words = words_after(rt, alloc, work, &kept[place].phases, words, workers, gate)?;
+        if filling[stage as usize] {
+            let work = plan.stage(stage);
+            let place = work.phases(alloc, lots, &mut kept)?;
+            words = words_after(rt, alloc, work, &kept[place].phases, words, workers, gate)?;
+        }
     }
     let (row, _parts) = words.into_row(rt);
     Ok(row)

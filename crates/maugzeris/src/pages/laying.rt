@@ -16,9 +16,6 @@ use std::alloc::{AllocError, Global};
 use std::sync::Wait;
 use std::thread::Threads;
 
-/// The most nodes of an item on the calling thread.
-const GRAIN: u32 = 64;
-
 impl<'a> Page<'a> {
     /// Whether the page was laid out.
     pub fn is_laid_out(&self) -> bool
@@ -44,7 +41,8 @@ impl<'a> Page<'a> {
     }
 
     /// The same by so many workers in threads of their own, each given subtrees of so many nodes at
-    /// most at once: from 1 to 64 workers, and from 1 to 1048576 nodes, or the nearest of these.
+    /// most at once: from 1 to 64 workers, and from 1 to 1048576 nodes, or the nearest of these. One
+    /// worker is the calling thread, and given the whole tree.
     pub fn lay_out_by<R: Threads + Wait + Sync>(
         &mut self,
         rt: &R,
@@ -74,14 +72,7 @@ impl<'a> Page<'a> {
         let grammar = self.grammar();
         let checked = grammar.checked();
         let programs = grammar.programs();
-        let words = words_alone(
-            alloc,
-            GRAIN,
-            checked,
-            self.schedule(),
-            programs,
-            self.tree(),
-        )?;
+        let words = words_alone(alloc, checked, self.schedule(), programs, self.tree())?;
         solving_values(alloc, self.tree(), words.as_slice())
     }
 

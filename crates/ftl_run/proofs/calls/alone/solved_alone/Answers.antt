@@ -5,7 +5,7 @@ use Rattle.ftl_run.proofs.calls.alone.solved_alone.Goals as goal
 pub returns-in-Scheduled : goal.returns-in-Scheduled
 returns-in-Scheduled c = record {
   outcome =
-      as_evaluated c.args.problem (Scheduled c.in-Scheduled.how) c.solved_page.result c.in-Scheduled.is
+      as_evaluated c.args.problem (Scheduled c.in-Scheduled._how) c.solved_page.result c.in-Scheduled.is
       c.solved_page.ensures.outcome;
 }
 

@@ -1,5 +1,6 @@
 use denote.Param.Send.{sendable}
-use Rattle.std.proofs.Common.{◌≡◌, refl, sym, subst, ◌∙◌, arith, Some}
+use Rattle.std.proofs.Common.{◌≡◌, ◌+◌, ◌<◌, ap, false, true, get_or, length, refl, sym, subst, ◌∙◌, arith, Some}
+use Rattle.std.proofs.lemmas.List.{get_or_default}
 use Rattle.std.specs.List.{All}
 use Rattle.std.proofs.lemmas.List.Elements.{All-nil}
 use Rattle.std.proofs.lemmas.Option.{slice_get_read}
@@ -15,6 +16,7 @@ use Rattle.ftl_plan.specs.plans.StageTables.{stage_in}
 use Rattle.ftl_plan.specs.plans.StageWords.{FitStage}
 use Rattle.ftl_plan.proofs.plans.Shared.{stage_work_sync}
 use Rattle.ftl_run.proofs.solve.workers.solve.Goals as goal
+use Rattle.ftl_run.proofs.solve.workers.solve.Goals.{then-index+in_ok-place+in_ok-words, else-index}
 
 pub loop-stage-init : goal.loop-stage-init
 loop-stage-init g c = (
@@ -36,23 +38,47 @@ words_after-requires g c κs =
     subst (λ (v : StageView). AreFirst (meaning_at v) c.loop-stage.words) (sym c.stage-work.ensures.stage)
     c.loop-stage.invariant.0.first in
     let kept = c.phases.new.kept.items in
-    let entry = c.index.result.now in
+    let entry = c.index-then-index.result.now in
     let takes : (t : Phases) → entry.phases ≡ Some t → CanTake (meaning_at c.stage-work.result) t =
     λ t is.
     c.in_ok-place.ensures.phases entry t
-    (slice_get_read kept _ c.in_ok-place.place entry refl c.in_ok-place.ensures.place c.index.ensures) is in (
+    (slice_get_read kept _ c.in_ok-place.place entry refl c.in_ok-place.ensures.place c.index-then-index.ensures) is in (
       search sendable depth 30,
       (search (stage_work_sync, sendable) depth 30, (search sendable depth 30, (first, (takes, (c.requires.some, c.requires.few))))),
     )
 
 pub loop-stage-preserved : goal.loop-stage-preserved
 loop-stage-preserved g c =
-    let words = c.in_ok-words.words in
-    let kept = c.phases.new.kept.items in (
-      c.words_fit.ensures.next c.loop-stage.stage words
-          (subst (λ (v : StageView). AreLast (meaning_at v) words) c.stage-work.ensures.stage c.in_ok-words.ensures.last),
-      subst (λ (v : StageView). All (FitKinds v) kept) c.stage-work.ensures.stage c.in_ok-place.ensures.kept,
-    )
+    let p = c.args.plan.now in
+    let stage = c.loop-stage.stage in
+    let told = c.in_ok-filling.ensures.told in
+    elim c.if-index.branch [
+      | then-index+in_ok-place+in_ok-words w ↦
+          let words = w.in_ok-words.words in
+          let kept = w.phases.new.kept.items in (
+            subst (λ ws. FitStage p (stage + 1) ws) (sym w.words-is)
+                (c.words_fit.ensures.next stage words
+                (subst (λ (v : StageView). AreLast (meaning_at v) words) w.stage-work.ensures.stage
+                w.in_ok-words.ensures.last)),
+            subst (λ ks. All (FitKinds (stage_in p (stage + 1))) ks) (sym (ap (λ v. v.items) w.kept-is))
+                (subst (λ (v : StageView). All (FitKinds v) kept) w.stage-work.ensures.stage w.in_ok-place.ensures.kept),
+          )
+      | else-index w ↦
+          let marks = c.in_ok-filling.filling.items in
+          let mark = c.index.result.now in
+          let words = c.loop-stage.words in
+          let test = c.loop-stage-test.true in
+          let stages = c.stage_count-stage-end.ensures.count in
+          let long = told.count in
+          let within : stage < length marks = omega (arith, test, stages, long) in
+          let none : get_or marks stage true ≡ false =
+          sym (c.index.ensures ∙ get_or_default marks stage mark true within) ∙ w.if-index.false in (
+            subst (λ ws. FitStage p (stage + 1) ws) (sym w.words-is)
+                (c.words_fit.ensures.next stage words (told.others stage none words c.loop-stage.invariant.0.first)),
+            subst (λ ks. All (FitKinds (stage_in p (stage + 1))) ks) (sym (ap (λ v. v.items) w.kept-is))
+                c.loop-stage.invariant.1,
+          )
+    ]
 
 pub returns : goal.returns
 returns g c =
