@@ -83,6 +83,32 @@ def empty_passes(half):
     return page.replace("%schedule auto", "%schedule\n" + " ; ".join(lists))
 
 
+def at_one_node(half, kind):
+    """Passes of a kind, each with an attribute that one node alone has, as many as attributes allow."""
+    names = [f"a{number}" for number in range(min(2000, half // 50))]
+    groups = [names[first : first + 60] for first in range(0, len(names), 60)]
+    classes = ""
+    for number, group in enumerate(groups):
+        rules = "".join(f"self.{name} := 1; " for name in group)
+        classes += f"class K{number} : Box {{ local {', '.join(group)}; {rules}self.s := 1; }}\n"
+    kids = "".join(f"K{number}{{}} " for number in range(len(groups)))
+    lists = [f"{kind} {{ K{number}.{name} }}" for number, group in enumerate(groups) for name in group]
+    page = boxes("self.s := 1;", kids + nodes(half)).replace("class N :", f"{classes}class N :")
+    return page.replace("%schedule auto", "%schedule\n" + " ; ".join(lists + ["bottomup { Box.s }"]))
+
+
+def topdown_at_one_node(half):
+    return at_one_node(half, "topdown")
+
+
+def bottomup_at_one_node(half):
+    return at_one_node(half, "bottomup")
+
+
+def inorder_at_one_node(half):
+    return at_one_node(half, "inorder")
+
+
 def behind_empty_lasts(half):
     """Reads behind those of the last kid where there is none, as many as a rule may have."""
     reads = "self.d" + "+(last kids.s or 1)+self.d" * 127
@@ -102,12 +128,25 @@ SHAPES = {
     "constants in a fold's step": in_a_step,
     "reads behind empty lasts": behind_empty_lasts,
     "empty passes": empty_passes,
+    "empty passes, 4 workers": empty_passes,
+    "topdown passes at one node": topdown_at_one_node,
+    "bottomup passes at one node": bottomup_at_one_node,
+    "inorder passes at one node": inorder_at_one_node,
 }
+
+# What stands behind `run` for some of them.
+OPTIONS = {"empty passes, 4 workers": ["--workers", "4"]}
 
 
 def deep_document():
     rule = "self.s := last kids.s or 1;"
     return page_of(f"{BOXES}class N : Box {{ kids : [Box]; {rule} }}\n", "N { kids = [ " * 512 + "] }" * 512)
+
+
+def deep_out_of_order():
+    """The same with the fields of each node in another order than in its class."""
+    rules = "input a; kids : [Box]; self.s := last kids.s or self.a;"
+    return page_of(f"{BOXES}class N : Box {{ {rules} }}\n", "N { kids = [ " * 512 + "] a = 1 }" * 512)
 
 
 def deep_grammar():
@@ -143,7 +182,7 @@ def with_little_stack():
 
 def stacks_suffice(program):
     """Whether each command ends as it should on the deepest pages with so much stack."""
-    for page in [deep_document(), deep_grammar()]:
+    for page in [deep_document(), deep_out_of_order(), deep_grammar()]:
         for command in COMMANDS:
             given = {"input": f"{page}%edits\n".encode(), "stdout": subprocess.DEVNULL, "env": {}}
             ended = subprocess.run([program, command], preexec_fn=with_little_stack, check=False, **given)
@@ -153,24 +192,24 @@ def stacks_suffice(program):
     return True
 
 
-def cost(program, page):
+def cost(program, options, page):
     """The processor seconds and the megabytes of a run."""
     with tempfile.TemporaryFile() as source:
         source.write(page.encode())
         source.seek(0)
-        child = subprocess.Popen([program, "run"], stdin=source, stdout=subprocess.DEVNULL)
+        child = subprocess.Popen([program, "run", *options], stdin=source, stdout=subprocess.DEVNULL)
         _, status, usage = os.wait4(child.pid, 0)
     if os.waitstatus_to_exitcode(status) not in STATUSES:
         sys.exit(f"{program} ended with status {os.waitstatus_to_exitcode(status)}")
     return usage.ru_utime + usage.ru_stime, usage.ru_maxrss / 1024
 
 
-def least_costs(program, shape, runs):
+def least_costs(program, options, shape, runs):
     """The least costs of a shape at each size."""
     told = []
     for size in SIZES:
         page = shape(size * 512)
-        each = [cost(program, page) for _ in range(runs)]
+        each = [cost(program, options, page) for _ in range(runs)]
         told.append((min(seconds for seconds, _ in each), min(memory for _, memory in each)))
     return told
 
@@ -187,7 +226,7 @@ def main():
     print(f"{'':28}" + "".join(f"{size:8} KiB{'':9}" for size in SIZES))
     failed = []
     for name, shape in SHAPES.items():
-        costs = least_costs(program, shape, runs)
+        costs = least_costs(program, OPTIONS.get(name, []), shape, runs)
         if grows_too_fast(costs):
             failed.append(name)
         print(f"{name:28}" + "".join(f"{s:8.3f} s {m:6.0f} MB  " for s, m in costs), flush=True)

@@ -1,8 +1,8 @@
 #!/usr/bin/env python3
 """Runs a stage of a million items, each of one step that reads nothing: the nodes of a page at grain 1. Prints
-milliseconds of processor time alone, and by 2 and 4 workers on ranges of the cells, that take turns on one processor,
-and that run on all; and the nanoseconds that an item takes beside its step. Beside that stands finding the phases of
-the items. Of several runs the quickest counts.
+milliseconds of processor time alone, where all nodes are one item, and by 2 and 4 workers on ranges of the cells, that
+take turns on one processor, and that run on all; and the nanoseconds that an item takes beside its step. Beside that
+stands finding the phases of the items. Of several runs the quickest counts.
 
 usage: bench/items.py [PROGRAM]     PROGRAM is the proved one, which ./prove builds, if left out
 """
