@@ -81,6 +81,20 @@ fn number_of<'a>(text: &'a str, number: u64, length: usize, greatest: u64) -> Fo
     }
 }
 
+/// A number whose digits up to here are out of range. However many follow, none is gone over.
+fn too_large<'a>(text: &'a str, at: usize, greatest: u64) -> Found<'a>
+    requires gapless { IsGapless text.now }
+    requires digits { Starts (byte_goes_on Digits) text.now }
+    requires run { at ≤ prefix_len (byte_goes_on Digits) text.now }
+    requires large { greatest < digits_value 10 (take at text.now) }
+    ensures found { IsFoundIn greatest text.now result }
+{
+    let _ = text;
+    let _ = at;
+    let _ = greatest;
+    stopped()
+}
+
 /// The number at the front.
 #[inline(always)]
 fn number_in<'a>(text: &'a str, greatest: u64) -> Found<'a>
@@ -95,6 +109,9 @@ fn number_in<'a>(text: &'a str, greatest: u64) -> Found<'a>
             return number_of(text, number, at, greatest);
         }
         number = (number * 10 + u64::from(byte - b'0')).min(greatest + 1);
+        if greatest < number {
+            return too_large(text, at + 1, greatest);
+        }
     }
     number_of(text, number, text.len(), greatest)
 }
