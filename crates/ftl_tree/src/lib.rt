@@ -16,4 +16,4 @@ pub use boxes::{
     words_are_undone,
 };
 pub use rows::{NodeRow, Place};
-pub use trees::{InstanceList, Tree, bare_tree};
+pub use trees::{InstanceList, Tree, attribute_places, bare_tree};

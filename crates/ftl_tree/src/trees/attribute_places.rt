@@ -11,7 +11,7 @@ use std::alloc::{AllocError, Global};
 
 /// The place of each attribute among those of each class that has it. The attributes of an
 /// interface come first in all of its classes, so one number serves them all.
-pub(crate) fn attribute_places(alloc: Global, checked: &Checked) -> Result<Vec<u32>, AllocError>
+pub fn attribute_places(alloc: Global, checked: &Checked) -> Result<Vec<u32>, AllocError>
     ensures places { IfOk result (λ v. AreAttributePlaces (meant checked.now) v.items) }
 {
     let _lawful = checked.grammar();

@@ -17,6 +17,7 @@ mod widths;
 mod zeroed;
 
 pub use crate::rows::{NodeRow, Place};
+pub use attribute_places::attribute_places;
 pub use instances::InstanceList;
 pub use laws::{one_input_changes, second_word_is_wider, two_bare_words};
 pub use tree::Tree;
