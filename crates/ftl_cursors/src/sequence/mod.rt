@@ -19,6 +19,4 @@ pub use cursor::SequenceCursor;
 pub(crate) use place::Tables;
 pub(crate) use ruleless::SparseTables;
 pub use sparse::SparseSequenceCursor;
-pub use worked_places::{
-    places_of_two_children, rest_of_two_words, rest_of_words_without_rules,
-};
+pub use worked_places::{places_of_two_children, rest_of_two_words, rest_of_words_without_rules};

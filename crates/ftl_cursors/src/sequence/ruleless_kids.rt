@@ -20,10 +20,19 @@ pub(crate) fn is_ruleless(tables: SparseTables<'_>, nodes: RulelessNodes, node: 
     requires node { node < size (tree_of tables.all) }
     ensures rules { result ≡ true → HasNoRulesBelow tables.entry node }
 {
-    if node < nodes.first || nodes.end < node {
+    if !reach(nodes, node) {
         return false;
     }
     tables.all.tree.subtree_size(node) <= nodes.end - node
+}
+
+/// Whether a node is one of these, or the one behind them.
+#[inline(always)]
+fn reach(nodes: RulelessNodes, node: u32) -> bool
+    ensures first { result ≡ true → nodes.first ≤ node }
+    ensures end { result ≡ true → node ≤ nodes.end }
+{
+    nodes.first <= node && node <= nodes.end
 }
 
 /// A kid of a child, this one or a later one, such that those before it have no steps, and no
@@ -42,14 +51,18 @@ pub(crate) fn next_kid(
     ensures order { kid ≤ result }
     ensures steps { HaveNoSteps tables.entry node child kid result }
 {
+    let _nodes = tables.all.tree.node_count();
     let kid_count = tables.all.tree.kid_count(node, child);
-    if kid_count <= kid || has_kid_rules(tables.all, node, child) {
+    if kid_count <= kid {
+        return kid;
+    }
+    if has_kid_rules(tables.all, node, child) {
         return kid;
     }
     let kids = tables.all.tree.kids(node, child);
     let number = kids[kid as usize];
     look_on(tables, nodes, number);
-    if number < nodes.first || nodes.end < number {
+    if !reach(*nodes, number) {
         return kid;
     }
     last_up_to(kids, kid, kid_count, nodes.end)
