@@ -20,3 +20,21 @@ blocks-requires c =
           has_places c.args.tables c.requires.tables c.node_count-nodes.ensures.is_tree c.args.node
           c.requires.at.known c.class-class.result c.class-class.ensures.class;
     }
+
+pub bounds-blocks-child : goal.bounds-blocks-child
+bounds-blocks-child c =
+    let x = c.args.tables in
+    let has =
+    block_there x c.requires.tables c.node_count-nodes.ensures.is_tree c.args.node c.requires.at.known
+    c.class-class.result c.class-class.ensures.class c.visit-visit.result.now c.blocks.result.now
+    c.visit-visit.ensures.visit c.blocks.ensures.blocks c.args.child c.requires.at.declared in
+    has.known
+
+pub behind-requires : goal.behind-requires
+behind-requires c =
+    let x = c.args.tables in
+    let has =
+    block_there x c.requires.tables c.node_count-nodes.ensures.is_tree c.args.node c.requires.at.known
+    c.class-class.result c.class-class.ensures.class c.visit-visit.result.now c.blocks.result.now
+    c.visit-visit.ensures.visit c.blocks.ensures.blocks c.args.child c.requires.at.declared in
+    record { place = drop_within _ _ _ _ has.is.begin }
