@@ -25,6 +25,10 @@ module _ (x : SparseTables) where
   pub none_ruleless : (n : ℕ) → HaveNoRulesIn x n n
   none_ruleless n m low high known = absurd (let z : ⊥ = omega (arith, low, high) in z)
 
+  -- nor have no kids steps
+  pub none_passed : (node child kid : ℕ) → HaveNoSteps x node child kid kid
+  none_passed node child kid k low high there = absurd (let z : ⊥ = omega (arith, low, high) in z)
+
   -- nodes without rules, and those behind them
   pub more_ruleless : (first middle end : ℕ) → HaveNoRulesIn x first middle → HaveNoRulesIn x middle end
       → HaveNoRulesIn x first end

@@ -62,10 +62,10 @@ pub(crate) fn next_kid(
     let kids = tables.all.tree.kids(node, child);
     let number = kids[kid as usize];
     look_on(tables, nodes, number);
-    if !reach(*nodes, number) {
-        return kid;
+    if reach(*nodes, number) {
+        return last_up_to(kids, kid, kid_count, nodes.end);
     }
-    last_up_to(kids, kid, kid_count, nodes.end)
+    kid
 }
 
 /// Whether a node has rules for the kids in a child.
