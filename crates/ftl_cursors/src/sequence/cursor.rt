@@ -9,7 +9,7 @@ ghost use Rattle.ftl_cursors.specs.sequence.BlockPlaces.{places_of};
 ghost use Rattle.ftl_visit.specs.passes.VisitRows.{visits_of};
 
 use crate::sequence::block_places::SequencePlaces;
-use crate::sequence::place::{Place, Tables, first_rule, next_step, take_step};
+use crate::sequence::place::{Place, Tables, first_rule, next_step, start_place, take_step};
 use ftl_order::Step;
 use ftl_tree::Tree;
 use ftl_visit::PassVisits;
@@ -53,8 +53,6 @@ impl<'a> SequenceCursor<'a> {
             ≡ inorder_steps (meant tree.now.checked) tree.now.tree attrs.now
             (node_at tree.now.tree first) }
     {
-        let _nodes = tree.node_count();
-        let ops = visits.visit(tree.class(first));
         let tables = Tables {
             tree,
             visits,
@@ -62,11 +60,7 @@ impl<'a> SequenceCursor<'a> {
             attrs,
             first,
         };
-        let at = Place {
-            node: first,
-            kid: 0,
-            ops,
-        };
+        let at = start_place(tables);
         SequenceCursor { tables, at }
     }
 

@@ -2,7 +2,7 @@
 //! topdown or bottomup pass, and a range of nodes in preorder or the other way round. Comes out:
 //! `VisitCursor`, which contracts see as the list of steps that are left;
 //! `specs/visits/VisitSteps.antt` has that list, and `specs/visits/ItemSteps.antt` says that it is
-//! what the items of a stage have. `SparseCursor` has the same list, and goes through it by the
+//! what the items of a stage have. `SparseVisitCursor` has the same list, and goes through it by the
 //! blocks of nodes that have a class with operations.
 
 mod cursor;
@@ -19,6 +19,6 @@ pub use laws::{items_by_ranges, nodes_of_subtrees, visits_make_steps};
 pub use nodes::NodeOrder;
 pub(crate) use nodes::NodeRange;
 pub(crate) use place::Tables;
-pub use sparse::SparseCursor;
+pub use sparse::SparseVisitCursor;
 pub(crate) use sparse_place::SparseTables;
 pub use worked_steps::steps_of_two_words;
