@@ -25,6 +25,7 @@ mod plan;
 mod running;
 mod stages;
 mod steps;
+mod turns;
 mod words;
 mod work;
 
