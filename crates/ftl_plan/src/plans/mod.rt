@@ -22,6 +22,7 @@ mod parts;
 mod passes;
 mod phases;
 mod plan;
+mod reading;
 mod running;
 mod stages;
 mod steps;
