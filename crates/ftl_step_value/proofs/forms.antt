@@ -12,3 +12,4 @@ pub mod FormEntries
 pub mod FormFolds
 pub mod FoldValues
 pub mod FoldEntries
+pub mod KidsFound

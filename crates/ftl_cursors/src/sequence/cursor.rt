@@ -74,6 +74,19 @@ impl<'a> SequenceCursor<'a> {
         if let Some(rule) = first_rule(self.at.ops) {
             return Some(take_step(self.tables, &mut self.at, rule));
         }
-        next_step(self.tables, &mut self.at)
+        self.next_after_moves()
+    }
+
+    /// The same where a place further on may have the next step.
+    #[inline(always)]
+    fn next_after_moves(&mut self) -> Option<Step>
+        ensures step { MatchOption result ((self.old ≡ []) × (self.new ≡ []))
+            (λ step. self.old ≡ step ∷ self.new) }
+    {
+        // Lent to the call, the place would lie in memory for steps that need no call, too.
+        let mut at = self.at;
+        let step = next_step(self.tables, &mut at);
+        self.at = at;
+        step
     }
 }
