@@ -52,21 +52,23 @@ new-requires c =
     let of_pass = pass x c.args.item found is in
     let one = size-one g t is.is_tree in
     record {
-      all = record {
-        first = omega (arith, one);
-        visits =
-            visits_are x c.args.item found is c.requires.tables c.index-tables-found.result
-            ∙ ap (λ k. visits_of g k of_pass.attrs) c.requires.kind
-            ∙ ap (λ (a : Pass). visits_of g InOrder a.attrs)
-            (sym (pass_listed x c.args.item found is c.index-tables-found-3.result))
-            ∙ ap (visits_of g InOrder) (sym c.as_slice-attrs.ensures);
-        places =
-            places_are x c.args.item found is c.requires.tables c.index-tables-found-2.result
-            ∙ ap places_of
-            (sym (visits_are x c.args.item found is c.requires.tables c.index-tables-found.result));
+      tables = record {
+        all = record {
+          first = omega (arith, one);
+          visits =
+              visits_are x c.args.item found is c.requires.tables c.index-tables-found.result
+              ∙ ap (λ k. visits_of g k of_pass.attrs) c.requires.kind
+              ∙ ap (λ (a : Pass). visits_of g InOrder a.attrs)
+              (sym (pass_listed x c.args.item found is c.index-tables-found-3.result))
+              ∙ ap (visits_of g InOrder) (sym c.as_slice.ensures);
+          places =
+              places_are x c.args.item found is c.requires.tables c.index-tables-found-2.result
+              ∙ ap places_of
+              (sym (visits_are x c.args.item found is c.requires.tables c.index-tables-found.result));
+        };
+        blocks = subst (AreClassBlocks t) (sym c.as_slice-blocks.ensures.value) x.items.rows.now.classes;
+        ruled = c.ruled_classes-ruled.ensures.ruled;
       };
-      blocks = subst (AreClassBlocks t) (sym c.as_slice-blocks.ensures.value) x.items.rows.now.classes;
-      ruled = c.ruled_classes-ruled.ensures.ruled;
     }
 
 pub returns : goal.returns
@@ -80,7 +82,7 @@ returns c =
     let steps : c.new.result ≡ inorder_steps g t of_pass.attrs top =
     c.new.ensures.steps
     ∙ ap (λ (ns : List ℕ). inorder_steps g t ns top)
-    (c.as_slice-attrs.ensures
+    (c.as_slice.ensures
     ∙ ap (λ (a : Pass). a.attrs) (pass_listed x c.args.item found is c.index-tables-found-3.result)) in
     record {
       steps = λ s stage ordered there. record {
