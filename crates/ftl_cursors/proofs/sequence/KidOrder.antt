@@ -1,6 +1,5 @@
 -- The trees of the kids in a child stand behind one another.
-use Rattle.std.proofs.Common.{◌≡◌, ℕ, zero, suc, ◌+◌, ◌<◌, ◌≤◌, ◌==◌, true, false, if◌then◌else◌, List, get_or, map, arith}
-use Rattle.std.specs.List.{range_with_len}
+use Rattle.std.proofs.Common.{◌≡◌, ℕ, zero, suc, ◌+◌, ◌<◌, ◌≤◌, ◌==◌, true, false, if◌then◌else◌, get_or, arith}
 use Rattle.std.proofs.lemmas.List.FromFn.{get_or-map-range_with_len}
 use Rattle.ftl_model.specs.layout.Path.{Has, Path, at as tree_at, down, kids_at, number_of, size_at}
 use Rattle.ftl_model.specs.layout.Tree.{Forest, IsTree, below_of, from_kid, nodes_before, none, size, tree}

@@ -1,5 +1,5 @@
 -- Kids without steps can be passed over.
-use Rattle.std.proofs.Common.{◌≡◌, ℕ, zero, suc, ◌+◌, ◌-◌, ◌<◌, ◌≤◌, List, [], ◌∷◌, ◌++◌, flat_map, length, sym, ◌∙◌, ap, inl, inr, arith, length-append}
+use Rattle.std.proofs.Common.{◌≡◌, ℕ, zero, suc, ◌+◌, ◌-◌, ◌<◌, ◌≤◌, List, [], ◌++◌, flat_map, length, sym, ◌∙◌, ap, inl, inr, arith, length-append}
 use Rattle.std.specs.List.{range_with_len}
 use Rattle.std.proofs.lemmas.Bool.{cases_lt}
 use Rattle.ftl_model.specs.layout.AttributeGrammar.{AttributeGrammar}
@@ -7,7 +7,7 @@ use Rattle.ftl_model.specs.layout.Path.{Path, kids_at}
 use Rattle.ftl_model.specs.layout.Tree.{Forest}
 use Rattle.ftl_order.specs.declared.steps.step.Step.{Step}
 use Rattle.ftl_cursors.specs.inorder.InorderSteps.{kid_steps}
-use Rattle.ftl_cursors.specs.sequence.Moves.{kid_moves, moves_from_child, moves_from_kid}
+use Rattle.ftl_cursors.specs.sequence.Moves.{kid_moves, moves_from_kid}
 use Rattle.ftl_cursors.specs.sequence.SequenceRest.{from_child, from_kid}
 use Rattle.ftl_cursors.proofs.inorder.Pieces.{pass_over}
 

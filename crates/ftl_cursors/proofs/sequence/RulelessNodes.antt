@@ -1,19 +1,19 @@
 -- Nodes whose classes have no rules, as the tables tell them, and what has no steps there.
-use Rattle.std.proofs.Common.{◌≡◌, ℕ, ◌+◌, ◌*◌, ◌/◌, ◌<◌, ◌≤◌, Bool, true, false, bit_and, List, [], get_or, refl, sym, ◌∙◌, ap, subst, inl, inr, arith}
+use Rattle.std.proofs.Common.{◌≡◌, ℕ, ◌+◌, ◌*◌, ◌/◌, ◌<◌, ◌≤◌, true, false, bit_and, List, [], get_or, refl, sym, ◌∙◌, ap, subst, inl, inr, arith}
 use Rattle.std.proofs.lemmas.Bool.{cases_eq, cases_lt}
 use Rattle.ftl_cursors.specs.classes.ClassSets.{HasClass, block_of, class_of, has_rule}
-use Rattle.ftl_cursors.specs.inorder.InorderSteps.{inorder_steps, kid_steps, steps_of_ops}
+use Rattle.ftl_cursors.specs.inorder.InorderSteps.{inorder_steps, steps_of_ops}
 use Rattle.ftl_cursors.specs.sequence.Places.{grammar_of, node_of, tree_of}
-use Rattle.ftl_cursors.specs.sequence.SparsePlaces.{AreKnown, AreSparseTables, HasNoKidRules, HasNoRule, HasNoRulesBelow, HaveNoRulesIn, HaveNoSteps}
+use Rattle.ftl_cursors.specs.sequence.SparsePlaces.{AreKnown, AreSparseTables, HasNoKidRules, HasNoRule, HaveNoRulesIn, HaveNoSteps}
 use Rattle.ftl_cursors.specs.declared.sequence.ruleless.RulelessNodes.{RulelessNodes}
 use Rattle.ftl_cursors.specs.declared.sequence.ruleless.SparseTables.{SparseTables}
 use Rattle.ftl_cursors.proofs.classes.SetLemmas.{none_in_both}
 use Rattle.ftl_cursors.proofs.sequence.Above.{size_few}
 use Rattle.ftl_cursors.proofs.sequence.KidOrder.{ends_before}
-use Rattle.ftl_cursors.proofs.sequence.RulelessTrees.{HasNone, both_none, no_steps}
+use Rattle.ftl_cursors.proofs.sequence.RulelessTrees.{both_none, no_steps}
 use Rattle.ftl_model.specs.layout.AttributeGrammar.{AttributeGrammar}
 use Rattle.ftl_model.specs.layout.Path.{Has, Path, at as tree_at, class_at, down, kids_at, number_of, size_at}
-use Rattle.ftl_model.specs.layout.Tree.{Forest, below_of, size}
+use Rattle.ftl_model.specs.layout.Tree.{Forest, below_of}
 use Rattle.ftl_model.specs.layout.TreeOf.{IsTreeOf}
 use Rattle.ftl_order.proofs.orders.Kids.{kid_exists}
 use Rattle.ftl_tree.proofs.rows.Access.{size-one}

@@ -1,5 +1,5 @@
 -- Trees without rules have no steps in an inorder pass.
-use Rattle.std.proofs.Common.{◌≡◌, ℕ, suc, ◌+◌, ◌<◌, ◌≤◌, false, List, [], ◌∷◌, ◌++◌, ℤ, get_or, refl, sym, ◌∙◌, ap, ap₂, subst, arith}
+use Rattle.std.proofs.Common.{◌≡◌, ℕ, suc, ◌+◌, ◌<◌, ◌≤◌, false, List, [], ◌++◌, get_or, refl, sym, ◌∙◌, ap, ap₂, subst, arith}
 use Rattle.ftl_model.specs.layout.AttributeGrammar.{AttributeGrammar}
 use Rattle.ftl_model.specs.layout.Path.{Has, Path, at as tree_at, class_at, down, number_of, one_more, size_at}
 use Rattle.ftl_model.specs.layout.Tree.{Forest, IsTree, below_of, class_of as class_first, none, size, tree}
@@ -11,7 +11,7 @@ use Rattle.ftl_order.proofs.orders.Kids.{class_known}
 use Rattle.ftl_order.specs.declared.steps.step.Step.{Step}
 use Rattle.ftl_schedule.specs.declared.syntax.kind.PassKind.TheVariants.{InOrder}
 use Rattle.ftl_visit.specs.passes.VisitRows.{visits_of}
-use Rattle.ftl_visit.specs.visits.Visits.{inherited_rules, locals, synthesized_rules, visit_of}
+use Rattle.ftl_visit.specs.visits.Visits.{inherited_rules, locals, synthesized_rules}
 use Rattle.ftl_visit.specs.declared.visits.visit_op.VisitOp.{VisitOp}
 use Rattle.ftl_cursors.specs.classes.ClassSets.{class_of, has_rule}
 use Rattle.ftl_cursors.specs.inorder.InorderSteps.{inorder_steps, steps_below, steps_of_ops}

@@ -1,5 +1,5 @@
 -- The place behind a kid in whose tree no class has rules, and that at its first operation.
-use Rattle.std.proofs.Common.{◌≡◌, ℕ, suc, ◌+◌, ◌<◌, ◌≤◌, List, [], ◌++◌, length, refl, sym, ◌∙◌, ap, subst, arith}
+use Rattle.std.proofs.Common.{◌≡◌, ℕ, suc, ◌+◌, ◌<◌, ◌≤◌, List, ◌++◌, length, refl, sym, ◌∙◌, ap, subst, arith}
 use Rattle.ftl_model.specs.layout.Path.{Has, Path, at as tree_at, class_at, down, kids_at, number_of, size_at}
 use Rattle.ftl_model.specs.layout.Tree.{below_of}
 use Rattle.ftl_model.specs.layout.TreeOf.{IsTreeOf}

@@ -1,6 +1,6 @@
 -- What a cursor knows that passes over trees without rules: nodes that have none, and kids that have no steps.
-use Rattle.std.specs.Prelude.{◌≡◌, ℕ, ◌+◌, ◌<◌, ◌≤◌, false, List, [], ◌∷◌, slice_index_or}
-use Rattle.ftl_model.specs.layout.Path.{class_at, down, kids_at, number_of, size_at}
+use Rattle.std.specs.Prelude.{◌≡◌, ℕ, ◌+◌, ◌<◌, ◌≤◌, false, [], ◌∷◌, slice_index_or}
+use Rattle.ftl_model.specs.layout.Path.{class_at, kids_at, size_at}
 use Rattle.ftl_model.specs.layout.Tree.{size}
 use Rattle.ftl_cursors.specs.classes.ClassSets.{AreClassBlocks, HasRuled, class_of, has_rule}
 use Rattle.ftl_cursors.specs.inorder.InorderSteps.{kid_steps}

@@ -3,8 +3,8 @@
 //! `VisitCursor`, which contracts see as the list of steps that are left, and which gives them one
 //! by one or as `Turns`, all of a rule at a node; `specs/visits/VisitSteps.antt` has that list, and
 //! `specs/visits/ItemSteps.antt` says that it is what the items of a stage have.
-//! `SparseVisitCursor` has the same list, and goes through it by the
-//! blocks of nodes that have a class with operations.
+//! `SparseVisitCursor` has the same list, and goes through it by the blocks of nodes that have a
+//! class with operations.
 
 mod cursor;
 mod laws;

@@ -1,4 +1,3 @@
-use Rattle.std.proofs.Common.{arith}
 use Rattle.ftl_cursors.proofs.sequence.RulelessNodes.{more_ruleless, none_ruleless}
 use Rattle.ftl_cursors.proofs.sequence.ruleless.ruleless_end.Goals as goal
 

@@ -1,4 +1,4 @@
-use Rattle.std.proofs.Common.{◌-◌, ◌≤◌}
+use Rattle.std.proofs.Common.{◌-◌}
 use Rattle.ftl_model.specs.layout.Tree.{size}
 use Rattle.ftl_cursors.specs.sequence.Places.{tree_of}
 use Rattle.ftl_cursors.specs.sequence.SparsePlaces.{HaveNoRulesIn}

@@ -1,4 +1,4 @@
-use Rattle.std.proofs.Common.{◌-◌, ◌<◌, ◌≤◌, get_or, length}
+use Rattle.std.proofs.Common.{◌-◌, ◌<◌, ◌≤◌, get_or}
 use Rattle.ftl_cursors.proofs.sequence.ruleless_kids.last_up_to.Given as goal
 
 abbrev pub invariant-search : goal.invariant-search
