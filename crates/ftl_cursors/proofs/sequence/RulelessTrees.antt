@@ -69,7 +69,8 @@ module _ (g : AttributeGrammar) (t : Forest) (fits : IsTreeOf g t) (attributes :
 
   -- at a node and below it
   pub no_steps : (p : Path) → Has t p
-      → ((n : ℕ) → number_of t p ≤ n → n < number_of t p + size_at t p → HasNone n) → inorder_steps g t attributes p ≡ []
+      → ((n : ℕ) → number_of t p ≤ n → n < number_of t p + size_at t p → HasNone n)
+      → inorder_steps g t attributes p ≡ []
   no_steps p there each =
       let own = ruleless_at p there (each (number_of t p) (omega arith) (omega arith)) in
       let f = below_of (tree_at t p) in

@@ -17,8 +17,8 @@ use crate::sequence::SparseSequenceCursor;
 use crate::visits::{NodeRange, SparseTables, SparseVisitCursor, Tables, visits_make_steps};
 use ftl_schedule::PassKind;
 
-/// The steps of an item with many nodes, few of which have rules. None of another, nor, in a topdown
-/// or bottomup pass, where no item but hosts' trees may have so many nodes.
+/// The steps of an item with many nodes, few of which have rules. None of another, nor, in a
+/// topdown or bottomup pass, where no item but hosts' trees may have so many nodes.
 #[inline(always)]
 pub fn sparse_steps<'a>(
     tables: ItemTables<'a>,

@@ -17,7 +17,8 @@ use Rattle.ftl_cursors.proofs.sequence.place.start_place.Goals as goal
 pub visit-ops-requires : goal.visit-ops-requires
 visit-ops-requires c =
     let x = c.args.tables in
-    let known = class_within (grammar_of x) (tree_of x) c.node_count-nodes.ensures.is_tree x.first c.requires.tables.first in
+    let known =
+    class_within (grammar_of x) (tree_of x) c.node_count-nodes.ensures.is_tree x.first c.requires.tables.first in
     let count = ap length c.requires.tables.visits ∙ visits_count (grammar_of x) x.attrs.now in
     record { class = omega (arith, c.class.ensures.class) }
 

@@ -13,7 +13,8 @@ bounds-kids-kid c =
     let p = node_of x.all c.args.node in
     let child = c.args.child in
     let all =
-    ap length c.kids-kids.ensures.kids ∙ length-map-range_with_len (λ k. number_of t (down child k p)) 0 (kids_at t p child) in
+    ap length c.kids-kids.ensures.kids
+    ∙ length-map-range_with_len (λ k. number_of t (down child k p)) 0 (kids_at t p child) in
     omega (arith, all, c.kid_count-kid_count.ensures.count)
 
 pub last_up_to-requires-clause-count : goal.last_up_to-requires-clause-count
