@@ -12,6 +12,12 @@ ghost use Rattle.ftl_step_value.specs.declared.neighbours.parts.NeighbourParts.T
 ghost use Rattle.ftl_step_value.specs.declared.neighbours.parts.NeighbourParts.TheVariants.{Kids};
 ghost use Rattle.ftl_step_value.specs.declared.neighbours.parts.NeighbourParts.TheVariants.{Fold};
 ghost use Rattle.ftl_step_value.specs.declared.neighbours.parts.NeighbourParts.TheVariants.{Far};
+ghost use Rattle.ftl_tree.specs.rows.ClassRows.{AreAttributePlaces};
+
+/// A law: the places of the attributes of the grammar of notes.
+pub fn places_of_notes()
+    ensures places { AreAttributePlaces notes notes_places }
+{}
 
 /// A law: what each rule of the grammar of notes reads of neighbours, in each form.
 pub fn parts_of_notes()
