@@ -7,6 +7,7 @@ pub mod SharedForms
 pub mod FormTable
 pub mod FormSteps
 pub mod FormTargets
+pub mod RuleAttributes
 pub mod FormValues
 pub mod FormEntries
 pub mod FormFolds
