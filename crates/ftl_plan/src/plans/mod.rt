@@ -23,6 +23,7 @@ mod passes;
 mod phases;
 mod plan;
 mod running;
+mod sparse;
 mod stages;
 mod steps;
 mod words;
