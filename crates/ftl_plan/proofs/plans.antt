@@ -3,6 +3,7 @@ mod FewPasses
 mod HostNumbers
 mod KeptKinds
 mod Leaving
+mod OtherItems
 mod Marking
 pub mod Driven
 mod Formed

@@ -27,6 +27,7 @@ plan_inside p =
 pub record IsPlan (p : Inside) : Type 0 where
   pub tree : p.tree.now.checked ≡ p.checked.now
   pub accepted : IsNestAccepted p.checked.now p.accepted.now.schedule
+  pub same : p.accepted.now.checked ≡ p.checked.now
   pub may : MayBePlanned (plan_inside p)
   pub sound : IsSound (meant p.checked.now)
   pub tables : AreTables (meant p.checked.now) p.tables

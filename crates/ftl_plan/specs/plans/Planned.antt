@@ -34,3 +34,14 @@ unless_fault (Some fault) p = Err fault
 -- the plan, or its first fault
 abbrev pub planned : PlanMeaning → Result PlanMeaning PlanFault
 planned p = unless_fault (first_fault (meant p.checked) (outer_schedule (nests_of p.schedule)) p.tree) p
+
+-- the plan of the same tree whose items have as many nodes as a tree may have
+abbrev pub of_whole_trees : PlanMeaning → PlanMeaning
+of_whole_trees p =
+    record {
+      checked = p.checked;
+      schedule = p.schedule;
+      programs = p.programs;
+      tree = p.tree;
+      grain = most_grain;
+    }

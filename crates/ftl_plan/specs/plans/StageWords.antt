@@ -18,3 +18,14 @@ pub record FitStage (p : PlanMeaning) (stage : ℕ) (words : List ℕ) : Type 0 
 abbrev pub FitTheNext : PlanMeaning → Type 0
 FitTheNext p =
     (stage : ℕ) (words : List ℕ) → AreLast (meaning_at (stage_in p stage)) words → FitStage p (stage + 1) words
+
+-- another plan may run each stage in place of this one: the words that fit a stage fit it there, and those that close
+-- it there close it here
+pub record ActsFor (p other : PlanMeaning) : Type 0 where
+  pub schedule : other.schedule ≡ p.schedule
+  pub first :
+      (stage : ℕ) (words : List ℕ)
+      → AreFirst (meaning_at (stage_in p stage)) words → AreFirst (meaning_at (stage_in other stage)) words
+  pub last :
+      (stage : ℕ) (words : List ℕ)
+      → AreLast (meaning_at (stage_in other stage)) words → AreLast (meaning_at (stage_in p stage)) words

@@ -24,6 +24,7 @@ mod phases;
 mod plan;
 mod reading;
 mod running;
+mod sparse;
 mod stages;
 mod steps;
 mod turns;

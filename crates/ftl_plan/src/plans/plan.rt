@@ -8,7 +8,7 @@ ghost use Rattle.ftl_model.specs.layout.Tree.{size};
 ghost use Rattle.ftl_plan.specs.laws.StageMeanings.{CanBePlanned};
 ghost use Rattle.ftl_nest_check.specs.stages.Nested.{nests_of};
 ghost use Rattle.ftl_plan.specs.plans.FilledStages.{TellFilling};
-ghost use Rattle.ftl_plan.specs.plans.Planned.{MayBePlanned, planned};
+ghost use Rattle.ftl_plan.specs.plans.Planned.{MayBePlanned, of_whole_trees, planned};
 ghost use Rattle.ftl_plan.specs.plans.StageTables.{AreTablesOf, stage_in};
 ghost use Rattle.ftl_step_value.specs.declared.limits.faults.fault.PlanFault.TheVariants.{OutOfMemory};
 
@@ -16,6 +16,7 @@ use crate::plans::filled::marks_for_nodes;
 use crate::plans::hosts::nest_hosts;
 use crate::plans::kept::PlanStage;
 use crate::plans::parts::StageParts;
+use crate::plans::sparse::sparse_marks;
 use crate::plans::stages::kept_stages;
 use crate::plans::words::first_words;
 use crate::plans::work::StageWork;
@@ -29,6 +30,9 @@ use ftl_tree::{Tree, attribute_places};
 use ftl_visit::{Programs, RuleTarget, rule_targets};
 use std::alloc::{AllocError, Global};
 use std::marker::Model;
+
+/// How many nodes an item has at most.
+const MOST_GRAIN: u32 = 1_048_576;
 
 /// The stages of a tree. It borrows what it is made of, and keeps no list of steps: for each class
 /// and pass what a visit does, for each rule what its steps read and how they compute, and for each
@@ -202,5 +206,33 @@ impl<'a> Plan<'a> {
     {
         let count = self.stage_count() as usize;
         marks_for_nodes(alloc, self.accepted, &self.tables, self.tree, count)
+    }
+
+    /// Whether each outer stage fills so few cells of the tree that workers cost more than they help.
+    pub fn sparse_stages(&self, alloc: Global) -> Result<Vec<bool>, AllocError>
+        ensures count { IfOk result (λ v. length v.items ≡ length (nests_of self.now.schedule)) }
+    {
+        let count = self.stage_count() as usize;
+        sparse_marks(alloc, self.accepted, &self.tables, self.tree, count)
+    }
+
+    /// The plan of the same tree whose items have as many nodes as a tree may have.
+    #[inline(never)]
+    pub fn of_whole_trees(&self, alloc: Global) -> Result<Plan<'a>, AllocError>
+        ensures plan { IfOk result (λ p. p ≡ of_whole_trees self.now) }
+    {
+        let made = Plan::new(
+            alloc,
+            self.checked,
+            self.accepted,
+            self.programs,
+            self.tree,
+            MOST_GRAIN,
+        );
+        match made {
+            Ok(plan) => Ok(plan),
+            Err(PlanFault::OutOfMemory) => Err(AllocError),
+            Err(_) => unreachable!(),
+        }
     }
 }

@@ -83,6 +83,7 @@ invariant_of-result c =
     record {
       tree = c.requires.tree;
       accepted = accepted;
+      same = c.requires.accepted;
       may = record {
         rules = may.rules;
         width = may.width;
