@@ -1,0 +1,4 @@
+//! A scratch crate.
+#![tactic(auto)]
+
+pub mod solve;
