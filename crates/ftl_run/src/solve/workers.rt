@@ -1,11 +1,13 @@
 //! All stages of a plan, one after the other, each by workers.
-ghost use Rattle.std.specs.Prelude.{◌≡◌, ◌<◌, ◌≤◌, length, IfOk, Some};
+ghost use Rattle.std.specs.Prelude.{◌≡◌, ◌<◌, ◌≤◌, length, IfOk, IfSome, Some};
 ghost use Rattle.ftl_cells.specs.shared.State.{AreFirst, AreLast};
 ghost use Rattle.ftl_deps.specs.reads.Meant.{meant};
 ghost use Rattle.ftl_items.specs.stage_items.WordLaws.{HoldTheSolution};
 ghost use Rattle.ftl_items.specs.solution.Solution.{solution};
 ghost use Rattle.ftl_cells.specs.work_phases.Phases.{CanTake};
 ghost use Rattle.ftl_nest_check.specs.stages.Nested.{nests_of};
+ghost use Rattle.ftl_plan.specs.plans.StageParts.{meaning_at};
+ghost use Rattle.ftl_plan.specs.plans.StageTables.{stage_in};
 ghost use Rattle.ftl_plan.specs.plans.StageWords.{ActsFor};
 ghost use Rattle.ftl_cells.specs.declared.work_phases.phase.Phases.{Phases};
 
@@ -40,11 +42,11 @@ pub fn solve<R: Threads + Wait + Sync, G: Gate>(
     let sparse = plan.sparse_stages(alloc)?;
     let sparse = sparse.as_slice();
     if !has_one(sparse) {
-        return solve_stages(rt, alloc, plan, plan, sparse, workers, gate);
+        return solve_stages(rt, alloc, plan, None, sparse, workers, gate);
     }
     plan.whole_trees_act();
     let whole = plan.of_whole_trees(alloc)?;
-    solve_stages(rt, alloc, plan, &whole, sparse, workers, gate)
+    solve_stages(rt, alloc, plan, Some(&whole), sparse, workers, gate)
 }
 
 /// Whether one of the marks is set.
@@ -58,19 +60,19 @@ fn has_one(marks: &[bool]) -> bool {
 }
 
 /// The words of the solution, where the calling thread alone runs the stages that are marked as
-/// sparse, as another plan has them, and workers run the others.
+/// sparse, as another plan has them if there is one, and workers run the others.
 fn solve_stages<R: Threads + Wait + Sync, G: Gate>(
     rt: &R,
     alloc: Global,
     plan: &Plan<'_>,
-    whole: &Plan<'_>,
+    whole: Option<&Plan<'_>>,
     sparse: &[bool],
     workers: u32,
     gate: &G,
 ) -> Result<Vec<u64>, AllocError>
     requires some { 0 < workers }
     requires few { workers ≤ 64 }
-    requires acts { ActsFor plan.now whole.now }
+    requires acts { IfSome whole (λ other. ActsFor plan.now other.now) }
     requires marks { length sparse.now ≡ length (nests_of plan.now.schedule) }
     ensures solution { IfOk result (λ v. HoldTheSolution
         (solution (meant plan.now.checked) plan.now.tree) v.items) }
@@ -82,7 +84,7 @@ fn solve_stages<R: Threads + Wait + Sync, G: Gate>(
     let mut kept = Vec::new(alloc);
     for stage in 0..plan.stage_count() {
         if sparse[stage as usize] {
-            words = words_by_one(rt, alloc, &whole.stage(stage), words)?;
+            words = words_of_sparse(rt, alloc, plan, whole, stage, words)?;
         } else if filling[stage as usize] {
             let work = plan.stage(stage);
             let place = work.phases(alloc, lots, &mut kept)?;
@@ -91,6 +93,26 @@ fn solve_stages<R: Threads + Wait + Sync, G: Gate>(
     }
     let (row, _parts) = words.into_row(rt);
     Ok(row)
+}
+
+/// The words after a stage that the calling thread runs alone, as the other plan has it.
+fn words_of_sparse<R: Threads + Wait + Sync>(
+    rt: &R,
+    alloc: Global,
+    plan: &Plan<'_>,
+    whole: Option<&Plan<'_>>,
+    stage: u32,
+    words: CellWords,
+) -> Result<CellWords, AllocError>
+    requires acts { IfSome whole (λ other. ActsFor plan.now other.now) }
+    requires stage { stage < length (nests_of plan.now.schedule) }
+    requires first { AreFirst (meaning_at (stage_in plan.now stage)) words }
+    ensures last { IfOk result (AreLast (meaning_at (stage_in plan.now stage))) }
+{
+    match whole {
+        Some(other) => words_by_one(rt, alloc, &other.stage(stage), words),
+        None => words_by_one(rt, alloc, &plan.stage(stage), words),
+    }
 }
 
 // So many lots for each worker, so that those who are done early find more to take.

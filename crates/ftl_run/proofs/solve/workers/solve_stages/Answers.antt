@@ -15,8 +15,8 @@ use Rattle.ftl_plan.specs.plans.StageParts.{StageView, meaning_at}
 use Rattle.ftl_plan.specs.plans.StageTables.{stage_in}
 use Rattle.ftl_plan.specs.plans.StageWords.{FitStage}
 use Rattle.ftl_plan.proofs.plans.Shared.{stage_work_sync}
-use Rattle.ftl_run.proofs.solve.workers.solve.Goals as goal
-use Rattle.ftl_run.proofs.solve.workers.solve.Goals.{then-index+in_ok-place+in_ok-words, else-index}
+use Rattle.ftl_run.proofs.solve.workers.solve_stages.Goals as goal
+use Rattle.ftl_run.proofs.solve.workers.solve_stages.Goals.{then-index+in_ok-place+in_ok-words, else-index}
 
 pub loop-stage-init : goal.loop-stage-init
 loop-stage-init g c = (

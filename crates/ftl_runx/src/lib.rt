@@ -1,4 +1,0 @@
-//! A scratch crate.
-#![tactic(auto)]
-
-pub mod solve;
