@@ -2,8 +2,9 @@
 """Tells what pages cost that were made to cost much: the processor time and the peak memory of runs on pages of 64, 128
 and 256 KiB, half of them a rule and half of them nodes at which it runs. A page may cost no more than its size says:
 the script fails where a page four times as long takes much more than four times as much of either. The least of several
-runs counts. Then looks at the memory of an answer that is much longer than its page, and runs pages as deep as they may
-be with as much stack as the README says, and fails where one of these ends otherwise.
+runs counts. Then looks at the memory of an answer that is much longer than its page, and of one long sum that is read,
+and runs pages as deep as they may be with as much stack as the README says, and fails where one of these ends
+otherwise.
 
 usage: bench/hostile.py [RUNS [PROGRAM]]     3 runs, and the proved program, which ./prove builds, if left out
 """
@@ -22,6 +23,8 @@ LEAST_SECONDS = 0.02  # less than this is the start of the program
 STATUSES = [0, 8]  # solved, and solved with Overflow in what is shown
 STACK = 320  # KiB, as the README says
 MOST_BYTES = 1.3  # of memory for each byte of a long answer
+MOST_SUM_BYTES = 40  # of memory for each more byte of a long sum that is read
+SUMS = [4, 8]  # MiB of the sums that are held against each other
 COMMANDS = ["run", "check", "schedule", "explain", "demand", "edit"]
 
 HEAD = "%page 1\n%grammar\nroot Box;\n"
@@ -163,17 +166,36 @@ def long_name():
     return page_of(classes, f"Top {{ kids = [ {nodes(32_000)}] }}")
 
 
-def text_is_kept_once(program):
-    """Whether a run takes no more memory than it may for each byte that it writes."""
+def long_sum(length):
+    """A rule that is one sum of this length."""
+    return page_of(f"{BOXES}class N : Box {{ self.s := {repeated('1', '+1', length)}; }}\n", "N { }")
+
+
+def memory_of(program, command, page):
+    """How many bytes of memory a command takes, and how many it writes."""
     with tempfile.TemporaryFile() as source, tempfile.TemporaryFile() as sink:
-        source.write(long_name().encode())
+        source.write(page.encode())
         source.seek(0)
-        with subprocess.Popen([program, "run"], stdin=source, stdout=sink) as started:
+        with subprocess.Popen([program, command], stdin=source, stdout=sink) as started:
             _, _, used = os.wait4(started.pid, 0)
             started.returncode = 0
-        written = sink.seek(0, os.SEEK_END)
-    print(f"{'long name':28}{written / 1e6:8.0f} MB written {used.ru_maxrss * 1024 / 1e6:6.0f} MB", flush=True)
-    return used.ru_maxrss * 1024 <= MOST_BYTES * written
+        return used.ru_maxrss * 1024, sink.seek(0, os.SEEK_END)
+
+
+def text_is_kept_once(program):
+    """Whether a run takes no more memory than it may for each byte that it writes."""
+    memory, written = memory_of(program, "run", long_name())
+    print(f"{'long name':28}{written / 1e6:8.0f} MB written {memory / 1e6:6.0f} MB", flush=True)
+    return memory <= MOST_BYTES * written
+
+
+def sum_takes_little(program):
+    """Whether it takes no more memory than it may for each more byte of a long sum to read it."""
+    pages = [long_sum(length << 20) for length in SUMS]
+    memory, most_memory = [memory_of(program, "check", page)[0] for page in pages]
+    each = (most_memory - memory) / (len(pages[1]) - len(pages[0]))
+    print(f"{'long sum':28}{len(pages[1]) / 1e6:8.0f} MB read    {most_memory / 1e6:6.0f} MB, {each:.1f} B each", flush=True)
+    return each <= MOST_SUM_BYTES
 
 
 def with_little_stack():
@@ -232,6 +254,8 @@ def main():
         print(f"{name:28}" + "".join(f"{s:8.3f} s {m:6.0f} MB  " for s, m in costs), flush=True)
     if not text_is_kept_once(program):
         failed.append("memory of a long answer")
+    if not sum_takes_little(program):
+        failed.append("memory of a long sum")
     if not stacks_suffice(program):
         failed.append("stack")
     if failed:

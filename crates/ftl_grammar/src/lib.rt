@@ -16,6 +16,6 @@ pub mod syntax;
 pub use printing::print_grammar;
 pub use reading::{SyntaxFault, read_grammar};
 pub use syntax::{
-    Atom, AttrDecl, AttrKind, Body, Child, Class, Cond, Conj, Expr, Factor, Grammar, Interface,
-    Read, Rule, SignedTerm, Sum, Target, Term, Test, Unary,
+    Atom, AttrDecl, AttrKind, Body, Child, ChildRead, Class, Cond, Conj, Expr, Factor, Grammar,
+    Interface, LastRead, Product, Read, Rule, SignedTerm, Sum, Target, Term, Test, Unary,
 };

@@ -1,4 +1,5 @@
 pub mod RuleCode
+pub mod FactorCode
 pub mod Compilable
 pub mod Pieces
 pub mod KeptCode

@@ -7,11 +7,12 @@ use Rattle.ftl_tokens.specs.reading.Reader.{Tokens}
 use Rattle.ftl_grammar.specs.declared.syntax.expression.Cond.{Cond, out-Cond, roll-out-Cond}
 use Rattle.ftl_grammar.specs.declared.syntax.expression.Conj.{Conj, out-Conj, roll-out-Conj}
 use Rattle.ftl_grammar.specs.declared.syntax.expression.Sum.{Sum, out-Sum, roll-out-Sum}
-use Rattle.ftl_grammar.specs.declared.syntax.expression.Term.{Term, out-Term, roll-out-Term}
+use Rattle.ftl_grammar.specs.declared.syntax.expression.Product.{Product, out-Product, roll-out-Product}
 use Rattle.ftl_grammar.specs.declared.syntax.expression.Test.{Test}
 use Rattle.ftl_grammar.specs.printing.ExpressionTokens.{joined, behind_each, between, sum_tokens, term_tokens, signed_tokens}
+use Rattle.ftl_grammar.specs.printing.ExpressionTokens.{product_tokens}
 use Rattle.ftl_grammar.specs.printing.ExpressionTokens.{factor_tokens, unary_tokens, cond_tokens, conj_tokens, test_tokens}
-use Rattle.ftl_grammar.proofs.printing.Equations.{of-sum, of-term, of-cond, of-conj}
+use Rattle.ftl_grammar.proofs.printing.Equations.{of-sum, of-product, of-cond, of-conj}
 
 -- `||` and more tests
 abbrev pub or_conj : Conj → Tokens
@@ -35,10 +36,12 @@ tokens-of_sum x =
     ap sum_tokens (sym (roll-out-Sum x)) ∙ of-sum (out-Sum x).head (out-Sum x).tail
     ∙ ap (λ l. term_tokens (out-Sum x).head ++ l) (joined-map signed_tokens (out-Sum x).tail)
 
-pub tokens-of_term : (x : Term) → term_tokens x ≡ unary_tokens (out-Term x).head ++ flat_map factor_tokens (out-Term x).tail
-tokens-of_term x =
-    ap term_tokens (sym (roll-out-Term x)) ∙ of-term (out-Term x).head (out-Term x).tail
-    ∙ ap (λ l. unary_tokens (out-Term x).head ++ l) (joined-map factor_tokens (out-Term x).tail)
+pub tokens-of_product : (x : Product) → product_tokens x
+    ≡ unary_tokens (out-Product x).head ++ (factor_tokens (out-Product x).first ++ flat_map factor_tokens (out-Product x).more)
+tokens-of_product x =
+    let p = out-Product x in
+    ap product_tokens (sym (roll-out-Product x)) ∙ of-product p.head p.first p.more
+    ∙ ap (λ l. unary_tokens p.head ++ l) (joined-map factor_tokens (p.first ∷ p.more))
 
 pub tokens-of_cond : (x : Cond) (head : Conj) (tail : List Conj) → (out-Cond x).any ≡ head ∷ tail
     → cond_tokens x ≡ conj_tokens head ++ flat_map or_conj tail

@@ -14,7 +14,7 @@ use Rattle.ftl_grammar.specs.declared.syntax.expression.Conj.{Conj}
 use Rattle.ftl_grammar.specs.declared.syntax.expression.Cond.{Cond}
 use Rattle.ftl_grammar.specs.declared.syntax.expression.Expr.{Expr}
 use Rattle.ftl_grammar.specs.declared.syntax.expression.Expr.TheVariants as exprs
-use Rattle.ftl_grammar.specs.syntax.Trees.{NameText}
+use Rattle.ftl_grammar.specs.syntax.Trees.{NameText, last_read}
 use Rattle.ftl_grammar.specs.syntax.Spelling.{SpellsExpr, SpellsSum, SpellsCond, SpellsPlain, SpellsCmp, SpellsTest, SpellsConj}
 
 -- a dot and a name
@@ -36,7 +36,7 @@ pub data Paired : Tokens → Expr × Expr → Type 0 where
 -- what stands after `last`
 pub data LastOr : Tokens → Atom → Type 0 where
   last_or_of : {c n : NameText} {a : Tokens} {x : Atom} → SpellsPlain a x
-      → LastOr (name c ∷ fixed kind.Dot ∷ name n ∷ fixed kind.Or ∷ a) (atoms.LastOr c n x)
+      → LastOr (name c ∷ fixed kind.Dot ∷ name n ∷ fixed kind.Or ∷ a) (atoms.LastOr (last_read c n x))
 
 -- a condition in square brackets
 pub data Bracketed (negated : Bool) : Tokens → Test → Type 0 where

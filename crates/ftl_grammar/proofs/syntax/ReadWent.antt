@@ -8,7 +8,7 @@ use Rattle.ftl_tokens.specs.reading.Reader.{Tokens, ◌<$>◌, next_kind, take_n
 use Rattle.ftl_tokens.proofs.reading.Went.{Went, went_map, went_pure, went_past, went_skip, went_name, went_by}
 use Rattle.ftl_grammar.specs.declared.syntax.expression.Read.{Read}
 use Rattle.ftl_grammar.specs.declared.syntax.expression.Read.TheVariants as reads
-use Rattle.ftl_grammar.specs.syntax.Trees.{NameText}
+use Rattle.ftl_grammar.specs.syntax.Trees.{NameText, child_read}
 use Rattle.ftl_grammar.specs.syntax.Spelling.{SpellsRead, SpellsCmp, own, this, prev, of_child, less, less_eq, more, more_eq}
 use Rattle.ftl_grammar.specs.syntax.Spelling.{equal, unequal}
 use Rattle.ftl_grammar.specs.syntax.SumReading.{dot_name, read_by, read, comparator_by, comparator}
@@ -39,8 +39,8 @@ read_went {n} (prev {n = x}) rest small =
     (dot_name_went dot_name_of rest (past_plain kind.Prev refl (fixed kind.Dot ∷ name x ∷ rest) small))))
 read_went {n} (of_child {c = c} {n = x}) rest small =
     went_by read_by refl
-    (went_name (λ c. reads.Of c <$> dot_name)
-    (went_map (reads.Of c) (dot_name_went dot_name_of rest (past_name c (fixed kind.Dot ∷ name x ∷ rest) small))))
+    (went_name (λ c. (λ n. reads.Of (child_read c n)) <$> dot_name)
+    (went_map (λ n. reads.Of (child_read c n)) (dot_name_went dot_name_of rest (past_name c (fixed kind.Dot ∷ name x ∷ rest) small))))
 
 pub comparator_went : {n : ℕ} {k : Kind} {c : Cmp} → SpellsCmp k c → (rest : Tokens) → height (fixed k ∷ rest) < n
     → Went height comparator (fixed k ∷ rest) c rest n

@@ -1,5 +1,5 @@
 -- The readers of sums look one token ahead: `x_alike` says it of the reader `x`.
-use Rattle.std.proofs.Common.{ℕ, suc, true, false, [], Option, Some, refl}
+use Rattle.std.proofs.Common.{ℕ, suc, true, false, [], ◌∷◌, Option, Some, None, refl}
 use Rattle.ftl_tokens.specs.declared.scanner.kind.Kind.{Kind}
 use Rattle.ftl_tokens.specs.declared.scanner.kind.Kind.TheVariants as kind
 use Rattle.ftl_tokens.specs.reading.Reader.{Reader, next_kind, push}
@@ -11,14 +11,16 @@ use Rattle.ftl_tokens.proofs.reading.TokenAlike.{skip_alike}
 use Rattle.ftl_tokens.proofs.reading.ChainAlike.{TakesSome, takes_some, chain_alike}
 use Rattle.ftl_grammar.specs.declared.syntax.expression.Read.TheVariants as reads
 use Rattle.ftl_grammar.specs.declared.syntax.expression.Atom.TheVariants as atoms
+use Rattle.ftl_grammar.specs.declared.syntax.expression.Factor.{Factor}
 use Rattle.ftl_grammar.specs.declared.syntax.expression.Factor.TheVariants as factors
+use Rattle.ftl_grammar.specs.declared.syntax.expression.Unary.{Unary}
 use Rattle.ftl_grammar.specs.declared.syntax.expression.Test.TheVariants as tests
 use Rattle.ftl_grammar.specs.declared.syntax.expression.Expr.{Expr}
 use Rattle.ftl_grammar.specs.syntax.Trees as trees
 use Rattle.ftl_grammar.specs.syntax.Spelling.{SpellsExpr}
 use Rattle.ftl_grammar.specs.syntax.SumReading as reading
 use Rattle.ftl_grammar.specs.syntax.SumReading.{dot_name, read_by, read, comparator_by, comparator, group, plain_by, plain}
-use Rattle.ftl_grammar.specs.syntax.SumReading.{pair, atom_by, atom, unary_by, unary, factor_by, factor, term, signed_by}
+use Rattle.ftl_grammar.specs.syntax.SumReading.{pair, atom_by, atom, unary_by, unary, factor_by, factor, term_by, term, signed_by}
 use Rattle.ftl_grammar.specs.syntax.SumReading.{signed, sum, comparison}
 use Rattle.ftl_grammar.proofs.syntax.Heads.{height, past_plain, past_paren, past_end_paren, past_name, past_number}
 use Rattle.ftl_grammar.proofs.syntax.Lengths.{some_factor, some_signed}
@@ -37,7 +39,7 @@ read_alike {n} = look_alike read_by read_by each
         skip_alike kind.SelfWord tt (past_plain kind.SelfWord refl) (map_alike reads.Own dot_name_alike)
     each (Some kind.This) = skip_alike kind.This tt (past_plain kind.This refl) (map_alike reads.This dot_name_alike)
     each (Some kind.Prev) = skip_alike kind.Prev tt (past_plain kind.Prev refl) (map_alike reads.Prev dot_name_alike)
-    each (Some kind.Name) = alike_at_any (name_alike past_name (λ c. map_alike (reads.Of c) dot_name_alike))
+    each (Some kind.Name) = alike_at_any (name_alike past_name (λ c. map_alike (λ n. reads.Of (trees.child_read c n)) dot_name_alike))
     each _ = alike_at_any refuse_alike
 
 comparator_alike : {n : ℕ} → Alike height n n comparator comparator
@@ -91,7 +93,7 @@ module _ {expr other : Reader Expr} {n : ℕ} (expr_prefix : KeepsPrefix SpellsE
   last_or_alike =
       name_alike past_name
       (λ c. bind_alike dot_name_alike
-      (λ d. past_alike kind.Or (past_plain kind.Or refl) (map_alike (λ x. atoms.LastOr c d x) plain_alike)))
+      (λ d. past_alike kind.Or (past_plain kind.Or refl) (map_alike (λ x. atoms.LastOr (trees.last_read c d x)) plain_alike)))
 
   atom_alike : Alike height (suc n) (suc n) (atom expr) (atom other)
   unfolding atom
@@ -128,9 +130,13 @@ module _ {expr other : Reader Expr} {n : ℕ} (expr_prefix : KeepsPrefix SpellsE
   term_alike : Alike height (suc n) (suc n) (term expr) (term other)
   unfolding term
   term_alike =
-      bind_alike unary_alike
-      (λ x. map_alike (trees.term x)
-      (chain_alike push factor_alike (some_factors expr_prefix) (some_factors other_prefix) []))
+      bind_alike unary_alike (λ x. bind_alike factor_alike (each x))
+    where
+      each : (x : Unary) (o : Option Factor) → Alike height (suc n) (suc n) (term_by expr x o) (term_by other x o)
+      each x None = pure_alike
+      each x (Some first) =
+          map_alike (λ more. trees.term x (first ∷ more))
+          (chain_alike push factor_alike (some_factors expr_prefix) (some_factors other_prefix) [])
 
   signed_alike : Alike height (suc n) (suc n) (signed expr) (signed other)
   unfolding signed

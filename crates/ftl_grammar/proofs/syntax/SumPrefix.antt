@@ -1,12 +1,12 @@
 -- The readers of sums keep the correct prefix: `x_prefix` of the reader `x`.
-use Rattle.std.proofs.Common.{true, false, [], ◌∷◌, ◌++◌, Option, Some, refl}
+use Rattle.std.proofs.Common.{◌≡◌, true, false, [], ◌∷◌, ◌++◌, Option, Some, None, refl, sym, subst}
 use Rattle.ftl_base.specs.declared.comparison.Cmp.{Cmp}
 use Rattle.ftl_base.specs.declared.comparison.Cmp.TheVariants as cmp
 use Rattle.ftl_tokens.specs.declared.scanner.kind.Kind.{Kind}
 use Rattle.ftl_tokens.specs.declared.scanner.kind.Kind.TheVariants as kind
 use Rattle.ftl_tokens.specs.scanner.Tokenized.{name, fixed}
 use Rattle.ftl_tokens.specs.reading.Reader.{Tokens, Reader}
-use Rattle.ftl_tokens.proofs.reading.KeptPrefix.{example, KeepsPrefix, KeepsPrefixAt, bind_prefix, map_prefix, pure_prefix, refuse_prefix, wider_prefix}
+use Rattle.ftl_tokens.proofs.reading.KeptPrefix.{Example, After, example, KeepsPrefix, KeepsPrefixAt, bind_prefix, map_prefix, pure_prefix, refuse_prefix, wider_prefix}
 use Rattle.ftl_tokens.proofs.reading.KeptPrefix.{look_prefix, at_any}
 use Rattle.ftl_tokens.proofs.reading.TokenPrefix.{past_prefix, name_prefix, last_name_prefix, number_prefix}
 use Rattle.ftl_tokens.proofs.reading.TokenPrefix.{positive_prefix, end_prefix}
@@ -18,7 +18,9 @@ use Rattle.ftl_grammar.specs.declared.syntax.expression.Atom.TheVariants as atom
 use Rattle.ftl_grammar.specs.declared.syntax.expression.Expr.{Expr}
 use Rattle.ftl_grammar.specs.syntax.Trees as trees
 use Rattle.ftl_grammar.specs.syntax.Trees.{NameText}
+use Rattle.ftl_grammar.specs.declared.syntax.expression.Factor.{Factor}
 use Rattle.ftl_grammar.specs.declared.syntax.expression.Factor.TheVariants as factors
+use Rattle.ftl_grammar.specs.declared.syntax.expression.Unary.{Unary}
 use Rattle.ftl_grammar.specs.declared.syntax.expression.Sum.{Sum}
 use Rattle.ftl_grammar.specs.declared.syntax.expression.Test.TheVariants as tests
 use Rattle.ftl_grammar.specs.syntax.Spelling.{SpellsRead, SpellsPlain, SpellsAtom, SpellsUnary, SpellsFactor, SpellsFactors}
@@ -29,7 +31,7 @@ use Rattle.ftl_grammar.specs.syntax.Spelling.{greatest, last_or, unsigned, negat
 use Rattle.ftl_grammar.specs.syntax.Spelling.{term_of, plus, minus, no_terms, more_terms, sum_of, compared}
 use Rattle.ftl_grammar.specs.syntax.SumReading as reading
 use Rattle.ftl_grammar.specs.syntax.SumReading.{dot_name, read_by, read, comparator_by, comparator, group, plain_by, plain}
-use Rattle.ftl_grammar.specs.syntax.SumReading.{pair, atom_by, atom, unary_by, unary, factor_by, factor, term, signed_by}
+use Rattle.ftl_grammar.specs.syntax.SumReading.{pair, atom_by, atom, unary_by, unary, factor_by, factor, term_by, term, signed_by}
 use Rattle.ftl_grammar.specs.syntax.SumReading.{signed, sum, comparison}
 use Rattle.ftl_grammar.proofs.syntax.Parts.{DotName, dot_name_of, Comparator, comparator_of, Grouped, grouped_of, Paired}
 use Rattle.ftl_grammar.proofs.syntax.Parts.{paired_of, LastOr, last_or_of}
@@ -46,7 +48,7 @@ this_turn a n dot_name_of = this
 prev_turn : (a : Tokens) (n : NameText) → DotName a n → SpellsRead (fixed kind.Prev ∷ a) (reads.Prev n)
 prev_turn a n dot_name_of = prev
 
-of_turn : (c : NameText) (a : Tokens) (n : NameText) → DotName a n → SpellsRead (name c ∷ a) (reads.Of c n)
+of_turn : (c : NameText) (a : Tokens) (n : NameText) → DotName a n → SpellsRead (name c ∷ a) (reads.Of (trees.child_read c n))
 of_turn c a n dot_name_of = of_child
 
 group_turn : (a : Tokens) (x : Expr) → Grouped a x → SpellsPlain (fixed kind.LeftParen ∷ a) (atoms.Group x)
@@ -68,7 +70,7 @@ compared_turn b c s (comparator_of k) t = compared s k t
 
 -- after a name and a dot with another
 last_or_turn : {c : NameText} {d : Tokens} {x : Atom} (a : Tokens) (n : NameText) → DotName a n → SpellsPlain d x
-    → LastOr (name c ∷ (a ++ (fixed kind.Or ∷ d))) (atoms.LastOr c n x)
+    → LastOr (name c ∷ (a ++ (fixed kind.Or ∷ d))) (atoms.LastOr (trees.last_read c n x))
 last_or_turn a n dot_name_of s = last_or_of s
 
 -- ---- reads and comparators
@@ -87,8 +89,8 @@ read_prefix = look_prefix read_by each
     each (Some kind.Prev) = skip_prefix kind.Prev tt (map_prefix reads.Prev dot_name_prefix prev_turn)
     each (Some kind.Name) =
         at_any
-        (name_prefix (λ c. example (fixed kind.Dot ∷ name [] ∷ []) (reads.Of c []) of_child)
-        (λ c. map_prefix (reads.Of c) dot_name_prefix (of_turn c)))
+        (name_prefix (λ c. example (fixed kind.Dot ∷ name [] ∷ []) (reads.Of (trees.child_read c [])) of_child)
+        (λ c. map_prefix (λ n. reads.Of (trees.child_read c n)) dot_name_prefix (of_turn c)))
     each _ = at_any (refuse_prefix (example (fixed kind.SelfWord ∷ fixed kind.Dot ∷ name [] ∷ []) (reads.Own []) own))
 
 pub comparator_prefix : KeepsPrefix Comparator comparator
@@ -144,14 +146,14 @@ module _ {expr : Reader Expr} (expr_prefix : KeepsPrefix SpellsExpr expr) where
   unfolding reading.last_or
   last_or_prefix =
       name_prefix
-      (λ c. example (fixed kind.Dot ∷ name [] ∷ fixed kind.Or ∷ zero_plain.tokens) (atoms.LastOr c [] zero_plain.value)
+      (λ c. example (fixed kind.Dot ∷ name [] ∷ fixed kind.Or ∷ zero_plain.tokens) (atoms.LastOr (trees.last_read c [] zero_plain.value))
       (last_or_of zero_plain.spells))
       (λ c. bind_prefix dot_name_prefix
-      (λ a n d. example (fixed kind.Or ∷ zero_plain.tokens) (atoms.LastOr c n zero_plain.value)
+      (λ a n d. example (fixed kind.Or ∷ zero_plain.tokens) (atoms.LastOr (trees.last_read c n zero_plain.value))
       (last_or_turn a n d zero_plain.spells))
       (λ a n d. past_prefix kind.Or
-      (example zero_plain.tokens (atoms.LastOr c n zero_plain.value) (last_or_turn a n d zero_plain.spells))
-      (map_prefix (λ x. atoms.LastOr c n x) plain_prefix (λ b x s. last_or_turn a n d s))))
+      (example zero_plain.tokens (atoms.LastOr (trees.last_read c n zero_plain.value)) (last_or_turn a n d zero_plain.spells))
+      (map_prefix (λ x. atoms.LastOr (trees.last_read c n x)) plain_prefix (λ b x s. last_or_turn a n d s))))
 
   atom_prefix : KeepsPrefix SpellsAtom (atom expr)
   unfolding atom
@@ -183,13 +185,31 @@ module _ {expr : Reader Expr} (expr_prefix : KeepsPrefix SpellsExpr expr) where
           (positive_prefix (λ n some. example [] (Some (factors.Over n)) (over some)) (λ n some. pure_prefix (over some)))
       each _ = at_any (pure_prefix refl)
 
+  -- a term may end without a factor
+  term_without : {a : Tokens} {x : Unary} → SpellsUnary a x → (b : Tokens) → b ≡ []
+      → SpellsTerm (a ++ (b ++ [])) (trees.term x [])
+  term_without {a} {x} s b e = subst (λ l. SpellsTerm (a ++ (l ++ [])) (trees.term x [])) (sym e) (term_of s no_factors)
+
+  -- a term may end behind its first factor
+  term_example : {a : Tokens} {x : Unary} → SpellsUnary a x → (b : Tokens) (o : Option Factor) → OrNone SpellsFactor b o
+      → Example (After b (After a SpellsTerm))
+  term_example {x = x} s b None e = example [] (trees.term x []) (term_without s b e)
+  term_example {x = x} s b (Some y) f = example [] (trees.term x (y ∷ [])) (term_of s (more_factors f no_factors))
+
+  term_by_prefix : {a : Tokens} {x : Unary} → SpellsUnary a x → (b : Tokens) (o : Option Factor) → OrNone SpellsFactor b o
+      → KeepsPrefix (After b (After a SpellsTerm)) (term_by expr x o)
+  term_by_prefix s b None e = pure_prefix (term_without s b e)
+  term_by_prefix {x = x} s b (Some y) f =
+      map_prefix (λ ys. trees.term x (y ∷ ys)) (chain_prefix factor_prefix [])
+      (λ c ys all. term_of s (more_factors f
+      (chain_spells SpellsFactors no_factors (λ d e z zs t ts. more_factors t ts) all)))
+
   term_prefix : KeepsPrefix SpellsTerm (term expr)
   unfolding term
   term_prefix =
       bind_prefix unary_prefix
       (λ a x s. example [] (trees.term x []) (term_of s no_factors))
-      (λ a x s. map_prefix (trees.term x) (chain_prefix factor_prefix [])
-      (λ b xs all. term_of s (chain_spells SpellsFactors no_factors (λ c d y ys t ts. more_factors t ts) all)))
+      (λ a x s. bind_prefix factor_prefix (term_example s) (term_by_prefix s))
 
   pub signed_prefix : KeepsPrefix (OrNone SpellsSignedTerm) (signed expr)
   unfolding signed

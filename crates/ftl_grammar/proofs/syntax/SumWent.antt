@@ -29,7 +29,7 @@ use Rattle.ftl_grammar.specs.syntax.Spelling.{last_or, unsigned, negative, times
 use Rattle.ftl_grammar.specs.syntax.Spelling.{minus, no_terms, more_terms, sum_of}
 use Rattle.ftl_grammar.specs.syntax.SumReading as reading
 use Rattle.ftl_grammar.specs.syntax.SumReading.{dot_name, read_by, read, comparator_by, comparator, group, plain_by, plain}
-use Rattle.ftl_grammar.specs.syntax.SumReading.{pair, atom_by, atom, unary_by, unary, factor_by, factor, term, signed_by}
+use Rattle.ftl_grammar.specs.syntax.SumReading.{pair, atom_by, atom, unary_by, unary, factor_by, factor, term_by, term, signed_by}
 use Rattle.ftl_grammar.specs.syntax.SumReading.{signed, sum, comparison}
 use Rattle.ftl_grammar.proofs.syntax.Parts.{dot_name_of, Grouped, grouped_of, Paired, paired_of, LastOr, last_or_of}
 use Rattle.ftl_grammar.proofs.syntax.Heads.{level, Looser, form, height, past_plain, past_paren, past_end_paren, past_name}
@@ -114,12 +114,12 @@ module _ {expr : Reader Expr} {n : ℕ} (expr_went : Complete height n n (Looser
       → Went height (reading.last_or expr) (a ++ rest) x rest (suc n)
   unfolding reading.last_or
   last_or_went (last_or_of {c = c} {n = d} {a = a} {x = x} s) rest small =
-      went_name (λ l. dot_name >>= (λ k. expect kind.Or >> (plain expr >>= (λ y. pure (atoms.LastOr l k y)))))
-      (went_bind (λ k. expect kind.Or >> (plain expr >>= (λ y. pure (atoms.LastOr c k y))))
+      went_name (λ l. dot_name >>= (λ k. expect kind.Or >> (plain expr >>= (λ y. pure (atoms.LastOr (trees.last_read l k y))))))
+      (went_bind (λ k. expect kind.Or >> (plain expr >>= (λ y. pure (atoms.LastOr (trees.last_read c k y)))))
       (dot_name_went dot_name_of (fixed kind.Or ∷ (a ++ rest))
       (past_name c (fixed kind.Dot ∷ name d ∷ fixed kind.Or ∷ (a ++ rest)) small))
       (λ small. went_past kind.Or
-      (went_map (λ y. atoms.LastOr c d y) (plain_went s rest (past_plain kind.Or refl (a ++ rest) small)))))
+      (went_map (λ y. atoms.LastOr (trees.last_read c d y)) (plain_went s rest (past_plain kind.Or refl (a ++ rest) small)))))
 
   atom_went : {a : Tokens} {x : Atom} → SpellsAtom a x → (rest : Tokens) → height (a ++ rest) < suc n
       → Went height (atom expr) (a ++ rest) x rest (suc n)
@@ -182,11 +182,17 @@ module _ {expr : Reader Expr} {n : ℕ} (expr_went : Complete height n n (Looser
   term_went : {a : Tokens} {x : Term} → SpellsTerm a x → (rest : Tokens) → Looser 5 rest → height (a ++ rest) < suc n
       → Went height (term expr) (a ++ rest) x rest (suc n)
   unfolding term
-  term_went (term_of {a = a} {b = b} {x = x} {xs = xs} s t) rest looser small =
-      went_grouped (a ++ (b ++ rest)) (append_assoc a b rest) small
-      (λ small. went_bind (λ y. chain_of push (factor expr) [] >>= (λ ys. pure (trees.term y ys)))
-      (unary_went s (b ++ rest) small)
-      (λ small. went_map (trees.term x) (chain_went factors_went (factors_chain [] t) rest looser small)))
+  term_went (term_of {a = a} {x = x} s no_factors) rest looser small =
+      went_grouped (a ++ rest) (append_assoc a [] rest) small
+      (λ small. went_bind (λ y. factor expr >>= term_by expr y) (unary_went s rest small)
+      (λ small. went_bind (term_by expr x) (record { reads = factor_stops rest looser; small = small })
+      (λ small. went_pure small)))
+  term_went (term_of {a = a} {x = x} s (more_factors {a = b} {b = c} {x = y} f t)) rest looser small =
+      went_grouped (a ++ ((b ++ c) ++ rest)) (append_assoc a (b ++ c) rest) small
+      (λ small. went_bind (λ z. factor expr >>= term_by expr z) (unary_went s ((b ++ c) ++ rest) small)
+      (λ small. went_grouped (b ++ (c ++ rest)) (append_assoc b c rest) small
+      (λ small. went_bind (term_by expr x) (factor_went f (c ++ rest) small)
+      (λ small. went_map (λ ys. trees.term x (y ∷ ys)) (chain_went factors_went (factors_chain [] t) rest looser small)))))
 
   signed_went : {a : Tokens} {x : SignedTerm} → SpellsSignedTerm a x → (rest : Tokens) → Looser 5 rest
       → height (a ++ rest) < suc n

@@ -13,6 +13,8 @@ use Rattle.ftl_grammar.specs.declared.syntax.expression.Test.{Test, Test-F, fold
 use Rattle.ftl_grammar.specs.declared.syntax.expression.Cond.{Cond, Cond-F, fold-Cond}
 use Rattle.ftl_grammar.specs.declared.syntax.expression.Conj.{Conj, Conj-F, fold-Conj}
 use Rattle.ftl_grammar.specs.declared.syntax.expression.SignedTerm.{SignedTerm, SignedTerm-F, fold-SignedTerm}
+use Rattle.ftl_grammar.specs.declared.syntax.expression.LastRead.{LastRead, LastRead-F, fold-LastRead}
+use Rattle.ftl_grammar.specs.declared.syntax.expression.Product.{Product, Product-F, fold-Product}
 use Rattle.ftl_grammar.specs.declared.syntax.expression.Sum.{Sum, Sum-F, fold-Sum}
 use Rattle.ftl_grammar.specs.declared.syntax.expression.Term.{Term, Term-F, fold-Term}
 use Rattle.ftl_grammar.specs.declared.syntax.expression.Unary.{Unary, Unary-F, fold-Unary}
@@ -20,8 +22,8 @@ use Rattle.ftl_grammar.specs.declared.syntax.expression.Read.{Read}
 use Rattle.ftl_grammar.specs.declared.syntax.expression.Read.TheVariants as read
 
 -- a layer of the syntax, with the tokens of its parts in their places
-abbrev pub Layer : ((A B C D E F G H I J : Type 0) → Type 0) → Type 0
-Layer L = L Tokens Tokens Tokens Tokens Tokens Tokens Tokens Tokens Tokens Tokens
+abbrev pub Layer : ((A B C D E F G H I J K L : Type 0) → Type 0) → Type 0
+Layer L = L Tokens Tokens Tokens Tokens Tokens Tokens Tokens Tokens Tokens Tokens Tokens Tokens
 
 -- one after another
 abbrev pub joined : List Tokens → Tokens
@@ -52,7 +54,7 @@ abbrev pub read_tokens : Read → Tokens
 read_tokens (read.Own a) = fixed kind.SelfWord ∷ fixed kind.Dot ∷ name a ∷ []
 read_tokens (read.This a) = fixed kind.This ∷ fixed kind.Dot ∷ name a ∷ []
 read_tokens (read.Prev a) = fixed kind.Prev ∷ fixed kind.Dot ∷ name a ∷ []
-read_tokens (read.Of c a) = name c ∷ fixed kind.Dot ∷ name a ∷ []
+read_tokens (read.Of of) = name of.child ∷ fixed kind.Dot ∷ name of.attr ∷ []
 
 -- the tokens of an atom
 abbrev pub of_atom : Layer Atom-F → Tokens
@@ -64,7 +66,7 @@ of_atom (Atom-F.Least a b) =
     fixed kind.Min ∷ fixed kind.LeftParen ∷ (a ++ (fixed kind.Comma ∷ (b ++ (fixed kind.RightParen ∷ []))))
 of_atom (Atom-F.Greatest a b) =
     fixed kind.Max ∷ fixed kind.LeftParen ∷ (a ++ (fixed kind.Comma ∷ (b ++ (fixed kind.RightParen ∷ []))))
-of_atom (Atom-F.LastOr c n a) = fixed kind.Last ∷ name c ∷ fixed kind.Dot ∷ name n ∷ fixed kind.Or ∷ a
+of_atom (Atom-F.LastOr a) = fixed kind.Last ∷ a
 
 -- the tokens of an expression
 abbrev pub of_expr : Layer Expr-F → Tokens
@@ -101,7 +103,16 @@ of_sum x = x.head ++ joined x.tail
 
 -- the tokens of a term
 abbrev pub of_term : Layer Term-F → Tokens
-of_term x = x.head ++ joined x.tail
+of_term (Term-F.Single a) = a
+of_term (Term-F.Product a) = a
+
+-- the tokens of a product
+abbrev pub of_product : Layer Product-F → Tokens
+of_product x = x.head ++ joined (x.first ∷ x.more)
+
+-- the tokens after `last`
+abbrev pub of_last_read : Layer LastRead-F → Tokens
+of_last_read x = name x.child ∷ fixed kind.Dot ∷ name x.attr ∷ fixed kind.Or ∷ x.other
 
 -- the tokens of an atom, perhaps with `-` before it
 abbrev pub of_unary : Layer Unary-F → Tokens
@@ -110,59 +121,71 @@ of_unary x = if x.minus then fixed kind.Minus ∷ x.atom else x.atom
 -- the tokens of an expression
 unfoldable pub expr_tokens : Expr → Tokens
 expr_tokens =
-    fold-Expr Tokens Tokens Tokens Tokens Tokens Tokens Tokens Tokens Tokens Tokens
-    of_atom of_expr of_factor of_test of_cond of_conj of_signed_term of_sum of_term of_unary
+    fold-Expr Tokens Tokens Tokens Tokens Tokens Tokens Tokens Tokens Tokens Tokens Tokens Tokens
+    of_atom of_expr of_factor of_term of_test of_cond of_conj of_last_read of_product of_signed_term of_sum of_unary
 
 -- the tokens of an atom
 unfoldable pub atom_tokens : Atom → Tokens
 atom_tokens =
-    fold-Atom Tokens Tokens Tokens Tokens Tokens Tokens Tokens Tokens Tokens Tokens
-    of_atom of_expr of_factor of_test of_cond of_conj of_signed_term of_sum of_term of_unary
+    fold-Atom Tokens Tokens Tokens Tokens Tokens Tokens Tokens Tokens Tokens Tokens Tokens Tokens
+    of_atom of_expr of_factor of_term of_test of_cond of_conj of_last_read of_product of_signed_term of_sum of_unary
 
 -- the tokens of a factor
 unfoldable pub factor_tokens : Factor → Tokens
 factor_tokens =
-    fold-Factor Tokens Tokens Tokens Tokens Tokens Tokens Tokens Tokens Tokens Tokens
-    of_atom of_expr of_factor of_test of_cond of_conj of_signed_term of_sum of_term of_unary
+    fold-Factor Tokens Tokens Tokens Tokens Tokens Tokens Tokens Tokens Tokens Tokens Tokens Tokens
+    of_atom of_expr of_factor of_term of_test of_cond of_conj of_last_read of_product of_signed_term of_sum of_unary
 
 -- the tokens of a test
 unfoldable pub test_tokens : Test → Tokens
 test_tokens =
-    fold-Test Tokens Tokens Tokens Tokens Tokens Tokens Tokens Tokens Tokens Tokens
-    of_atom of_expr of_factor of_test of_cond of_conj of_signed_term of_sum of_term of_unary
+    fold-Test Tokens Tokens Tokens Tokens Tokens Tokens Tokens Tokens Tokens Tokens Tokens Tokens
+    of_atom of_expr of_factor of_term of_test of_cond of_conj of_last_read of_product of_signed_term of_sum of_unary
 
 -- the tokens of a condition
 unfoldable pub cond_tokens : Cond → Tokens
 cond_tokens =
-    fold-Cond Tokens Tokens Tokens Tokens Tokens Tokens Tokens Tokens Tokens Tokens
-    of_atom of_expr of_factor of_test of_cond of_conj of_signed_term of_sum of_term of_unary
+    fold-Cond Tokens Tokens Tokens Tokens Tokens Tokens Tokens Tokens Tokens Tokens Tokens Tokens
+    of_atom of_expr of_factor of_term of_test of_cond of_conj of_last_read of_product of_signed_term of_sum of_unary
 
 -- the tokens of tests with `&&` between them
 unfoldable pub conj_tokens : Conj → Tokens
 conj_tokens =
-    fold-Conj Tokens Tokens Tokens Tokens Tokens Tokens Tokens Tokens Tokens Tokens
-    of_atom of_expr of_factor of_test of_cond of_conj of_signed_term of_sum of_term of_unary
+    fold-Conj Tokens Tokens Tokens Tokens Tokens Tokens Tokens Tokens Tokens Tokens Tokens Tokens
+    of_atom of_expr of_factor of_term of_test of_cond of_conj of_last_read of_product of_signed_term of_sum of_unary
 
 -- the tokens of a term with its sign
 unfoldable pub signed_tokens : SignedTerm → Tokens
 signed_tokens =
-    fold-SignedTerm Tokens Tokens Tokens Tokens Tokens Tokens Tokens Tokens Tokens Tokens
-    of_atom of_expr of_factor of_test of_cond of_conj of_signed_term of_sum of_term of_unary
+    fold-SignedTerm Tokens Tokens Tokens Tokens Tokens Tokens Tokens Tokens Tokens Tokens Tokens Tokens
+    of_atom of_expr of_factor of_term of_test of_cond of_conj of_last_read of_product of_signed_term of_sum of_unary
 
 -- the tokens of a sum
 unfoldable pub sum_tokens : Sum → Tokens
 sum_tokens =
-    fold-Sum Tokens Tokens Tokens Tokens Tokens Tokens Tokens Tokens Tokens Tokens
-    of_atom of_expr of_factor of_test of_cond of_conj of_signed_term of_sum of_term of_unary
+    fold-Sum Tokens Tokens Tokens Tokens Tokens Tokens Tokens Tokens Tokens Tokens Tokens Tokens
+    of_atom of_expr of_factor of_term of_test of_cond of_conj of_last_read of_product of_signed_term of_sum of_unary
+
+-- the tokens after `last`
+unfoldable pub last_read_tokens : LastRead → Tokens
+last_read_tokens =
+    fold-LastRead Tokens Tokens Tokens Tokens Tokens Tokens Tokens Tokens Tokens Tokens Tokens Tokens
+    of_atom of_expr of_factor of_term of_test of_cond of_conj of_last_read of_product of_signed_term of_sum of_unary
+
+-- the tokens of a product
+unfoldable pub product_tokens : Product → Tokens
+product_tokens =
+    fold-Product Tokens Tokens Tokens Tokens Tokens Tokens Tokens Tokens Tokens Tokens Tokens Tokens
+    of_atom of_expr of_factor of_term of_test of_cond of_conj of_last_read of_product of_signed_term of_sum of_unary
 
 -- the tokens of a term
 unfoldable pub term_tokens : Term → Tokens
 term_tokens =
-    fold-Term Tokens Tokens Tokens Tokens Tokens Tokens Tokens Tokens Tokens Tokens
-    of_atom of_expr of_factor of_test of_cond of_conj of_signed_term of_sum of_term of_unary
+    fold-Term Tokens Tokens Tokens Tokens Tokens Tokens Tokens Tokens Tokens Tokens Tokens Tokens
+    of_atom of_expr of_factor of_term of_test of_cond of_conj of_last_read of_product of_signed_term of_sum of_unary
 
 -- the tokens of an atom, perhaps with `-` before it
 unfoldable pub unary_tokens : Unary → Tokens
 unary_tokens =
-    fold-Unary Tokens Tokens Tokens Tokens Tokens Tokens Tokens Tokens Tokens Tokens
-    of_atom of_expr of_factor of_test of_cond of_conj of_signed_term of_sum of_term of_unary
+    fold-Unary Tokens Tokens Tokens Tokens Tokens Tokens Tokens Tokens Tokens Tokens Tokens Tokens
+    of_atom of_expr of_factor of_term of_test of_cond of_conj of_last_read of_product of_signed_term of_sum of_unary

@@ -22,14 +22,14 @@ use Rattle.ftl_grammar.specs.declared.syntax.expression.Conj.{Conj}
 use Rattle.ftl_grammar.specs.declared.syntax.expression.Cond.{Cond}
 use Rattle.ftl_grammar.specs.declared.syntax.expression.Expr.{Expr}
 use Rattle.ftl_grammar.specs.declared.syntax.expression.Expr.TheVariants as expr
-use Rattle.ftl_grammar.specs.syntax.Trees.{NameText, sum, signed, term, unary, cond, conj}
+use Rattle.ftl_grammar.specs.syntax.Trees.{NameText, sum, signed, term, unary, child_read, last_read, cond, conj}
 
 -- read = ("self"|"this"|"prev"|NAME) "." NAME
 pub data SpellsRead : Tokens → Read → Type 0 where
   own : {n : NameText} → SpellsRead (fixed kind.SelfWord ∷ fixed kind.Dot ∷ name n ∷ []) (read.Own n)
   this : {n : NameText} → SpellsRead (fixed kind.This ∷ fixed kind.Dot ∷ name n ∷ []) (read.This n)
   prev : {n : NameText} → SpellsRead (fixed kind.Prev ∷ fixed kind.Dot ∷ name n ∷ []) (read.Prev n)
-  of_child : {c n : NameText} → SpellsRead (name c ∷ fixed kind.Dot ∷ name n ∷ []) (read.Of c n)
+  of_child : {c n : NameText} → SpellsRead (name c ∷ fixed kind.Dot ∷ name n ∷ []) (read.Of (child_read c n))
 
 -- the marks between two sums that are compared
 pub data SpellsCmp : Kind → Cmp → Type 0 where
@@ -61,7 +61,7 @@ mutual
         (fixed kind.Max ∷ fixed kind.LeftParen ∷ (a ++ (fixed kind.Comma ∷ (b ++ (fixed kind.RightParen ∷ [])))))
         (atom.Greatest x y)
     last_or : {c n : NameText} {a : Tokens} {x : Atom} → SpellsPlain a x
-        → SpellsAtom (fixed kind.Last ∷ name c ∷ fixed kind.Dot ∷ name n ∷ fixed kind.Or ∷ a) (atom.LastOr c n x)
+        → SpellsAtom (fixed kind.Last ∷ name c ∷ fixed kind.Dot ∷ name n ∷ fixed kind.Or ∷ a) (atom.LastOr (last_read c n x))
 
   -- unary = [ "-" ] atom
   pub data SpellsUnary : Tokens → Unary → Type 0 where

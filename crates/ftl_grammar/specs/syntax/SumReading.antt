@@ -1,5 +1,5 @@
 -- How sums are read, one token ahead. What stands between round brackets is read by the parameter `expr`.
-use Rattle.std.specs.Prelude.{true, false, [], Option, Some, None}
+use Rattle.std.specs.Prelude.{true, false, [], ◌∷◌, Option, Some, None}
 use Rattle.ftl_base.specs.declared.comparison.Cmp.{Cmp}
 use Rattle.ftl_base.specs.declared.comparison.Cmp.TheVariants as cmp
 use Rattle.ftl_tokens.specs.declared.scanner.kind.Kind.{Kind}
@@ -33,7 +33,7 @@ abbrev pub read_by : Option Kind → Reader Read
 read_by (Some kind.SelfWord) = skip >> reads.Own <$> dot_name
 read_by (Some kind.This) = skip >> reads.This <$> dot_name
 read_by (Some kind.Prev) = skip >> reads.Prev <$> dot_name
-read_by (Some kind.Name) = take_name >>= (λ c. reads.Of c <$> dot_name)
+read_by (Some kind.Name) = take_name >>= (λ c. (λ n. reads.Of (trees.child_read c n)) <$> dot_name)
 read_by _ = refuse
 
 -- the attribute that an expression reads
@@ -94,7 +94,7 @@ module _ (expr : Reader Expr) where
     n ← dot_name
     expect kind.Or
     x ← plain
-    pure (atoms.LastOr c n x)
+    pure (atoms.LastOr (trees.last_read c n x))
 
   -- an atom, by the kind of its first token
   abbrev pub atom_by : Option Kind → Reader Atom
@@ -126,12 +126,14 @@ module _ (expr : Reader Expr) where
   unfoldable pub factor : Reader (Option Factor)
   factor = λ ts. factor_by (next_kind ts) ts
 
+  -- what follows an atom with its sign, by the first factor, if there is one
+  abbrev pub term_by : Unary → Option Factor → Reader Term
+  term_by x None = pure (trees.term x [])
+  term_by x (Some first) = (λ more. trees.term x (first ∷ more)) <$> chain_of push factor []
+
   -- factors that are multiplied and divided
   unfoldable pub term : Reader Term
-  term = do
-    x ← unary
-    xs ← chain_of push factor []
-    pure (trees.term x xs)
+  term = unary >>= (λ x. factor >>= term_by x)
 
   -- one more term with its sign, by the kind of the first token
   abbrev pub signed_by : Option Kind → Reader (Option SignedTerm)

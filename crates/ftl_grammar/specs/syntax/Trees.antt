@@ -1,6 +1,10 @@
 -- The structs of syntax trees, by what they are made of.
-use Rattle.std.specs.Prelude.{ℕ, Bool, List}
-use Rattle.ftl_grammar.specs.declared.syntax.expression.Term.{Term, roll-Term}
+use Rattle.std.specs.Prelude.{ℕ, Bool, List, [], ◌∷◌}
+use Rattle.ftl_grammar.specs.declared.syntax.expression.Term.{Term}
+use Rattle.ftl_grammar.specs.declared.syntax.expression.Term.TheVariants as terms
+use Rattle.ftl_grammar.specs.declared.syntax.expression.Product.{Product, roll-Product}
+use Rattle.ftl_grammar.specs.declared.syntax.expression.LastRead.{LastRead, roll-LastRead}
+use Rattle.ftl_grammar.specs.declared.syntax.expression.ChildRead.{ChildRead}
 use Rattle.ftl_grammar.specs.declared.syntax.expression.SignedTerm.{SignedTerm, roll-SignedTerm}
 use Rattle.ftl_grammar.specs.declared.syntax.expression.Sum.{Sum, roll-Sum}
 use Rattle.ftl_grammar.specs.declared.syntax.expression.Factor.{Factor}
@@ -33,13 +37,26 @@ sum head tail = roll-Sum (record { head = head; tail = tail })
 abbrev pub signed : Bool → Term → SignedTerm
 signed minus term = roll-SignedTerm (record { minus = minus; term = term })
 
+-- a unary, a factor and more factors
+abbrev pub product : Unary → Factor → List Factor → Product
+product head first more = roll-Product (record { head = head; first = first; more = more })
+
 -- a term of a unary and of factors
 abbrev pub term : Unary → List Factor → Term
-term head tail = roll-Term (record { head = head; tail = tail })
+term head [] = terms.Single head
+term head (first ∷ more) = terms.Product (product head first more)
 
 -- an atom, perhaps with `-` before it
 abbrev pub unary : Bool → Atom → Unary
 unary minus atom = roll-Unary (record { minus = minus; atom = atom })
+
+-- an attribute of a child
+abbrev pub child_read : NameText → NameText → ChildRead
+child_read child attr = record { child = child; attr = attr }
+
+-- an attribute of a child, and what stands after `or`
+abbrev pub last_read : NameText → NameText → Atom → LastRead
+last_read child attr other = roll-LastRead (record { child = child; attr = attr; other = other })
 
 -- conditions of which any holds
 abbrev pub cond : List Conj → Cond

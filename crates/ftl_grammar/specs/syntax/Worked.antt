@@ -16,7 +16,7 @@ use Rattle.ftl_grammar.specs.declared.syntax.expression.Test.TheVariants as test
 use Rattle.ftl_grammar.specs.declared.syntax.rules.Body.TheVariants as body
 use Rattle.ftl_grammar.specs.declared.syntax.rules.Rule.{Rule}
 use Rattle.ftl_grammar.specs.declared.syntax.rules.Target.TheVariants as target
-use Rattle.ftl_grammar.specs.syntax.Trees.{NameText, sum, signed, term, unary, cond, conj, rule}
+use Rattle.ftl_grammar.specs.syntax.Trees.{NameText, sum, signed, term, unary, last_read, cond, conj, rule}
 
 -- a term of one atom
 abbrev pub lone : Atom → Term
@@ -102,7 +102,7 @@ choice_rule =
     (cond (conj (test.Compare cmp.LessEq (alone (own_term (codes "b"))) (alone (lone (atom.Number 1))) ∷ []) ∷ []))
     ∷ test.Compare cmp.Equal (alone (own_term (codes "c"))) (alone (lone (atom.Number 2))) ∷ [])
     ∷ conj (test.Compare cmp.Unequal (alone (lone (atom.Number 1)))
-    (alone (lone (atom.LastOr (codes "k") (codes "d") (atom.Number 0)))) ∷ [])
+    (alone (lone (atom.LastOr (last_read (codes "k") (codes "d") (atom.Number 0))))) ∷ [])
     ∷ []))
     (alone (lone (atom.Number 1)))
     (alone (lone (atom.Group (expr.Sum (alone (lone (atom.Number 2)))))))))

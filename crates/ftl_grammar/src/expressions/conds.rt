@@ -77,7 +77,8 @@ impl<
             (spec.and_test (spec.expr self.now.depth) (spec.cond self.now.depth))
             (first ∷ []) input.old) result input.new }
     {
-        let mut found = Items::new(alloc);
+        // Most have one.
+        let mut found = Items::from_vec(Vec::with_capacity(alloc, 1)?);
         found.push(first)?;
         for _turn in 0..input.left() {
             let Some(item) = self.and_test(alloc, input)? else {
@@ -127,7 +128,8 @@ impl<
             (spec.or_conj (spec.expr self.now.depth) (spec.cond self.now.depth))
             (first ∷ []) input.old) result input.new }
     {
-        let mut found = Items::new(alloc);
+        // Most have one.
+        let mut found = Items::from_vec(Vec::with_capacity(alloc, 1)?);
         found.push(first)?;
         for _turn in 0..input.left() {
             let Some(item) = self.or_conj(alloc, input)? else {

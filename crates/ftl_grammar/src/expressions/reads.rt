@@ -3,9 +3,10 @@
 ghost use Rattle.ftl_tokens.specs.reading.Reader.{Reads};
 ghost use Rattle.ftl_grammar.specs.syntax.SumReading as spec;
 
-use crate::syntax::Read;
+use crate::syntax::{ChildRead, Read};
 use ftl_base::Cmp;
 use ftl_tokens::{Input, Kind, Name, ReadFault};
+use sqlite_items::Boxed;
 use std::alloc::Global;
 
 /// A dot and a name.
@@ -36,7 +37,8 @@ pub fn read(alloc: Global, input: &mut Input<'_>) -> Result<Read, ReadFault>
         }
         Some(Kind::Name) => {
             let child = input.name(alloc)?;
-            Ok(Read::Of(child, dot_name(alloc, input)?))
+            let attr = dot_name(alloc, input)?;
+            Ok(Read::Of(Boxed::new(alloc, ChildRead { child, attr })?))
         }
         _ => Err(ReadFault::Refused),
     }

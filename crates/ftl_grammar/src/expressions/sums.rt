@@ -9,7 +9,8 @@ ghost use Rattle.ftl_grammar.specs.expressions.Nests.{IsNested};
 use crate::expressions::nested::Nested;
 use crate::expressions::reads::{comparator, dot_name, read};
 use crate::syntax::{
-    Atom, Cond, Expr, Factor, Factors, SignedTerm, SignedTerms, Sum, Term, Test, Unary,
+    Atom, Cond, Expr, Factor, Factors, LastRead, Product, SignedTerm, SignedTerms, Sum, Term, Test,
+    Unary,
 };
 use ftl_tokens::{Input, Kind, ReadFault};
 use sqlite_items::{Boxed, Items};
@@ -88,7 +89,7 @@ impl<
         let attr = dot_name(alloc, input)?;
         input.expect(Kind::Or)?;
         let other = self.plain(alloc, input)?;
-        Ok(Atom::LastOr(child, attr, Boxed::new(alloc, other)?))
+        Ok(Atom::LastOr(Boxed::new(alloc, LastRead { child, attr, other })?))
     }
 
     #[tactic(auto, unfolding(crate::specs::syntax::SumReading::atom))]
@@ -175,8 +176,11 @@ impl<
         ensures reads { Reads (spec.term (reading.expr self.now.depth) input.old) result input.new }
     {
         let head = self.unary(alloc, input)?;
-        let tail = self.factors(alloc, input)?;
-        Ok(Term { head, tail })
+        let Some(first) = self.factor(alloc, input)? else {
+            return Ok(Term::Single(head));
+        };
+        let more = self.factors(alloc, input)?;
+        Ok(Term::Product(Boxed::new(alloc, Product { head, first, more })?))
     }
 
     // One more term with its sign, if there is one.

@@ -5,7 +5,8 @@ ghost use Rattle.ftl_tokens.specs.scanner.Tokenized as said;
 ghost use Rattle.ftl_grammar.specs.printing.ExpressionTokens.{read_tokens, comparison_mark};
 ghost use Rattle.ftl_grammar.specs.printing.ExpressionTokens.{expr_tokens, sum_tokens};
 ghost use Rattle.ftl_grammar.specs.printing.ExpressionTokens.{signed_tokens};
-ghost use Rattle.ftl_grammar.specs.printing.ExpressionTokens.{term_tokens, factor_tokens};
+ghost use Rattle.ftl_grammar.specs.printing.ExpressionTokens.{term_tokens, product_tokens};
+ghost use Rattle.ftl_grammar.specs.printing.ExpressionTokens.{factor_tokens, last_read_tokens};
 ghost use Rattle.ftl_grammar.specs.printing.ExpressionTokens.{unary_tokens};
 ghost use Rattle.ftl_grammar.specs.printing.ExpressionTokens.{atom_tokens, cond_tokens};
 ghost use Rattle.ftl_grammar.specs.printing.ExpressionTokens.{conj_tokens};
@@ -13,7 +14,9 @@ ghost use Rattle.ftl_grammar.specs.printing.ExpressionTokens.{test_tokens};
 ghost use Rattle.ftl_grammar.specs.printing.GrammarTokens.{spaced_text};
 
 use crate::printing::token::{fixed, name, number};
-use crate::syntax::{Atom, Cond, Conj, Expr, Factor, Read, SignedTerm, Sum, Term, Test, Unary};
+use crate::syntax::{
+    Atom, Cond, Conj, Expr, Factor, LastRead, Product, Read, SignedTerm, Sum, Term, Test, Unary,
+};
 use ftl_base::Cmp;
 use ftl_tokens::{Kind, Name};
 use std::alloc::AllocError;
@@ -65,13 +68,26 @@ fn print_signed_term(out: &mut String, signed: &SignedTerm) -> Result<(), AllocE
 }
 
 #[cycle(printing)]
-#[tactic(auto, unfolding(crate::specs::printing::ExpressionTokens::term_tokens, crate::specs::printing::ExpressionTokens::unary_tokens, crate::specs::printing::ExpressionTokens::factor_tokens))]
+#[tactic(auto, unfolding(crate::specs::printing::ExpressionTokens::term_tokens, crate::specs::printing::ExpressionTokens::unary_tokens, crate::specs::printing::ExpressionTokens::product_tokens))]
 fn print_term(out: &mut String, term: &Term) -> Result<(), AllocError>
     ensures text { OnOk result (string_bytes out.new
         ≡ string_bytes out.old ++ spaced_text (term_tokens term.now)) }
 {
-    print_unary(out, &term.head)?;
-    for each in term.tail.as_slice() {
+    match term {
+        Term::Single(unary) => print_unary(out, unary),
+        Term::Product(product) => print_product(out, product.get()),
+    }
+}
+
+#[cycle(printing)]
+#[tactic(auto, unfolding(crate::specs::printing::ExpressionTokens::product_tokens, crate::specs::printing::ExpressionTokens::unary_tokens, crate::specs::printing::ExpressionTokens::factor_tokens))]
+fn print_product(out: &mut String, product: &Product) -> Result<(), AllocError>
+    ensures text { OnOk result (string_bytes out.new
+        ≡ string_bytes out.old ++ spaced_text (product_tokens product.now)) }
+{
+    print_unary(out, &product.head)?;
+    print_factor(out, &product.first)?;
+    for each in product.more.as_slice() {
         print_factor(out, each)?;
     }
     Ok(())
@@ -108,7 +124,7 @@ fn print_unary(out: &mut String, unary: &Unary) -> Result<(), AllocError>
 }
 
 #[cycle(printing)]
-#[tactic(auto, unfolding(crate::specs::printing::ExpressionTokens::atom_tokens, crate::specs::printing::ExpressionTokens::expr_tokens))]
+#[tactic(auto, unfolding(crate::specs::printing::ExpressionTokens::atom_tokens, crate::specs::printing::ExpressionTokens::expr_tokens, crate::specs::printing::ExpressionTokens::last_read_tokens))]
 fn print_atom(out: &mut String, atom: &Atom) -> Result<(), AllocError>
     ensures text { OnOk result (string_bytes out.new
         ≡ string_bytes out.old ++ spaced_text (atom_tokens atom.now)) }
@@ -138,13 +154,22 @@ fn print_atom(out: &mut String, atom: &Atom) -> Result<(), AllocError>
             print_expr(out, b.get())?;
             fixed(out, Kind::RightParen)
         }
-        Atom::LastOr(child, attr, default) => {
+        Atom::LastOr(last) => {
             fixed(out, Kind::Last)?;
-            print_of_child(out, child, attr)?;
-            fixed(out, Kind::Or)?;
-            print_atom(out, default.get())
+            print_last_read(out, last.get())
         }
     }
+}
+
+#[cycle(printing)]
+#[tactic(auto, unfolding(crate::specs::printing::ExpressionTokens::last_read_tokens, crate::specs::printing::ExpressionTokens::atom_tokens))]
+fn print_last_read(out: &mut String, last: &LastRead) -> Result<(), AllocError>
+    ensures text { OnOk result (string_bytes out.new
+        ≡ string_bytes out.old ++ spaced_text (last_read_tokens last.now)) }
+{
+    print_of_child(out, &last.child, &last.attr)?;
+    fixed(out, Kind::Or)?;
+    print_atom(out, &last.other)
 }
 
 /// The attribute of a child, or of a kid.
@@ -175,7 +200,7 @@ fn print_read(out: &mut String, read: &Read) -> Result<(), AllocError>
         Read::Own(attr) => print_of_word(out, Kind::SelfWord, attr),
         Read::This(attr) => print_of_word(out, Kind::This, attr),
         Read::Prev(attr) => print_of_word(out, Kind::Prev, attr),
-        Read::Of(child, attr) => print_of_child(out, child, attr),
+        Read::Of(of) => print_of_child(out, &of.get().child, &of.get().attr),
     }
 }
 

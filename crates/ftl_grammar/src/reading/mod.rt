@@ -12,9 +12,10 @@ mod rules;
 
 pub use crate::printing::print_grammar;
 pub use crate::syntax::{
-    Atom, AttrDecl, AttrDecls, AttrKind, Body, Child, ChildList, Class, ClassList, Cond, Conj,
-    ConjList, Expr, Factor, Factors, Grammar, Interface, InterfaceList, NameList, Read, Rule,
-    RuleList, SignedTerm, SignedTerms, Sum, Target, Term, Test, TestList, Unary,
+    Atom, AttrDecl, AttrDecls, AttrKind, Body, Child, ChildList, ChildRead, Class, ClassList, Cond,
+    Conj, ConjList, Expr, Factor, Factors, Grammar, Interface, InterfaceList, LastRead, NameList,
+    Product, Read, Rule, RuleList, SignedTerm, SignedTerms, Sum, Target, Term, Test, TestList,
+    Unary,
 };
 pub use fault::SyntaxFault;
 pub use laws::{one_answer, printed_grammars_are_read};

@@ -32,12 +32,23 @@ pub struct SignedTerm {
     pub term: Term,
 }
 
+/// What is added or subtracted.
+#[cycle(expression)]
+#[derive(Drop)]
+pub enum Term {
+    /// An atom with its sign, and no factor.
+    Single(Unary),
+    Product(Boxed<Product>),
+}
+
 /// Factors that are multiplied and divided, from the left.
 #[cycle(expression)]
 #[derive(Drop)]
-pub struct Term {
+pub struct Product {
     pub head: Unary,
-    pub tail: Factors,
+    pub first: Factor,
+    /// The factors after the first.
+    pub more: Factors,
 }
 
 pub type Factors = Items<Factor>;
@@ -72,8 +83,17 @@ pub enum Atom {
     Least(Boxed<Expr>, Boxed<Expr>),
     /// `max`
     Greatest(Boxed<Expr>, Boxed<Expr>),
-    /// `last` of a child, its attribute, and what stands after `or`.
-    LastOr(Name, Name, Boxed<Atom>),
+    /// `last`
+    LastOr(Boxed<LastRead>),
+}
+
+/// What stands after `last`: an attribute of a child, `or`, and an atom.
+#[cycle(expression)]
+#[derive(Drop)]
+pub struct LastRead {
+    pub child: Name,
+    pub attr: Name,
+    pub other: Atom,
 }
 
 /// The attribute that an expression reads.
@@ -85,8 +105,15 @@ pub enum Read {
     This(Name),
     /// Of the kid before: `prev`.
     Prev(Name),
-    /// Of the child with the first name.
-    Of(Name, Name),
+    /// Of a child.
+    Of(Boxed<ChildRead>),
+}
+
+/// An attribute of a child.
+#[derive(Drop)]
+pub struct ChildRead {
+    pub child: Name,
+    pub attr: Name,
 }
 
 /// Conditions of which any holds: `||` between them, from the left.

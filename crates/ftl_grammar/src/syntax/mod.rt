@@ -10,8 +10,8 @@ mod rules;
 mod worked;
 
 pub use expression::{
-    Atom, Cond, Conj, ConjList, Expr, Factor, Factors, Read, SignedTerm, SignedTerms, Sum, Term,
-    Test, TestList, Unary,
+    Atom, ChildRead, Cond, Conj, ConjList, Expr, Factor, Factors, LastRead, Product, Read,
+    SignedTerm, SignedTerms, Sum, Term, Test, TestList, Unary,
 };
 pub use laws::{one_grammar, one_place, reads_grammars};
 pub use rules::{

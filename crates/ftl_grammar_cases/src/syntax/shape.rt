@@ -2,7 +2,8 @@
 
 use ftl_base::Cmp;
 use ftl_grammar::{
-    Atom, Body, Cond, Conj, Expr, Factor, Read, Rule, SignedTerm, Sum, Target, Term, Test, Unary,
+    Atom, Body, Cond, Conj, Expr, Factor, LastRead, Product, Read, Rule, SignedTerm, Sum, Target,
+    Term, Test, Unary,
 };
 use ftl_tokens::Name;
 use sqlite_items::Items;
@@ -16,6 +17,7 @@ enum Part<'a> {
     Sum(&'a Sum),
     SignedTerms(&'a [SignedTerm]),
     Term(&'a Term),
+    Factor(&'a Factor),
     Factors(&'a [Factor]),
     Unary(&'a Unary),
     Atom(&'a Atom),
@@ -114,6 +116,7 @@ fn write_part<'a>(
         Part::Sum(sum) => write_sum(out, left, sum),
         Part::SignedTerms(terms) => write_signed_terms(out, left, terms),
         Part::Term(term) => write_term(out, left, term),
+        Part::Factor(factor) => write_factor(out, left, factor),
         Part::Factors(factors) => write_factors(out, left, factors),
         Part::Unary(unary) => {
             let sign = if unary.minus { " minus" } else { "" };
@@ -169,9 +172,21 @@ fn write_term<'a>(
     left: &mut Items<Part<'a>>,
     term: &'a Term,
 ) -> Result<(), AllocError> {
-    write_count(out, "term", term.tail.len().saturating_add(1))?;
-    let tail = Part::Factors(term.tail.as_slice());
-    write_two(out, left, "", Part::Unary(&term.head), tail)
+    match term {
+        Term::Single(unary) => left.push(Part::Unary(unary)),
+        Term::Product(product) => write_product(out, left, product.get()),
+    }
+}
+
+fn write_product<'a>(
+    out: &mut String,
+    left: &mut Items<Part<'a>>,
+    product: &'a Product,
+) -> Result<(), AllocError> {
+    write_count(out, "term", product.more.len().saturating_add(2))?;
+    left.push(Part::Factors(product.more.as_slice()))?;
+    let first = Part::Factor(&product.first);
+    write_two(out, left, "", Part::Unary(&product.head), first)
 }
 
 fn write_signed_terms<'a>(
@@ -233,9 +248,10 @@ fn write_atom<'a>(
             let (first, second) = (Part::Expr(first.get()), Part::Expr(second.get()));
             write_two(out, left, " max", first, second)
         }
-        Atom::LastOr(child, attr, other) => {
+        Atom::LastOr(last) => {
+            let LastRead { child, attr, other } = last.get();
             write_path(out, " last ", child, attr)?;
-            write_one(out, left, " or", Part::Atom(other.get()))
+            write_one(out, left, " or", Part::Atom(other))
         }
     }
 }
@@ -245,7 +261,7 @@ fn write_read(out: &mut String, read: &Read) -> Result<(), AllocError> {
         Read::Own(attr) => write_name(out, " own.", attr),
         Read::This(attr) => write_name(out, " this.", attr),
         Read::Prev(attr) => write_name(out, " prev.", attr),
-        Read::Of(child, attr) => write_path(out, " of ", child, attr),
+        Read::Of(of) => write_path(out, " of ", &of.get().child, &of.get().attr),
     }
 }
 

@@ -1,9 +1,6 @@
 -- The reads of a formula that steps make, from the left.
 use Rattle.std.proofs.Common.{◌≡◌, Bool, true, false, List, [], ◌∷◌, ◌++◌, map, flat_map, fold, refl, sym, ◌∙◌, ap, subst, append_assoc}
 use Rattle.std.proofs.lemmas.List.{append-nil}
-use Rattle.ftl_grammar.specs.declared.syntax.expression.Atom.{Atom}
-use Rattle.ftl_grammar.specs.declared.syntax.expression.Expr.{Expr}
-use Rattle.ftl_grammar.specs.declared.syntax.expression.Unary.{Unary}
 use Rattle.ftl_grammar.specs.declared.syntax.expression.SignedTerm.{SignedTerm, out-SignedTerm}
 use Rattle.ftl_grammar.specs.declared.syntax.expression.Factor.{Factor, Factor-F, out-Factor, roll-Factor, roll-out-Factor}
 use Rattle.ftl_grammar.specs.declared.syntax.expression.Factor.TheVariants as factors
@@ -11,29 +8,18 @@ use Rattle.ftl_grammar.specs.declared.syntax.expression.Cond.{Cond, out-Cond, ro
 use Rattle.ftl_grammar.specs.declared.syntax.expression.Sum.{Sum, out-Sum, roll-out-Sum}
 use Rattle.ftl_grammar.specs.declared.syntax.expression.Conj.{Conj, out-Conj, roll-out-Conj}
 use Rattle.ftl_grammar.specs.declared.syntax.expression.Test.{Test}
-use Rattle.ftl_grammar.specs.declared.syntax.expression.Term.{Term, out-Term, roll-out-Term}
+use Rattle.ftl_grammar.specs.declared.syntax.expression.Term.{Term}
+use Rattle.ftl_grammar.specs.declared.syntax.expression.Product.{Product, out-Product, roll-out-Product}
 use Rattle.ftl_grammar.specs.syntax.Trees as trees
 use Rattle.ftl_meaning.specs.declared.formulas.read_name.ReadName.{ReadName}
 use Rattle.ftl_meaning.specs.formulas.Formula.{both, either, reads_of, reads_in}
-use Rattle.ftl_meaning.specs.formulas.Expressions.{Number, Truth, after, every, any, sum_formula, cond_question, term_formula, unary_formula, conj_question, test_question, signed_step, factor_step}
-use Rattle.ftl_meaning.proofs.formulas.Equations.{of-sum, of-term, of-cond, of-conj, times_at, over_at, minus_at, plus_at}
+use Rattle.ftl_meaning.specs.formulas.FactorReads.{FactorLayer, layer_reads, factor_reads}
+use Rattle.ftl_meaning.specs.formulas.Expressions.{Number, Truth, after, every, any, sum_formula, cond_question, term_formula, product_formula, unary_formula, conj_question, test_question, signed_step, factor_step}
+use Rattle.ftl_meaning.proofs.formulas.Equations.{of-sum, of-product, of-cond, of-conj, times_at, over_at, minus_at, plus_at}
 
 -- what a term with its sign reads
 abbrev pub signed_reads : SignedTerm → List ReadName
 signed_reads x = reads_of (term_formula (out-SignedTerm x).term)
-
--- a factor, by what it is made of
-abbrev pub FactorLayer : Type 0
-FactorLayer = Factor-F Atom Expr Factor Test Cond Conj SignedTerm Sum Term Unary
-
--- what a factor reads, by what it is made of
-abbrev pub layer_reads : FactorLayer → List ReadName
-layer_reads (Factor-F.Times u) = reads_of (unary_formula u)
-layer_reads (Factor-F.Over n) = []
-
--- what a factor reads
-abbrev pub factor_reads : Factor → List ReadName
-factor_reads x = layer_reads (out-Factor x)
 
 -- what tests with `&&` between them read
 abbrev pub conj_reads : Conj → List ReadName
@@ -105,13 +91,15 @@ reads-of_sum x =
     ∙ ap reads_of (of-sum (out-Sum x).head (out-Sum x).tail)
     ∙ after_reads signed_step signed_reads signed_adds (term_formula (out-Sum x).head) (out-Sum x).tail
 
--- the reads of a term
-pub reads-of_term : (x : Term) → reads_of (term_formula x)
-    ≡ reads_of (unary_formula (out-Term x).head) ++ flat_map factor_reads (out-Term x).tail
-reads-of_term x =
-    ap (λ y. reads_of (term_formula y)) (sym (roll-out-Term x))
-    ∙ ap reads_of (of-term (out-Term x).head (out-Term x).tail)
-    ∙ after_reads factor_step factor_reads factor_adds (unary_formula (out-Term x).head) (out-Term x).tail
+-- the reads of a product
+pub reads-of_product : (x : Product) → reads_of (product_formula x)
+    ≡ reads_of (unary_formula (out-Product x).head)
+    ++ (factor_reads (out-Product x).first ++ flat_map factor_reads (out-Product x).more)
+reads-of_product x =
+    let p = out-Product x in
+    ap (λ y. reads_of (product_formula y)) (sym (roll-out-Product x))
+    ∙ ap reads_of (of-product p.head p.first p.more)
+    ∙ after_reads factor_step factor_reads factor_adds (unary_formula p.head) (p.first ∷ p.more)
 
 -- the reads of a condition
 pub reads-of_cond : (x : Cond) → reads_in (cond_question x) ≡ flat_map conj_reads (out-Cond x).any

@@ -37,7 +37,7 @@ so_far = exprs.Sum (alone (lone atoms.Acc))
 
 -- the read of a list's last kid, or a number
 abbrev pub last_or : NameText → NameText → ℕ → Expr
-last_or c a n = exprs.Sum (alone (lone (atoms.LastOr c a (atoms.Number n))))
+last_or c a n = exprs.Sum (alone (lone (atoms.LastOr (trees.last_read c a (atoms.Number n)))))
 
 -- `self.a := e`
 abbrev pub self_is : NameText → Expr → Rule
@@ -213,7 +213,7 @@ box =
 abbrev pub sheet : Class
 sheet =
     trees.class (codes "Sheet") (codes "Page") [] (trees.child (codes "body") (codes "Box") false ∷ [])
-    (self_is (codes "h") (reading (reads.Of (codes "body") (codes "h")))
+    (self_is (codes "h") (reading (reads.Of (trees.child_read (codes "body") (codes "h"))))
     ∷ kid_is (codes "body") (codes "x") (num 0) ∷ kid_is (codes "body") (codes "y") (num 0) ∷ [])
 
 -- `class Column : Box { kids : [Box]; self.w := fold kids from 0 with max(acc, this.w); self.h := fold kids from 0 with
@@ -283,7 +283,7 @@ two rules = two_by rules (self_is (codes "w") (reading (reads.Own (codes "x"))) 
 abbrev pub rule_a : Rule
 rule_a =
     self_folds (codes "a") (codes "d") (last_or (codes "c") (codes "w") 0)
-    (adding_three so_far (reading (reads.This (codes "v"))) (reading (reads.Of (codes "s") (codes "v"))))
+    (adding_three so_far (reading (reads.This (codes "v"))) (reading (reads.Of (trees.child_read (codes "s") (codes "v")))))
 
 -- `self.l := self.p`
 abbrev pub rule_l : Rule

@@ -8,6 +8,8 @@ use Rattle.ftl_grammar.specs.declared.syntax.expression.Factor.{Factor, Factor-F
 use Rattle.ftl_grammar.specs.declared.syntax.expression.Test.{Test, Test-F, fold-Test}
 use Rattle.ftl_grammar.specs.declared.syntax.expression.Cond.{Cond, Cond-F, fold-Cond}
 use Rattle.ftl_grammar.specs.declared.syntax.expression.Conj.{Conj, Conj-F, fold-Conj}
+use Rattle.ftl_grammar.specs.declared.syntax.expression.LastRead.{LastRead, LastRead-F, fold-LastRead}
+use Rattle.ftl_grammar.specs.declared.syntax.expression.Product.{Product, Product-F, fold-Product}
 use Rattle.ftl_grammar.specs.declared.syntax.expression.SignedTerm.{SignedTerm, SignedTerm-F, fold-SignedTerm}
 use Rattle.ftl_grammar.specs.declared.syntax.expression.Sum.{Sum, Sum-F, fold-Sum}
 use Rattle.ftl_grammar.specs.declared.syntax.expression.Term.{Term, Term-F, fold-Term}
@@ -29,15 +31,15 @@ Truth = Question ReadName
 
 -- a layer of the syntax, with what its parts compute in their places: a factor and a signed term wait for what stands
 -- before them
-abbrev pub Layer : ((A B C D E F G H I J : Type 0) → Type 0) → Type 0
-Layer L = L Number Number (Number → Number) Truth Truth Truth (Number → Number) Number Number Number
+abbrev pub Layer : ((A B C D E F G H I J K L : Type 0) → Type 0) → Type 0
+Layer L = L Number Number (Number → Number) Number Truth Truth Truth Number Number (Number → Number) Number Number
 
 -- what is read, by name
 abbrev pub read_name : Read → ReadName
 read_name (syntax.Own a) = names.Own a
 read_name (syntax.This a) = names.This a
 read_name (syntax.Prev a) = names.Prev a
-read_name (syntax.Of c a) = names.Of c a
+read_name (syntax.Of of) = names.Of of.child of.attr
 
 -- what is computed, and then each step, from the left
 abbrev pub after : Number → List (Number → Number) → Number
@@ -62,7 +64,7 @@ of_atom (Atom-F.Read r) = read (read_name r)
 of_atom (Atom-F.«Atom::Group» f) = f
 of_atom (Atom-F.Least f g) = least f g
 of_atom (Atom-F.Greatest f g) = greatest f g
-of_atom (Atom-F.LastOr c a f) = read_or (names.Last c a) f
+of_atom (Atom-F.LastOr f) = f
 
 -- what an expression computes
 abbrev pub of_expr : Layer Expr-F → Number
@@ -97,7 +99,16 @@ of_sum x = after x.head x.tail
 
 -- what a term computes
 abbrev pub of_term : Layer Term-F → Number
-of_term x = after x.head x.tail
+of_term (Term-F.Single f) = f
+of_term (Term-F.Product f) = f
+
+-- what a product computes
+abbrev pub of_product : Layer Product-F → Number
+of_product x = after x.head (x.first ∷ x.more)
+
+-- what `last` computes, from what stands after it
+abbrev pub of_last_read : Layer LastRead-F → Number
+of_last_read x = read_or (names.Last x.child x.attr) x.other
 
 -- what an atom with its sign computes
 abbrev pub of_unary : Layer Unary-F → Number
@@ -106,59 +117,71 @@ of_unary x = if x.minus then negated x.atom else x.atom
 -- what an expression computes
 unfoldable pub formula_of : Expr → Number
 formula_of =
-    fold-Expr Number Number (Number → Number) Truth Truth Truth (Number → Number) Number Number Number
-    of_atom of_expr of_factor of_test of_cond of_conj of_signed_term of_sum of_term of_unary
+    fold-Expr Number Number (Number → Number) Number Truth Truth Truth Number Number (Number → Number) Number Number
+    of_atom of_expr of_factor of_term of_test of_cond of_conj of_last_read of_product of_signed_term of_sum of_unary
 
 -- what an atom computes
 unfoldable pub atom_formula : Atom → Number
 atom_formula =
-    fold-Atom Number Number (Number → Number) Truth Truth Truth (Number → Number) Number Number Number
-    of_atom of_expr of_factor of_test of_cond of_conj of_signed_term of_sum of_term of_unary
+    fold-Atom Number Number (Number → Number) Number Truth Truth Truth Number Number (Number → Number) Number Number
+    of_atom of_expr of_factor of_term of_test of_cond of_conj of_last_read of_product of_signed_term of_sum of_unary
 
 -- what a factor makes of what stands before it
 unfoldable pub factor_step : Factor → Number → Number
 factor_step =
-    fold-Factor Number Number (Number → Number) Truth Truth Truth (Number → Number) Number Number Number
-    of_atom of_expr of_factor of_test of_cond of_conj of_signed_term of_sum of_term of_unary
+    fold-Factor Number Number (Number → Number) Number Truth Truth Truth Number Number (Number → Number) Number Number
+    of_atom of_expr of_factor of_term of_test of_cond of_conj of_last_read of_product of_signed_term of_sum of_unary
 
 -- what a test computes
 unfoldable pub test_question : Test → Truth
 test_question =
-    fold-Test Number Number (Number → Number) Truth Truth Truth (Number → Number) Number Number Number
-    of_atom of_expr of_factor of_test of_cond of_conj of_signed_term of_sum of_term of_unary
+    fold-Test Number Number (Number → Number) Number Truth Truth Truth Number Number (Number → Number) Number Number
+    of_atom of_expr of_factor of_term of_test of_cond of_conj of_last_read of_product of_signed_term of_sum of_unary
 
 -- what a condition computes
 unfoldable pub cond_question : Cond → Truth
 cond_question =
-    fold-Cond Number Number (Number → Number) Truth Truth Truth (Number → Number) Number Number Number
-    of_atom of_expr of_factor of_test of_cond of_conj of_signed_term of_sum of_term of_unary
+    fold-Cond Number Number (Number → Number) Number Truth Truth Truth Number Number (Number → Number) Number Number
+    of_atom of_expr of_factor of_term of_test of_cond of_conj of_last_read of_product of_signed_term of_sum of_unary
 
 -- what tests with `&&` between them compute
 unfoldable pub conj_question : Conj → Truth
 conj_question =
-    fold-Conj Number Number (Number → Number) Truth Truth Truth (Number → Number) Number Number Number
-    of_atom of_expr of_factor of_test of_cond of_conj of_signed_term of_sum of_term of_unary
+    fold-Conj Number Number (Number → Number) Number Truth Truth Truth Number Number (Number → Number) Number Number
+    of_atom of_expr of_factor of_term of_test of_cond of_conj of_last_read of_product of_signed_term of_sum of_unary
 
 -- what a term with its sign makes of what stands before it
 unfoldable pub signed_step : SignedTerm → Number → Number
 signed_step =
-    fold-SignedTerm Number Number (Number → Number) Truth Truth Truth (Number → Number) Number Number Number
-    of_atom of_expr of_factor of_test of_cond of_conj of_signed_term of_sum of_term of_unary
+    fold-SignedTerm Number Number (Number → Number) Number Truth Truth Truth Number Number (Number → Number) Number Number
+    of_atom of_expr of_factor of_term of_test of_cond of_conj of_last_read of_product of_signed_term of_sum of_unary
 
 -- what a sum computes
 unfoldable pub sum_formula : Sum → Number
 sum_formula =
-    fold-Sum Number Number (Number → Number) Truth Truth Truth (Number → Number) Number Number Number
-    of_atom of_expr of_factor of_test of_cond of_conj of_signed_term of_sum of_term of_unary
+    fold-Sum Number Number (Number → Number) Number Truth Truth Truth Number Number (Number → Number) Number Number
+    of_atom of_expr of_factor of_term of_test of_cond of_conj of_last_read of_product of_signed_term of_sum of_unary
+
+-- what `last` computes, from what stands after it
+unfoldable pub last_read_formula : LastRead → Number
+last_read_formula =
+    fold-LastRead Number Number (Number → Number) Number Truth Truth Truth Number Number (Number → Number) Number Number
+    of_atom of_expr of_factor of_term of_test of_cond of_conj of_last_read of_product of_signed_term of_sum of_unary
+
+-- what a product computes
+unfoldable pub product_formula : Product → Number
+product_formula =
+    fold-Product Number Number (Number → Number) Number Truth Truth Truth Number Number (Number → Number) Number Number
+    of_atom of_expr of_factor of_term of_test of_cond of_conj of_last_read of_product of_signed_term of_sum of_unary
 
 -- what a term computes
 unfoldable pub term_formula : Term → Number
 term_formula =
-    fold-Term Number Number (Number → Number) Truth Truth Truth (Number → Number) Number Number Number
-    of_atom of_expr of_factor of_test of_cond of_conj of_signed_term of_sum of_term of_unary
+    fold-Term Number Number (Number → Number) Number Truth Truth Truth Number Number (Number → Number) Number Number
+    of_atom of_expr of_factor of_term of_test of_cond of_conj of_last_read of_product of_signed_term of_sum of_unary
 
 -- what an atom with its sign computes
 unfoldable pub unary_formula : Unary → Number
 unary_formula =
-    fold-Unary Number Number (Number → Number) Truth Truth Truth (Number → Number) Number Number Number
-    of_atom of_expr of_factor of_test of_cond of_conj of_signed_term of_sum of_term of_unary
+    fold-Unary Number Number (Number → Number) Number Truth Truth Truth Number Number (Number → Number) Number Number
+    of_atom of_expr of_factor of_term of_test of_cond of_conj of_last_read of_product of_signed_term of_sum of_unary

@@ -105,9 +105,9 @@ offset_reads =
 -- (last kids.ny or (self.cy + self.pad)) + self.pad
 abbrev pub below : Expr
 below =
-    exprs.Sum (trees.sum (lone (atoms.Group (exprs.Sum (alone (lone (atoms.LastOr (codes "kids") (codes "ny")
-    (atoms.Group (exprs.Sum (trees.sum (own_term (codes "cy"))
-    (trees.signed false (own_term (codes "pad")) ∷ [])))))))))) (trees.signed false (own_term (codes "pad")) ∷ []))
+    exprs.Sum (trees.sum (lone (atoms.Group (exprs.Sum (alone (lone (atoms.LastOr
+    (trees.last_read (codes "kids") (codes "ny") (atoms.Group (exprs.Sum (trees.sum (own_term (codes "cy"))
+    (trees.signed false (own_term (codes "pad")) ∷ []))))))))))) (trees.signed false (own_term (codes "pad")) ∷ []))
 
 -- its formula
 abbrev pub below_formula : Number

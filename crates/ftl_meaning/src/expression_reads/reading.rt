@@ -3,9 +3,13 @@ ghost use Rattle.ftl_meaning.specs.formulas.Formula.{reads_of, reads_in};
 ghost use Rattle.ftl_meaning.specs.formulas.Expressions.{formula_of, atom_formula, test_question};
 ghost use Rattle.ftl_meaning.specs.formulas.Expressions.{cond_question, conj_question, sum_formula};
 ghost use Rattle.ftl_meaning.specs.formulas.Expressions.{read_name, term_formula, unary_formula};
+ghost use Rattle.ftl_meaning.specs.formulas.Expressions.{product_formula, last_read_formula};
+ghost use Rattle.ftl_meaning.specs.formulas.FactorReads.{factor_reads};
 
 use crate::expression_reads::read_ref::{ReadKind, ReadRef};
-use ftl_grammar::{Atom, Cond, Conj, Expr, Factor, Read, Sum, Term, Test, Unary};
+use ftl_grammar::{
+    Atom, Cond, Conj, Expr, Factor, LastRead, Product, Read, Sum, Term, Test, Unary,
+};
 use std::alloc::{AllocError, Global};
 
 /// What an expression reads, in the order of the text.
@@ -47,19 +51,40 @@ fn add_sum<'a>(found: &mut Vec<ReadRef<'a>>, sum: &'a Sum) -> Result<(), AllocEr
 }
 
 #[cycle(reading)]
-#[tactic(auto, unfolding(crate::specs::formulas::Expressions::term_formula, crate::specs::formulas::Expressions::unary_formula, crate::specs::formulas::Expressions::factor_step))]
+#[tactic(auto, unfolding(crate::specs::formulas::Expressions::term_formula, crate::specs::formulas::Expressions::unary_formula, crate::specs::formulas::Expressions::product_formula))]
 fn add_term<'a>(found: &mut Vec<ReadRef<'a>>, term: &'a Term) -> Result<(), AllocError>
     ensures reads { OnOk result
         (found.new.items ≡ found.old.items ++ reads_of (term_formula term.now)) }
 {
-    add_unary(found, &term.head)?;
-    for factor in term.tail.as_slice() {
-        match factor {
-            Factor::Times(unary) => add_unary(found, unary)?,
-            Factor::Over(_) => {}
-        }
+    match term {
+        Term::Single(unary) => add_unary(found, unary),
+        Term::Product(product) => add_product(found, product.get()),
+    }
+}
+
+#[cycle(reading)]
+#[tactic(auto, unfolding(crate::specs::formulas::Expressions::product_formula, crate::specs::formulas::Expressions::unary_formula))]
+fn add_product<'a>(found: &mut Vec<ReadRef<'a>>, product: &'a Product) -> Result<(), AllocError>
+    ensures reads { OnOk result
+        (found.new.items ≡ found.old.items ++ reads_of (product_formula product.now)) }
+{
+    add_unary(found, &product.head)?;
+    add_factor(found, &product.first)?;
+    for factor in product.more.as_slice() {
+        add_factor(found, factor)?;
     }
     Ok(())
+}
+
+#[cycle(reading)]
+#[tactic(auto, unfolding(crate::specs::formulas::Expressions::unary_formula))]
+fn add_factor<'a>(found: &mut Vec<ReadRef<'a>>, factor: &'a Factor) -> Result<(), AllocError>
+    ensures reads { OnOk result (found.new.items ≡ found.old.items ++ factor_reads factor.now) }
+{
+    match factor {
+        Factor::Times(unary) => add_unary(found, unary),
+        Factor::Over(_) => Ok(()),
+    }
 }
 
 #[cycle(reading)]
@@ -72,7 +97,7 @@ fn add_unary<'a>(found: &mut Vec<ReadRef<'a>>, unary: &'a Unary) -> Result<(), A
 }
 
 #[cycle(reading)]
-#[tactic(auto, unfolding(crate::specs::formulas::Expressions::atom_formula, crate::specs::formulas::Expressions::formula_of))]
+#[tactic(auto, unfolding(crate::specs::formulas::Expressions::atom_formula, crate::specs::formulas::Expressions::formula_of, crate::specs::formulas::Expressions::last_read_formula))]
 fn add_atom<'a>(found: &mut Vec<ReadRef<'a>>, atom: &'a Atom) -> Result<(), AllocError>
     ensures reads { OnOk result
         (found.new.items ≡ found.old.items ++ reads_of (atom_formula atom.now)) }
@@ -86,12 +111,19 @@ fn add_atom<'a>(found: &mut Vec<ReadRef<'a>>, atom: &'a Atom) -> Result<(), Allo
             add_expr(found, a.get())?;
             add_expr(found, b.get())?;
         }
-        Atom::LastOr(child, attr, default) => {
-            found.push(ReadRef::new(ReadKind::Last(child, attr)))?;
-            add_atom(found, default.get())?;
-        }
+        Atom::LastOr(last) => add_last_read(found, last.get())?,
     }
     Ok(())
+}
+
+#[cycle(reading)]
+#[tactic(auto, unfolding(crate::specs::formulas::Expressions::last_read_formula, crate::specs::formulas::Expressions::atom_formula))]
+fn add_last_read<'a>(found: &mut Vec<ReadRef<'a>>, last: &'a LastRead) -> Result<(), AllocError>
+    ensures reads { OnOk result
+        (found.new.items ≡ found.old.items ++ reads_of (last_read_formula last.now)) }
+{
+    found.push(ReadRef::new(ReadKind::Last(&last.child, &last.attr)))?;
+    add_atom(found, &last.other)
 }
 
 #[cycle(reading)]
@@ -141,6 +173,6 @@ fn read_ref<'a>(read: &'a Read) -> ReadRef<'a>
         Read::Own(a) => ReadRef::new(ReadKind::Own(a)),
         Read::This(a) => ReadRef::new(ReadKind::This(a)),
         Read::Prev(a) => ReadRef::new(ReadKind::Prev(a)),
-        Read::Of(c, a) => ReadRef::new(ReadKind::Of(c, a)),
+        Read::Of(of) => ReadRef::new(ReadKind::Of(&of.get().child, &of.get().attr)),
     }
 }

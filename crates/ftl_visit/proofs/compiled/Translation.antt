@@ -4,20 +4,20 @@ use Rattle.std.proofs.lemmas.List.{append-nil}
 use Rattle.ftl_grammar.specs.declared.syntax.expression.SignedTerm.{SignedTerm, out-SignedTerm}
 use Rattle.ftl_grammar.specs.declared.syntax.expression.Factor.{Factor, Factor-F, out-Factor, roll-Factor, roll-out-Factor}
 use Rattle.ftl_grammar.specs.declared.syntax.expression.Factor.TheVariants as factors
-use Rattle.ftl_grammar.specs.declared.syntax.expression.Atom.{Atom}
-use Rattle.ftl_grammar.specs.declared.syntax.expression.Expr.{Expr}
 use Rattle.ftl_grammar.specs.declared.syntax.expression.Cond.{Cond, out-Cond, roll-out-Cond}
 use Rattle.ftl_grammar.specs.declared.syntax.expression.Sum.{Sum, out-Sum, roll-out-Sum}
 use Rattle.ftl_grammar.specs.declared.syntax.expression.Conj.{Conj, out-Conj, roll-out-Conj}
 use Rattle.ftl_grammar.specs.declared.syntax.expression.Test.{Test}
-use Rattle.ftl_grammar.specs.declared.syntax.expression.Term.{Term, out-Term, roll-out-Term}
-use Rattle.ftl_grammar.specs.declared.syntax.expression.Unary.{Unary}
+use Rattle.ftl_grammar.specs.declared.syntax.expression.Product.{Product, out-Product, roll-out-Product}
+use Rattle.ftl_grammar.specs.declared.syntax.expression.Term.{Term}
 use Rattle.ftl_grammar.specs.syntax.Trees as trees
 use Rattle.ftl_meaning.specs.formulas.Formula.{both, either}
-use Rattle.ftl_meaning.specs.formulas.Expressions.{Number, Truth, after, every, any, sum_formula, cond_question, term_formula, unary_formula, conj_question, test_question, signed_step, factor_step}
-use Rattle.ftl_meaning.proofs.formulas.Equations.{of-sum, of-term, of-cond, of-conj, times_at, over_at, minus_at, plus_at}
+use Rattle.ftl_meaning.specs.formulas.Expressions.{Number, Truth, after, every, any, sum_formula, cond_question, term_formula, product_formula, unary_formula, conj_question, test_question, signed_step, factor_step}
+use Rattle.ftl_meaning.specs.formulas.FactorReads.{FactorLayer}
+use Rattle.ftl_meaning.proofs.formulas.Equations.{of-sum, of-product, of-cond, of-conj, times_at, over_at, minus_at, plus_at}
 use Rattle.ftl_visit.specs.rule_code.Code as codes
 use Rattle.ftl_visit.specs.compiled.RuleCode.{is_accumulator}
+use Rattle.ftl_visit.specs.compiled.FactorCode.{layer_code, factor_code}
 use Rattle.ftl_visit.specs.declared.rule_code.instruction.Instruction.{Instruction}
 use Rattle.ftl_visit.specs.declared.rule_code.instruction.Instruction.TheVariants as instruction
 
@@ -33,19 +33,6 @@ code_in = codes.code_in is_accumulator
 abbrev pub signed_code : SignedTerm → List Instruction
 signed_code x =
     let s = out-SignedTerm x in code_of (term_formula s.term) ++ ((if s.minus then instruction.Subtract else instruction.Add) ∷ [])
-
--- a factor, by what it is made of
-abbrev pub FactorLayer : Type 0
-FactorLayer = Factor-F Atom Expr Factor Test Cond Conj SignedTerm Sum Term Unary
-
--- what a factor adds to code, by what it is made of
-abbrev pub layer_code : FactorLayer → List Instruction
-layer_code (Factor-F.Times u) = code_of (unary_formula u) ++ (instruction.Multiply ∷ [])
-layer_code (Factor-F.Over n) = instruction.Divide n ∷ []
-
--- what a factor adds to code
-abbrev pub factor_code : Factor → List Instruction
-factor_code x = layer_code (out-Factor x)
 
 -- what one more of several conditions adds to code
 abbrev pub conj_code : Conj → List Instruction
@@ -90,10 +77,10 @@ pub sum_code : (f : Number) (xs : List SignedTerm)
     → code_of (after f (map signed_step xs)) ≡ code_of f ++ flat_map signed_code xs
 sum_code = after_code signed_step signed_code signed_adds
 
--- the code of factors, after a first one
-pub term_code : (f : Number) (xs : List Factor)
+-- the code of factors, after what they multiply and divide
+pub factors_code : (f : Number) (xs : List Factor)
     → code_of (after f (map factor_step xs)) ≡ code_of f ++ flat_map factor_code xs
-term_code = after_code factor_step factor_code factor_adds
+factors_code = after_code factor_step factor_code factor_adds
 
 -- the code of conditions of which any holds
 pub any_code : (q : Truth) (xs : List Conj)
@@ -122,13 +109,15 @@ code-of_sum x =
     ap (λ y. code_of (sum_formula y)) (sym (roll-out-Sum x))
     ∙ ap code_of (of-sum (out-Sum x).head (out-Sum x).tail) ∙ sum_code (term_formula (out-Sum x).head) (out-Sum x).tail
 
--- the code of a term
-pub code-of_term : (x : Term) → code_of (term_formula x)
-    ≡ code_of (unary_formula (out-Term x).head) ++ flat_map factor_code (out-Term x).tail
-code-of_term x =
-    ap (λ y. code_of (term_formula y)) (sym (roll-out-Term x))
-    ∙ ap code_of (of-term (out-Term x).head (out-Term x).tail)
-    ∙ term_code (unary_formula (out-Term x).head) (out-Term x).tail
+-- the code of a product
+pub code-of_product : (x : Product) → code_of (product_formula x)
+    ≡ code_of (unary_formula (out-Product x).head)
+    ++ (factor_code (out-Product x).first ++ flat_map factor_code (out-Product x).more)
+code-of_product x =
+    let p = out-Product x in
+    ap (λ y. code_of (product_formula y)) (sym (roll-out-Product x))
+    ∙ ap code_of (of-product p.head p.first p.more)
+    ∙ factors_code (unary_formula p.head) (p.first ∷ p.more)
 
 -- the code of a condition
 pub code-of_cond : (x : Cond) (head : Conj) (tail : List Conj) → (out-Cond x).any ≡ head ∷ tail

@@ -2,16 +2,20 @@
 ghost use Rattle.std.specs.Prelude.{◌≡◌, ◌++◌, if◌then◌else◌, OnOk};
 ghost use Rattle.ftl_meaning.specs.formulas.Expressions.{formula_of, atom_formula, test_question};
 ghost use Rattle.ftl_meaning.specs.formulas.Expressions.{cond_question, conj_question, sum_formula};
-ghost use Rattle.ftl_meaning.specs.formulas.Expressions.{term_formula, unary_formula};
+ghost use Rattle.ftl_meaning.specs.formulas.Expressions.{term_formula, product_formula};
+ghost use Rattle.ftl_meaning.specs.formulas.Expressions.{unary_formula, last_read_formula};
 ghost use Rattle.ftl_meaning.specs.formulas.Expressions.{read_name};
 ghost use Rattle.ftl_meaning.specs.formulas.Formula.{literal, compared};
 ghost use Rattle.ftl_visit.specs.rule_code.Code.{code_of, code_in};
 ghost use Rattle.ftl_visit.specs.compiled.RuleCode.{expression_code, is_accumulator};
+ghost use Rattle.ftl_visit.specs.compiled.FactorCode.{factor_code};
 ghost use Rattle.ftl_visit.specs.declared.rule_code.instruction.Instruction.TheVariants as made;
 
 use crate::rule_code::Instruction;
 use ftl_base::Cmp;
-use ftl_grammar::{Atom, Cond, Conj, Expr, Factor, Read, Sum, Term, Test, Unary};
+use ftl_grammar::{
+    Atom, Cond, Conj, Expr, Factor, LastRead, Product, Read, Sum, Term, Test, Unary,
+};
 use std::alloc::AllocError;
 
 /// Adds the code of an expression.
@@ -58,20 +62,42 @@ fn push_sum(out: &mut Vec<Instruction>, sum: &Sum) -> Result<(), AllocError>
 }
 
 #[cycle(translating)]
-#[tactic(auto, unfolding(ftl_meaning::specs::formulas::Expressions::term_formula, ftl_meaning::specs::formulas::Expressions::unary_formula, ftl_meaning::specs::formulas::Expressions::factor_step))]
+#[tactic(auto, unfolding(ftl_meaning::specs::formulas::Expressions::term_formula, ftl_meaning::specs::formulas::Expressions::unary_formula, ftl_meaning::specs::formulas::Expressions::product_formula))]
 fn push_term(out: &mut Vec<Instruction>, term: &Term) -> Result<(), AllocError>
     ensures code { OnOk result
         (out.new.items ≡ out.old.items ++ code_of is_accumulator (term_formula term.now)) }
 {
-    push_unary(out, &term.head)?;
-    for factor in term.tail.as_slice() {
-        match factor {
-            Factor::Times(unary) => {
-                push_unary(out, unary)?;
-                out.push(Instruction::Multiply)?;
-            }
-            Factor::Over(n) => out.push(Instruction::Divide(*n))?,
+    match term {
+        Term::Single(unary) => push_unary(out, unary),
+        Term::Product(product) => push_product(out, product.get()),
+    }
+}
+
+#[cycle(translating)]
+#[tactic(auto, unfolding(ftl_meaning::specs::formulas::Expressions::product_formula, ftl_meaning::specs::formulas::Expressions::unary_formula))]
+fn push_product(out: &mut Vec<Instruction>, product: &Product) -> Result<(), AllocError>
+    ensures code { OnOk result
+        (out.new.items ≡ out.old.items ++ code_of is_accumulator (product_formula product.now)) }
+{
+    push_unary(out, &product.head)?;
+    push_factor(out, &product.first)?;
+    for factor in product.more.as_slice() {
+        push_factor(out, factor)?;
+    }
+    Ok(())
+}
+
+#[cycle(translating)]
+#[tactic(auto, unfolding(ftl_meaning::specs::formulas::Expressions::unary_formula))]
+fn push_factor(out: &mut Vec<Instruction>, factor: &Factor) -> Result<(), AllocError>
+    ensures code { OnOk result (out.new.items ≡ out.old.items ++ factor_code factor.now) }
+{
+    match factor {
+        Factor::Times(unary) => {
+            push_unary(out, unary)?;
+            out.push(Instruction::Multiply)?;
         }
+        Factor::Over(n) => out.push(Instruction::Divide(*n))?,
     }
     Ok(())
 }
@@ -90,7 +116,7 @@ fn push_unary(out: &mut Vec<Instruction>, unary: &Unary) -> Result<(), AllocErro
 }
 
 #[cycle(translating)]
-#[tactic(auto, unfolding(ftl_meaning::specs::formulas::Expressions::atom_formula, ftl_meaning::specs::formulas::Expressions::formula_of))]
+#[tactic(auto, unfolding(ftl_meaning::specs::formulas::Expressions::atom_formula, ftl_meaning::specs::formulas::Expressions::formula_of, ftl_meaning::specs::formulas::Expressions::last_read_formula))]
 fn push_atom(out: &mut Vec<Instruction>, atom: &Atom) -> Result<(), AllocError>
     ensures code { OnOk result
         (out.new.items ≡ out.old.items ++ code_of is_accumulator (atom_formula atom.now)) }
@@ -110,12 +136,20 @@ fn push_atom(out: &mut Vec<Instruction>, atom: &Atom) -> Result<(), AllocError>
             push_expr(out, b.get())?;
             out.push(Instruction::Greatest)?;
         }
-        Atom::LastOr(_, _, default) => {
-            out.push(Instruction::Last)?;
-            push_atom(out, default.get())?;
-            out.push(Instruction::Choose)?;
-        }
+        Atom::LastOr(last) => push_last_read(out, last.get())?,
     }
+    Ok(())
+}
+
+#[cycle(translating)]
+#[tactic(auto, unfolding(ftl_meaning::specs::formulas::Expressions::last_read_formula, ftl_meaning::specs::formulas::Expressions::atom_formula))]
+fn push_last_read(out: &mut Vec<Instruction>, last: &LastRead) -> Result<(), AllocError>
+    ensures code { OnOk result
+        (out.new.items ≡ out.old.items ++ code_of is_accumulator (last_read_formula last.now)) }
+{
+    out.push(Instruction::Last)?;
+    push_atom(out, &last.other)?;
+    out.push(Instruction::Choose)?;
     Ok(())
 }
 
@@ -125,7 +159,7 @@ fn read_instruction(read: &Read) -> Instruction
         then made.Accumulator else made.Read) }
 {
     match read {
-        Read::Own(_) | Read::This(_) | Read::Prev(_) | Read::Of(_, _) => Instruction::Read,
+        Read::Own(_) | Read::This(_) | Read::Prev(_) | Read::Of(_) => Instruction::Read,
     }
 }
 

@@ -5,7 +5,8 @@ ghost use Rattle.ftl_tokens.specs.scanner.Tokenized as said;
 ghost use Rattle.ftl_grammar.specs.printing.ExpressionTokens.{read_tokens, comparison_mark};
 ghost use Rattle.ftl_grammar.specs.printing.ExpressionTokens.{expr_tokens, sum_tokens};
 ghost use Rattle.ftl_grammar.specs.printing.ExpressionTokens.{signed_tokens};
-ghost use Rattle.ftl_grammar.specs.printing.ExpressionTokens.{term_tokens, factor_tokens};
+ghost use Rattle.ftl_grammar.specs.printing.ExpressionTokens.{term_tokens, product_tokens};
+ghost use Rattle.ftl_grammar.specs.printing.ExpressionTokens.{factor_tokens, last_read_tokens};
 ghost use Rattle.ftl_grammar.specs.printing.ExpressionTokens.{unary_tokens};
 ghost use Rattle.ftl_grammar.specs.printing.ExpressionTokens.{atom_tokens, cond_tokens};
 ghost use Rattle.ftl_grammar.specs.printing.ExpressionTokens.{conj_tokens};
@@ -14,7 +15,9 @@ ghost use Rattle.maugzeris.specs.rules.Spoken.{spoken_text};
 
 use crate::rules::spoken::token::{fixed, name, number};
 use ftl_base::Cmp;
-use ftl_grammar::{Atom, Cond, Conj, Expr, Factor, Read, SignedTerm, Sum, Term, Test, Unary};
+use ftl_grammar::{
+    Atom, Cond, Conj, Expr, Factor, LastRead, Product, Read, SignedTerm, Sum, Term, Test, Unary,
+};
 use ftl_tokens::{Kind, Name};
 use std::alloc::AllocError;
 
@@ -65,13 +68,26 @@ fn push_signed_term(out: &mut String, signed: &SignedTerm) -> Result<(), AllocEr
 }
 
 #[cycle(speaking)]
-#[tactic(auto, unfolding(ftl_grammar::specs::printing::ExpressionTokens::term_tokens, ftl_grammar::specs::printing::ExpressionTokens::unary_tokens, ftl_grammar::specs::printing::ExpressionTokens::factor_tokens))]
+#[tactic(auto, unfolding(ftl_grammar::specs::printing::ExpressionTokens::term_tokens, ftl_grammar::specs::printing::ExpressionTokens::unary_tokens, ftl_grammar::specs::printing::ExpressionTokens::product_tokens))]
 fn push_term(out: &mut String, term: &Term) -> Result<(), AllocError>
     ensures text { OnOk result (string_bytes out.new
         ≡ string_bytes out.old ++ spoken_text (term_tokens term.now)) }
 {
-    push_unary(out, &term.head)?;
-    for each in term.tail.as_slice() {
+    match term {
+        Term::Single(unary) => push_unary(out, unary),
+        Term::Product(product) => push_product(out, product.get()),
+    }
+}
+
+#[cycle(speaking)]
+#[tactic(auto, unfolding(ftl_grammar::specs::printing::ExpressionTokens::product_tokens, ftl_grammar::specs::printing::ExpressionTokens::unary_tokens, ftl_grammar::specs::printing::ExpressionTokens::factor_tokens))]
+fn push_product(out: &mut String, product: &Product) -> Result<(), AllocError>
+    ensures text { OnOk result (string_bytes out.new
+        ≡ string_bytes out.old ++ spoken_text (product_tokens product.now)) }
+{
+    push_unary(out, &product.head)?;
+    push_factor(out, &product.first)?;
+    for each in product.more.as_slice() {
         push_factor(out, each)?;
     }
     Ok(())
@@ -108,7 +124,7 @@ fn push_unary(out: &mut String, unary: &Unary) -> Result<(), AllocError>
 }
 
 #[cycle(speaking)]
-#[tactic(auto, unfolding(ftl_grammar::specs::printing::ExpressionTokens::atom_tokens, ftl_grammar::specs::printing::ExpressionTokens::expr_tokens))]
+#[tactic(auto, unfolding(ftl_grammar::specs::printing::ExpressionTokens::atom_tokens, ftl_grammar::specs::printing::ExpressionTokens::expr_tokens, ftl_grammar::specs::printing::ExpressionTokens::last_read_tokens))]
 fn push_atom(out: &mut String, atom: &Atom) -> Result<(), AllocError>
     ensures text { OnOk result (string_bytes out.new
         ≡ string_bytes out.old ++ spoken_text (atom_tokens atom.now)) }
@@ -138,13 +154,22 @@ fn push_atom(out: &mut String, atom: &Atom) -> Result<(), AllocError>
             push_expr(out, b.get())?;
             fixed(out, Kind::RightParen)
         }
-        Atom::LastOr(child, attr, default) => {
+        Atom::LastOr(last) => {
             fixed(out, Kind::Last)?;
-            push_of_child(out, child, attr)?;
-            fixed(out, Kind::Or)?;
-            push_atom(out, default.get())
+            push_last_read(out, last.get())
         }
     }
+}
+
+#[cycle(speaking)]
+#[tactic(auto, unfolding(ftl_grammar::specs::printing::ExpressionTokens::last_read_tokens, ftl_grammar::specs::printing::ExpressionTokens::atom_tokens))]
+fn push_last_read(out: &mut String, last: &LastRead) -> Result<(), AllocError>
+    ensures text { OnOk result (string_bytes out.new
+        ≡ string_bytes out.old ++ spoken_text (last_read_tokens last.now)) }
+{
+    push_of_child(out, &last.child, &last.attr)?;
+    fixed(out, Kind::Or)?;
+    push_atom(out, &last.other)
 }
 
 /// The attribute of a child, or of a kid.
@@ -175,7 +200,7 @@ fn push_read(out: &mut String, read: &Read) -> Result<(), AllocError>
         Read::Own(attr) => push_of_word(out, Kind::SelfWord, attr),
         Read::This(attr) => push_of_word(out, Kind::This, attr),
         Read::Prev(attr) => push_of_word(out, Kind::Prev, attr),
-        Read::Of(child, attr) => push_of_child(out, child, attr),
+        Read::Of(of) => push_of_child(out, &of.get().child, &of.get().attr),
     }
 }
 

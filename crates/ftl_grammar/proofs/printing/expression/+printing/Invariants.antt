@@ -8,8 +8,8 @@ abbrev pub invariant-print_sum-loop-signed : goal.invariant-print_sum-loop-signe
 invariant-print_sum-loop-signed l =
     string_bytes l.out ≡ string_bytes l.initial.out ++ spaced_text (flat_map signed_tokens (take l.signed-index l.signed-items))
 
-abbrev pub invariant-print_term-loop-each : goal.invariant-print_term-loop-each
-invariant-print_term-loop-each l =
+abbrev pub invariant-print_product-loop-each : goal.invariant-print_product-loop-each
+invariant-print_product-loop-each l =
     string_bytes l.out ≡ string_bytes l.initial.out ++ spaced_text (flat_map factor_tokens (take l.each-index l.each-items))
 
 abbrev pub invariant-print_cond-loop-each : goal.invariant-print_cond-loop-each

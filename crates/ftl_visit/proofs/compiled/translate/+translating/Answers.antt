@@ -1,13 +1,13 @@
 use Rattle.std.proofs.Common.{arith}
 use Rattle.std.proofs.lemmas.Grind.{common_steps}
-use Rattle.ftl_visit.proofs.compiled.Translation.{code-of_sum, code-of_term, code-of_cond, code-of_conj}
+use Rattle.ftl_visit.proofs.compiled.Translation.{code-of_sum, code-of_product, code-of_cond, code-of_conj}
 use Rattle.ftl_visit.proofs.compiled.translate.+translating.Goals as goal
 
 pub push_sum-returns : goal.push_sum-returns
 push_sum-returns t c = record { code = let e = code-of_sum c.args.sum.now in grind (arith, common_steps) }
 
-pub push_term-returns : goal.push_term-returns
-push_term-returns t c = record { code = let e = code-of_term c.args.term.now in grind (arith, common_steps) }
+pub push_product-returns : goal.push_product-returns
+push_product-returns t c = record { code = let e = code-of_product c.args.product.now in grind (arith, common_steps) }
 
 pub push_cond-returns : goal.push_cond-returns
 push_cond-returns t c = record {

@@ -1,13 +1,14 @@
 use Rattle.std.proofs.Common.{◌≡◌, ◌++◌, take, flat_map}
-use Rattle.ftl_visit.proofs.compiled.Translation.{signed_code, factor_code, conj_code, test_code}
+use Rattle.ftl_visit.specs.compiled.FactorCode.{factor_code}
+use Rattle.ftl_visit.proofs.compiled.Translation.{signed_code, conj_code, test_code}
 use Rattle.ftl_visit.proofs.compiled.translate.+translating.Given as goal
 
 abbrev pub invariant-push_sum-loop-signed : goal.invariant-push_sum-loop-signed
 invariant-push_sum-loop-signed l =
     l.out.items ≡ l.initial.out.items ++ flat_map signed_code (take l.signed-index l.signed-items)
 
-abbrev pub invariant-push_term-loop-factor : goal.invariant-push_term-loop-factor
-invariant-push_term-loop-factor l =
+abbrev pub invariant-push_product-loop-factor : goal.invariant-push_product-loop-factor
+invariant-push_product-loop-factor l =
     l.out.items ≡ l.initial.out.items ++ flat_map factor_code (take l.factor-index l.factor-items)
 
 abbrev pub invariant-push_cond-loop-conj : goal.invariant-push_cond-loop-conj

@@ -1,13 +1,13 @@
 use Rattle.std.proofs.Common.{arith}
 use Rattle.std.proofs.lemmas.Grind.{common_steps}
-use Rattle.ftl_grammar.proofs.printing.TokenLemmas.{tokens-of_sum, tokens-of_term, tokens-of_cond, tokens-of_conj}
+use Rattle.ftl_grammar.proofs.printing.TokenLemmas.{tokens-of_sum, tokens-of_product, tokens-of_cond, tokens-of_conj}
 use Rattle.maugzeris.proofs.rules.spoken.expression.+speaking.Goals as goal
 
 pub push_sum-returns : goal.push_sum-returns
 push_sum-returns t c = record { text = let e = tokens-of_sum c.args.sum.now in grind (arith, common_steps) }
 
-pub push_term-returns : goal.push_term-returns
-push_term-returns t c = record { text = let e = tokens-of_term c.args.term.now in grind (arith, common_steps) }
+pub push_product-returns : goal.push_product-returns
+push_product-returns t c = record { text = let e = tokens-of_product c.args.product.now in grind (arith, common_steps) }
 
 pub push_cond-returns : goal.push_cond-returns
 push_cond-returns t c = record {

@@ -8,8 +8,8 @@ abbrev pub invariant-push_sum-loop-signed : goal.invariant-push_sum-loop-signed
 invariant-push_sum-loop-signed l =
     string_bytes l.out ≡ string_bytes l.initial.out ++ spoken_text (flat_map signed_tokens (take l.signed-index l.signed-items))
 
-abbrev pub invariant-push_term-loop-each : goal.invariant-push_term-loop-each
-invariant-push_term-loop-each l =
+abbrev pub invariant-push_product-loop-each : goal.invariant-push_product-loop-each
+invariant-push_product-loop-each l =
     string_bytes l.out ≡ string_bytes l.initial.out ++ spoken_text (flat_map factor_tokens (take l.each-index l.each-items))
 
 abbrev pub invariant-push_cond-loop-each : goal.invariant-push_cond-loop-each
