@@ -194,7 +194,8 @@ def sum_takes_little(program):
     pages = [long_sum(length << 20) for length in SUMS]
     memory, most_memory = [memory_of(program, "check", page)[0] for page in pages]
     each = (most_memory - memory) / (len(pages[1]) - len(pages[0]))
-    print(f"{'long sum':28}{len(pages[1]) / 1e6:8.0f} MB read    {most_memory / 1e6:6.0f} MB, {each:.1f} B each", flush=True)
+    told = f"{'long sum':28}{len(pages[1]) / 1e6:8.0f} MB read    {most_memory / 1e6:6.0f} MB"
+    print(f"{told}, {each:.1f} for each byte", flush=True)
     return each <= MOST_SUM_BYTES
 
 

@@ -152,7 +152,7 @@ of-sum x xs =
     of_atom of_expr of_factor of_term of_test of_cond of_conj of_last_read of_product of_signed_term of_sum of_unary
     (record { head = x; tail = xs })
 
-of-Single : (x : Unary) → term_formula (terms.Single x) ≡ unary_formula x
+pub of-Single : (x : Unary) → term_formula (terms.Single x) ≡ unary_formula x
 unfolding term_formula unary_formula
 of-Single x = ap term_formula (sym (terms.rolls-Single x))
     ∙ fold-roll-Term Number Number (Number → Number) Number Truth Truth Truth Number Number (Number → Number) Number Number
@@ -172,10 +172,14 @@ of-product x y ys =
     of_atom of_expr of_factor of_term of_test of_cond of_conj of_last_read of_product of_signed_term of_sum of_unary
     (record { head = x; first = y; more = ys })
 
+pub of-factors : (x : Unary) (y : Factor) (ys : List Factor) → term_formula (trees.term x (y ∷ ys))
+    ≡ after (unary_formula x) (map factor_step (y ∷ ys))
+of-factors x y ys = of-Product (trees.product x y ys) ∙ of-product x y ys
+
 pub of-term : (x : Unary) (xs : List Factor) → term_formula (trees.term x xs)
     ≡ after (unary_formula x) (map factor_step xs)
 of-term x [] = of-Single x
-of-term x (y ∷ ys) = of-Product (trees.product x y ys) ∙ of-product x y ys
+of-term x (y ∷ ys) = of-factors x y ys
 
 pub of-unary : (minus : Bool) (x : Atom) → unary_formula (trees.unary minus x)
     ≡ if minus then negated (atom_formula x) else atom_formula x

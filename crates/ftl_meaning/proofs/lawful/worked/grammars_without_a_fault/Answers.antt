@@ -1,7 +1,7 @@
 use Rattle.std.proofs.Common.{refl}
 use Rattle.ftl_meaning.specs.faults.Worked as written
 use Rattle.ftl_meaning.proofs.faults.WorkedFormulas.{of-adding, of-adding_three, of-last_or, of-num, of-reading, of-so_far}
-use Rattle.ftl_meaning.proofs.formulas.Equations.{minus_at, of-Compare, of-Group, of-If, of-Number, of-Sum, of-cond, of-conj, of-sum, of-term, of-unary, over_at, plus_at}
+use Rattle.ftl_meaning.proofs.formulas.Equations.{minus_at, of-Compare, of-Group, of-If, of-Number, of-Sum, of-cond, of-conj, of-sum, of-Single, of-factors, of-unary, over_at, plus_at}
 use Rattle.ftl_meaning.specs.grammars.Worked.{branches, two}
 use Rattle.ftl_meaning.proofs.lawful.WorkedGrammars.{stack_faultless}
 use Rattle.ftl_meaning.proofs.faults.WorkedKinds.{kinds_by}
@@ -26,7 +26,7 @@ returns-clause-chain c = record {
 pub returns-clause-branches : goal.returns-clause-branches
 returns-clause-branches c = record {
   faults =
-      simp (of-If, of-cond, of-conj, of-Compare, of-Sum, of-sum, of-term, of-unary, of-Number, of-Group, over_at, minus_at, plus_at)
+      simp (of-If, of-cond, of-conj, of-Compare, of-Sum, of-sum, of-Single, of-factors, of-unary, of-Number, of-Group, over_at, minus_at, plus_at)
       refl;
   kinds = kinds_by branches ((tt, (tt, tt)), tt) (tt, tt);
 }
