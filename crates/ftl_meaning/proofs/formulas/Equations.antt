@@ -33,52 +33,67 @@ use Rattle.ftl_meaning.specs.formulas.Expressions.{product_formula, last_read_fo
 pub of-Number : (n : ℕ) → atom_formula (atoms.Number n) ≡ literal n
 unfolding atom_formula
 of-Number n = ap atom_formula (sym (atoms.rolls-Number n))
-    ∙ fold-roll-Atom Number Number (Number → Number) Number Truth Truth Truth Number Number (Number → Number) Number Number
-    of_atom of_expr of_factor of_term of_test of_cond of_conj of_last_read of_product of_signed_term of_sum of_unary (Atom-F.Number n)
+    ∙ fold-roll-Atom
+    Number Number (Number → Number) Number Truth Truth Truth Number Number (Number → Number) Number Number
+    of_atom of_expr of_factor of_term of_test of_cond of_conj of_last_read of_product of_signed_term of_sum of_unary
+    (Atom-F.Number n)
 
 pub of-Acc : atom_formula atoms.Acc ≡ read names.Acc
 unfolding atom_formula
 of-Acc = ap atom_formula (sym atoms.rolls-Acc)
-    ∙ fold-roll-Atom Number Number (Number → Number) Number Truth Truth Truth Number Number (Number → Number) Number Number
-    of_atom of_expr of_factor of_term of_test of_cond of_conj of_last_read of_product of_signed_term of_sum of_unary Atom-F.Acc
+    ∙ fold-roll-Atom
+    Number Number (Number → Number) Number Truth Truth Truth Number Number (Number → Number) Number Number
+    of_atom of_expr of_factor of_term of_test of_cond of_conj of_last_read of_product of_signed_term of_sum of_unary
+    Atom-F.Acc
 
 pub of-Read : (r : Read) → atom_formula (atoms.Read r) ≡ read (read_name r)
 unfolding atom_formula
 of-Read r = ap atom_formula (sym (atoms.rolls-Read r))
-    ∙ fold-roll-Atom Number Number (Number → Number) Number Truth Truth Truth Number Number (Number → Number) Number Number
-    of_atom of_expr of_factor of_term of_test of_cond of_conj of_last_read of_product of_signed_term of_sum of_unary (Atom-F.Read r)
+    ∙ fold-roll-Atom
+    Number Number (Number → Number) Number Truth Truth Truth Number Number (Number → Number) Number Number
+    of_atom of_expr of_factor of_term of_test of_cond of_conj of_last_read of_product of_signed_term of_sum of_unary
+    (Atom-F.Read r)
 
 pub of-Group : (x : Expr) → atom_formula (atoms.Group x) ≡ formula_of x
 unfolding formula_of atom_formula
 of-Group x = ap atom_formula (sym (atoms.rolls-Group x))
-    ∙ fold-roll-Atom Number Number (Number → Number) Number Truth Truth Truth Number Number (Number → Number) Number Number
-    of_atom of_expr of_factor of_term of_test of_cond of_conj of_last_read of_product of_signed_term of_sum of_unary (Atom-F.«Atom::Group» x)
+    ∙ fold-roll-Atom
+    Number Number (Number → Number) Number Truth Truth Truth Number Number (Number → Number) Number Number
+    of_atom of_expr of_factor of_term of_test of_cond of_conj of_last_read of_product of_signed_term of_sum of_unary
+    (Atom-F.«Atom::Group» x)
 
 pub of-Least : (x y : Expr) → atom_formula (atoms.Least x y) ≡ least (formula_of x) (formula_of y)
 unfolding formula_of atom_formula
 of-Least x y = ap atom_formula (sym (atoms.rolls-Least x y))
-    ∙ fold-roll-Atom Number Number (Number → Number) Number Truth Truth Truth Number Number (Number → Number) Number Number
-    of_atom of_expr of_factor of_term of_test of_cond of_conj of_last_read of_product of_signed_term of_sum of_unary (Atom-F.Least x y)
+    ∙ fold-roll-Atom
+    Number Number (Number → Number) Number Truth Truth Truth Number Number (Number → Number) Number Number
+    of_atom of_expr of_factor of_term of_test of_cond of_conj of_last_read of_product of_signed_term of_sum of_unary
+    (Atom-F.Least x y)
 
 pub of-Greatest : (x y : Expr) → atom_formula (atoms.Greatest x y) ≡ greatest (formula_of x) (formula_of y)
 unfolding formula_of atom_formula
 of-Greatest x y = ap atom_formula (sym (atoms.rolls-Greatest x y))
-    ∙ fold-roll-Atom Number Number (Number → Number) Number Truth Truth Truth Number Number (Number → Number) Number Number
-    of_atom of_expr of_factor of_term of_test of_cond of_conj of_last_read of_product of_signed_term of_sum of_unary (Atom-F.Greatest x y)
+    ∙ fold-roll-Atom
+    Number Number (Number → Number) Number Truth Truth Truth Number Number (Number → Number) Number Number
+    of_atom of_expr of_factor of_term of_test of_cond of_conj of_last_read of_product of_signed_term of_sum of_unary
+    (Atom-F.Greatest x y)
 
 of-LastRead : (c a : NameText) (x : Atom) → last_read_formula (trees.last_read c a x)
     ≡ read_or (names.Last c a) (atom_formula x)
 unfolding last_read_formula atom_formula
 of-LastRead c a x =
-    fold-roll-LastRead Number Number (Number → Number) Number Truth Truth Truth Number Number (Number → Number) Number Number
+    fold-roll-LastRead
+    Number Number (Number → Number) Number Truth Truth Truth Number Number (Number → Number) Number Number
     of_atom of_expr of_factor of_term of_test of_cond of_conj of_last_read of_product of_signed_term of_sum of_unary
     (record { child = c; attr = a; other = x })
 
 of-last : (x : LastRead) → atom_formula (atoms.LastOr x) ≡ last_read_formula x
 unfolding atom_formula last_read_formula
 of-last x = ap atom_formula (sym (atoms.rolls-LastOr x))
-    ∙ fold-roll-Atom Number Number (Number → Number) Number Truth Truth Truth Number Number (Number → Number) Number Number
-    of_atom of_expr of_factor of_term of_test of_cond of_conj of_last_read of_product of_signed_term of_sum of_unary (Atom-F.LastOr x)
+    ∙ fold-roll-Atom
+    Number Number (Number → Number) Number Truth Truth Truth Number Number (Number → Number) Number Number
+    of_atom of_expr of_factor of_term of_test of_cond of_conj of_last_read of_product of_signed_term of_sum of_unary
+    (Atom-F.LastOr x)
 
 pub of-LastOr : (c a : NameText) (x : Atom) → atom_formula (atoms.LastOr (trees.last_read c a x))
     ≡ read_or (names.Last c a) (atom_formula x)
@@ -88,32 +103,41 @@ pub of-If : (q : Cond) (x y : Sum) → formula_of (exprs.If q x y)
     ≡ choice (cond_question q) (sum_formula x) (sum_formula y)
 unfolding formula_of cond_question sum_formula
 of-If q x y = ap formula_of (sym (exprs.rolls-If q x y))
-    ∙ fold-roll-Expr Number Number (Number → Number) Number Truth Truth Truth Number Number (Number → Number) Number Number
-    of_atom of_expr of_factor of_term of_test of_cond of_conj of_last_read of_product of_signed_term of_sum of_unary (Expr-F.If q x y)
+    ∙ fold-roll-Expr
+    Number Number (Number → Number) Number Truth Truth Truth Number Number (Number → Number) Number Number
+    of_atom of_expr of_factor of_term of_test of_cond of_conj of_last_read of_product of_signed_term of_sum of_unary
+    (Expr-F.If q x y)
 
 pub of-Sum : (x : Sum) → formula_of (exprs.Sum x) ≡ sum_formula x
 unfolding formula_of sum_formula
 of-Sum x = ap formula_of (sym (exprs.rolls-Sum x))
-    ∙ fold-roll-Expr Number Number (Number → Number) Number Truth Truth Truth Number Number (Number → Number) Number Number
-    of_atom of_expr of_factor of_term of_test of_cond of_conj of_last_read of_product of_signed_term of_sum of_unary (Expr-F.Sum x)
+    ∙ fold-roll-Expr
+    Number Number (Number → Number) Number Truth Truth Truth Number Number (Number → Number) Number Number
+    of_atom of_expr of_factor of_term of_test of_cond of_conj of_last_read of_product of_signed_term of_sum of_unary
+    (Expr-F.Sum x)
 
 pub of-Times : (x : Unary) → factor_step (factors.Times x) ≡ (λ f. product f (unary_formula x))
 unfolding factor_step unary_formula
 of-Times x = ap factor_step (sym (factors.rolls-Times x))
-    ∙ fold-roll-Factor Number Number (Number → Number) Number Truth Truth Truth Number Number (Number → Number) Number Number
-    of_atom of_expr of_factor of_term of_test of_cond of_conj of_last_read of_product of_signed_term of_sum of_unary (Factor-F.Times x)
+    ∙ fold-roll-Factor
+    Number Number (Number → Number) Number Truth Truth Truth Number Number (Number → Number) Number Number
+    of_atom of_expr of_factor of_term of_test of_cond of_conj of_last_read of_product of_signed_term of_sum of_unary
+    (Factor-F.Times x)
 
 pub of-Over : (n : ℕ) → factor_step (factors.Over n) ≡ (λ f. quotient f n)
 unfolding factor_step
 of-Over n = ap factor_step (sym (factors.rolls-Over n))
-    ∙ fold-roll-Factor Number Number (Number → Number) Number Truth Truth Truth Number Number (Number → Number) Number Number
-    of_atom of_expr of_factor of_term of_test of_cond of_conj of_last_read of_product of_signed_term of_sum of_unary (Factor-F.Over n)
+    ∙ fold-roll-Factor
+    Number Number (Number → Number) Number Truth Truth Truth Number Number (Number → Number) Number Number
+    of_atom of_expr of_factor of_term of_test of_cond of_conj of_last_read of_product of_signed_term of_sum of_unary
+    (Factor-F.Over n)
 
 pub of-bracketed : (minus : Bool) (q : Cond) → test_question (tests.Group minus q)
     ≡ if minus then denied (cond_question q) else cond_question q
 unfolding test_question cond_question
 of-bracketed minus q = ap test_question (sym (tests.rolls-Group minus q))
-    ∙ fold-roll-Test Number Number (Number → Number) Number Truth Truth Truth Number Number (Number → Number) Number Number
+    ∙ fold-roll-Test
+    Number Number (Number → Number) Number Truth Truth Truth Number Number (Number → Number) Number Number
     of_atom of_expr of_factor of_term of_test of_cond of_conj of_last_read of_product of_signed_term of_sum of_unary
     (Test-F.«Test::Group» minus q)
 
@@ -121,26 +145,33 @@ pub of-Compare : (c : Cmp) (x y : Sum) → test_question (tests.Compare c x y)
     ≡ compared c (sum_formula x) (sum_formula y)
 unfolding test_question sum_formula
 of-Compare c x y = ap test_question (sym (tests.rolls-Compare c x y))
-    ∙ fold-roll-Test Number Number (Number → Number) Number Truth Truth Truth Number Number (Number → Number) Number Number
-    of_atom of_expr of_factor of_term of_test of_cond of_conj of_last_read of_product of_signed_term of_sum of_unary (Test-F.Compare c x y)
+    ∙ fold-roll-Test
+    Number Number (Number → Number) Number Truth Truth Truth Number Number (Number → Number) Number Number
+    of_atom of_expr of_factor of_term of_test of_cond of_conj of_last_read of_product of_signed_term of_sum of_unary
+    (Test-F.Compare c x y)
 
 pub of-cond : (xs : List Conj) → cond_question (trees.cond xs) ≡ any (map conj_question xs)
 unfolding cond_question conj_question
 of-cond xs =
-    fold-roll-Cond Number Number (Number → Number) Number Truth Truth Truth Number Number (Number → Number) Number Number
-    of_atom of_expr of_factor of_term of_test of_cond of_conj of_last_read of_product of_signed_term of_sum of_unary (record { any = xs })
+    fold-roll-Cond
+    Number Number (Number → Number) Number Truth Truth Truth Number Number (Number → Number) Number Number
+    of_atom of_expr of_factor of_term of_test of_cond of_conj of_last_read of_product of_signed_term of_sum of_unary
+    (record { any = xs })
 
 pub of-conj : (xs : List Test) → conj_question (trees.conj xs) ≡ every (map test_question xs)
 unfolding test_question conj_question
 of-conj xs =
-    fold-roll-Conj Number Number (Number → Number) Number Truth Truth Truth Number Number (Number → Number) Number Number
-    of_atom of_expr of_factor of_term of_test of_cond of_conj of_last_read of_product of_signed_term of_sum of_unary (record { every = xs })
+    fold-roll-Conj
+    Number Number (Number → Number) Number Truth Truth Truth Number Number (Number → Number) Number Number
+    of_atom of_expr of_factor of_term of_test of_cond of_conj of_last_read of_product of_signed_term of_sum of_unary
+    (record { every = xs })
 
 pub of-signed : (minus : Bool) (x : Term) → signed_step (trees.signed minus x)
     ≡ (λ f. if minus then difference f (term_formula x) else sum f (term_formula x))
 unfolding signed_step term_formula
 of-signed minus x =
-    fold-roll-SignedTerm Number Number (Number → Number) Number Truth Truth Truth Number Number (Number → Number) Number Number
+    fold-roll-SignedTerm
+    Number Number (Number → Number) Number Truth Truth Truth Number Number (Number → Number) Number Number
     of_atom of_expr of_factor of_term of_test of_cond of_conj of_last_read of_product of_signed_term of_sum of_unary
     (record { minus = minus; term = x })
 
@@ -155,20 +186,25 @@ of-sum x xs =
 pub of-Single : (x : Unary) → term_formula (terms.Single x) ≡ unary_formula x
 unfolding term_formula unary_formula
 of-Single x = ap term_formula (sym (terms.rolls-Single x))
-    ∙ fold-roll-Term Number Number (Number → Number) Number Truth Truth Truth Number Number (Number → Number) Number Number
-    of_atom of_expr of_factor of_term of_test of_cond of_conj of_last_read of_product of_signed_term of_sum of_unary (Term-F.Single x)
+    ∙ fold-roll-Term
+    Number Number (Number → Number) Number Truth Truth Truth Number Number (Number → Number) Number Number
+    of_atom of_expr of_factor of_term of_test of_cond of_conj of_last_read of_product of_signed_term of_sum of_unary
+    (Term-F.Single x)
 
 of-Product : (x : Product) → term_formula (terms.Product x) ≡ product_formula x
 unfolding term_formula product_formula
 of-Product x = ap term_formula (sym (terms.rolls-Product x))
-    ∙ fold-roll-Term Number Number (Number → Number) Number Truth Truth Truth Number Number (Number → Number) Number Number
-    of_atom of_expr of_factor of_term of_test of_cond of_conj of_last_read of_product of_signed_term of_sum of_unary (Term-F.Product x)
+    ∙ fold-roll-Term
+    Number Number (Number → Number) Number Truth Truth Truth Number Number (Number → Number) Number Number
+    of_atom of_expr of_factor of_term of_test of_cond of_conj of_last_read of_product of_signed_term of_sum of_unary
+    (Term-F.Product x)
 
 pub of-product : (x : Unary) (y : Factor) (ys : List Factor) → product_formula (trees.product x y ys)
     ≡ after (unary_formula x) (map factor_step (y ∷ ys))
 unfolding factor_step product_formula unary_formula
 of-product x y ys =
-    fold-roll-Product Number Number (Number → Number) Number Truth Truth Truth Number Number (Number → Number) Number Number
+    fold-roll-Product
+    Number Number (Number → Number) Number Truth Truth Truth Number Number (Number → Number) Number Number
     of_atom of_expr of_factor of_term of_test of_cond of_conj of_last_read of_product of_signed_term of_sum of_unary
     (record { head = x; first = y; more = ys })
 
@@ -185,7 +221,8 @@ pub of-unary : (minus : Bool) (x : Atom) → unary_formula (trees.unary minus x)
     ≡ if minus then negated (atom_formula x) else atom_formula x
 unfolding atom_formula unary_formula
 of-unary minus x =
-    fold-roll-Unary Number Number (Number → Number) Number Truth Truth Truth Number Number (Number → Number) Number Number
+    fold-roll-Unary
+    Number Number (Number → Number) Number Truth Truth Truth Number Number (Number → Number) Number Number
     of_atom of_expr of_factor of_term of_test of_cond of_conj of_last_read of_product of_signed_term of_sum of_unary
     (record { minus = minus; atom = x })
 

@@ -283,7 +283,8 @@ two rules = two_by rules (self_is (codes "w") (reading (reads.Own (codes "x"))) 
 abbrev pub rule_a : Rule
 rule_a =
     self_folds (codes "a") (codes "d") (last_or (codes "c") (codes "w") 0)
-    (adding_three so_far (reading (reads.This (codes "v"))) (reading (reads.Of (trees.child_read (codes "s") (codes "v")))))
+    (adding_three so_far (reading (reads.This (codes "v")))
+    (reading (reads.Of (trees.child_read (codes "s") (codes "v")))))
 
 -- `self.l := self.p`
 abbrev pub rule_l : Rule

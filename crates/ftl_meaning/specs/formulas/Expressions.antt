@@ -153,7 +153,8 @@ conj_question =
 -- what a term with its sign makes of what stands before it
 unfoldable pub signed_step : SignedTerm → Number → Number
 signed_step =
-    fold-SignedTerm Number Number (Number → Number) Number Truth Truth Truth Number Number (Number → Number) Number Number
+    fold-SignedTerm
+    Number Number (Number → Number) Number Truth Truth Truth Number Number (Number → Number) Number Number
     of_atom of_expr of_factor of_term of_test of_cond of_conj of_last_read of_product of_signed_term of_sum of_unary
 
 -- what a sum computes

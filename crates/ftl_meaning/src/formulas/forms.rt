@@ -33,8 +33,9 @@ pub fn formulas_of_forms()
         ≡ form.least (spec.formula_of x) (spec.formula_of y) }
     ensures max { (x y : Expr) → spec.atom_formula (atoms.Greatest x y)
         ≡ form.greatest (spec.formula_of x) (spec.formula_of y) }
-    ensures last { (c a : NameText) (x : Atom) → spec.atom_formula
-        (atoms.LastOr (trees.last_read c a x)) ≡ form.read_or (names.Last c a) (spec.atom_formula x) }
+    ensures last { (c a : NameText) (x : Atom)
+        → spec.atom_formula (atoms.LastOr (trees.last_read c a x))
+        ≡ form.read_or (names.Last c a) (spec.atom_formula x) }
     ensures choices { (q : Cond) (x y : Sum) → spec.formula_of (exprs.If q x y)
         ≡ form.choice (spec.cond_question q) (spec.sum_formula x) (spec.sum_formula y) }
     ensures sums { (x : Sum) → spec.formula_of (exprs.Sum x) ≡ spec.sum_formula x }
