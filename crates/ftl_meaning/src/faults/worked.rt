@@ -2,6 +2,7 @@
 
 ghost use Rattle.std.specs.Prelude.{◌≡◌, ◌+◌, ◌*◌, true, false, [], ◌∷◌, ◌++◌, map, Some, None, codes};
 ghost use Rattle.ftl_grammar.specs.declared.syntax.expression.Read.TheVariants as reads;
+ghost use Rattle.ftl_grammar.specs.syntax.Trees as trees;
 ghost use Rattle.ftl_meaning.specs.declared.formulas.read_name.ReadName.TheVariants as names;
 ghost use Rattle.ftl_meaning.specs.declared.faults.fault.GrammarFault.TheVariants as fault;
 ghost use Rattle.ftl_meaning.specs.declared.faults.fault.What.TheVariants as what;
@@ -91,10 +92,10 @@ pub fn faults_of_one_class()
 /// A law: faults in the rules of a class with one child.
 pub fn faults_of_one_child()
     ensures single { first_fault (worked.one_child false (worked.self_is (codes "a")
-        (worked.reading (reads.Of (codes "c") (codes "w"))) ∷ worked.kid_is (codes "c") (codes
+        (worked.reading (reads.Of (trees.child_read (codes "c") (codes "w")))) ∷ worked.kid_is (codes "c") (codes
         "x") (worked.num 0) ∷ [])) ≡ None }
     ensures list_as_single { first_fault (worked.one_child true (worked.self_is (codes "a")
-        (worked.reading (reads.Of (codes "c") (codes "w"))) ∷ worked.kid_is (codes "c") (codes
+        (worked.reading (reads.Of (trees.child_read (codes "c") (codes "w")))) ∷ worked.kid_is (codes "c") (codes
         "x") (worked.num 0) ∷ [])) ≡ Some (fault.BadRead (worked.of_self (codes "C") (codes "a"))
         (names.Of (codes "c") (codes "w"))) }
     ensures first_of_single { first_fault (worked.one_child false (worked.kids_are (codes "c")
@@ -193,7 +194,7 @@ pub fn bad_reads()
         (worked.reading (reads.This (codes "y"))) ∷ [])) ≡ Some (fault.BadRead (worked.of_kids
         (codes "C") (codes "c") (codes "x")) (names.This (codes "y"))) }
     ensures of_no_child { first_fault (worked.two (worked.kid_is (codes "s") (codes "y")
-        (worked.reading (reads.Of (codes "q") (codes "v"))) ∷ [])) ≡ Some (fault.BadRead
+        (worked.reading (reads.Of (trees.child_read (codes "q") (codes "v")))) ∷ [])) ≡ Some (fault.BadRead
         (worked.of_kids (codes "C") (codes "s") (codes "y")) (names.Of (codes "q") (codes "v"))) }
 {}
 
