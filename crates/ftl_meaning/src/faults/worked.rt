@@ -92,11 +92,11 @@ pub fn faults_of_one_class()
 /// A law: faults in the rules of a class with one child.
 pub fn faults_of_one_child()
     ensures single { first_fault (worked.one_child false (worked.self_is (codes "a")
-        (worked.reading (reads.Of (trees.child_read (codes "c") (codes "w")))) ∷ worked.kid_is (codes "c") (codes
-        "x") (worked.num 0) ∷ [])) ≡ None }
+        (worked.reading (reads.Of (trees.child_read (codes "c") (codes "w"))))
+        ∷ worked.kid_is (codes "c") (codes "x") (worked.num 0) ∷ [])) ≡ None }
     ensures list_as_single { first_fault (worked.one_child true (worked.self_is (codes "a")
-        (worked.reading (reads.Of (trees.child_read (codes "c") (codes "w")))) ∷ worked.kid_is (codes "c") (codes
-        "x") (worked.num 0) ∷ [])) ≡ Some (fault.BadRead (worked.of_self (codes "C") (codes "a"))
+        (worked.reading (reads.Of (trees.child_read (codes "c") (codes "w"))))
+        ∷ worked.kid_is (codes "c") (codes "x") (worked.num 0) ∷ [])) ≡ Some (fault.BadRead (worked.of_self (codes "C") (codes "a"))
         (names.Of (codes "c") (codes "w"))) }
     ensures first_of_single { first_fault (worked.one_child false (worked.kids_are (codes "c")
         (codes "x") (worked.num 0) (worked.num 1) ∷ [])) ≡ Some (fault.BadForm (worked.of_kids
