@@ -4,9 +4,9 @@
 //! `specs/WithInput.antt` of `ftl_model::layout` says what a tree is whose input has another
 //! number.
 
-mod attribute_places;
 mod build;
 mod class_attrs;
+mod class_places;
 mod class_table;
 mod input_counts;
 mod instances;
@@ -17,7 +17,7 @@ mod widths;
 mod zeroed;
 
 pub use crate::rows::{NodeRow, Place};
-pub use attribute_places::attribute_places;
+pub use class_places::attribute_places;
 pub use instances::InstanceList;
 pub use laws::{one_input_changes, second_word_is_wider, two_bare_words};
 pub use tree::Tree;

@@ -17,11 +17,11 @@ ghost use Rattle.ftl_tree.specs.rows.Rows.{AreNodesOf, row_of};
 ghost use Rattle.ftl_tree.specs.trees.WithInput.{with_input};
 
 use crate::rows::{ClassRow, NodeRow, Place, subtree_sizes};
-use crate::trees::attribute_places::attribute_places;
 use crate::trees::build::{
     KidRuns, child_slots, first_inputs, first_instances, firsts_of_kids, kid_runs,
 };
 use crate::trees::class_attrs::is_shared;
+use crate::trees::class_places::attribute_places;
 use crate::trees::class_table::class_rows;
 use crate::trees::input_counts::counts_of_inputs;
 use crate::trees::runs::run_of;

@@ -6,7 +6,7 @@ use Rattle.ftl_grammar.specs.declared.syntax.rules.Interface.{Interface}
 use Rattle.ftl_meaning.specs.faults.Numbering.{interface_of}
 use Rattle.ftl_meaning.proofs.lawful.RequiredRules.{interface_known}
 use Rattle.ftl_tree.proofs.trees.Classes.{few_shared}
-use Rattle.ftl_tree.proofs.trees.attribute_places.shared_width.Goals as goal
+use Rattle.ftl_tree.proofs.trees.class_places.shared_width.Goals as goal
 
 pub bounds-interfaces-interface : goal.bounds-interfaces-interface
 bounds-interfaces-interface c =

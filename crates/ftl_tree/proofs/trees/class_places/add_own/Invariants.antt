@@ -2,7 +2,7 @@ use Rattle.std.proofs.Common.{◌≡◌, ◌++◌, flat_map, length, take}
 use Rattle.std.specs.List.{range_with_len}
 use Rattle.ftl_grammar.specs.declared.syntax.rules.Class.{Class}
 use Rattle.ftl_meaning.specs.faults.Numbering.{interface_at, interface_number}
-use Rattle.ftl_tree.proofs.trees.attribute_places.add_own.Given as goal
+use Rattle.ftl_tree.proofs.trees.class_places.add_own.Given as goal
 
 -- those of the classes so far
 abbrev pub invariant-loop-class : goal.invariant-loop-class

@@ -1,6 +1,6 @@
 use Rattle.std.proofs.Common.{◌≡◌, ◌++◌}
 use Rattle.std.specs.List.{range_with_len}
-use Rattle.ftl_tree.proofs.trees.attribute_places.add_run.Given as goal
+use Rattle.ftl_tree.proofs.trees.class_places.add_run.Given as goal
 
 -- the numbers so far
 abbrev pub invariant-loop-k : goal.invariant-loop-k

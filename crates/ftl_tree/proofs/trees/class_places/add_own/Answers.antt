@@ -5,7 +5,7 @@ use Rattle.ftl_grammar.specs.syntax.Trees as trees
 use Rattle.ftl_grammar.specs.declared.syntax.rules.Class.{Class}
 use Rattle.ftl_meaning.specs.faults.Numbering.{interface_at, interface_number}
 use Rattle.ftl_tree.proofs.trees.Places.{one_more}
-use Rattle.ftl_tree.proofs.trees.attribute_places.add_own.Goals as goal
+use Rattle.ftl_tree.proofs.trees.class_places.add_own.Goals as goal
 
 pub loop-class-preserved : goal.loop-class-preserved
 loop-class-preserved c =

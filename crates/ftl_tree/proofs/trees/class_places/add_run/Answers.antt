@@ -1,7 +1,7 @@
 use Rattle.std.proofs.Common.{◌+◌, ◌++◌, ◌∷◌, [], ap, append_assoc, sym, ◌∙◌}
 use Rattle.std.specs.List.{range_with_len}
 use Rattle.ftl_tree.proofs.rows.KidRows.{range-next}
-use Rattle.ftl_tree.proofs.trees.attribute_places.add_run.Goals as goal
+use Rattle.ftl_tree.proofs.trees.class_places.add_run.Goals as goal
 
 pub loop-k-preserved : goal.loop-k-preserved
 loop-k-preserved c =

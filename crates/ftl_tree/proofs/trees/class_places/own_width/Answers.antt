@@ -4,7 +4,7 @@ use Rattle.ftl_grammar.specs.syntax.Trees as trees
 use Rattle.ftl_grammar.specs.declared.syntax.rules.Class.{Class}
 use Rattle.ftl_grammar.specs.declared.syntax.rules.Grammar.{Grammar}
 use Rattle.ftl_tree.proofs.trees.Classes.{few_own}
-use Rattle.ftl_tree.proofs.trees.attribute_places.own_width.Goals as goal
+use Rattle.ftl_tree.proofs.trees.class_places.own_width.Goals as goal
 
 pub overflow_cast-result : goal.overflow_cast-result
 overflow_cast-result c =

@@ -6,7 +6,7 @@ use Rattle.ftl_grammar.specs.declared.syntax.rules.Grammar.{Grammar}
 use Rattle.ftl_grammar.specs.declared.syntax.rules.Interface.{Interface}
 use Rattle.ftl_tree.proofs.trees.Classes.{few_shared}
 use Rattle.ftl_tree.proofs.trees.Places.{one_more}
-use Rattle.ftl_tree.proofs.trees.attribute_places.add_shared.Goals as goal
+use Rattle.ftl_tree.proofs.trees.class_places.add_shared.Goals as goal
 
 pub overflow_cast-len : goal.overflow_cast-len
 overflow_cast-len c =

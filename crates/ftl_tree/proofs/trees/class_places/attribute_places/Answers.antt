@@ -4,7 +4,7 @@ use Rattle.ftl_deps.specs.reads.Meant.{meant}
 use Rattle.ftl_tree.specs.rows.ClassRows.{AreAttributePlaces}
 use Rattle.ftl_tree.specs.trees.OwnerPlaces.{own_places, shared_places}
 use Rattle.ftl_tree.proofs.trees.Places.{places_are}
-use Rattle.ftl_tree.proofs.trees.attribute_places.attribute_places.Goals as goal
+use Rattle.ftl_tree.proofs.trees.class_places.attribute_places.Goals as goal
 
 pub returns : goal.returns
 returns c =
