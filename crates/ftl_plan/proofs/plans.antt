@@ -7,6 +7,7 @@ mod Marking
 pub mod Driven
 mod Formed
 mod NextReads
+mod CodeRuns
 mod Folded
 mod FoldedKids
 pub mod Inputs

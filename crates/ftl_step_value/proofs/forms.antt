@@ -1,3 +1,4 @@
+pub mod FlatRuns
 pub mod FormCode
 pub mod Turning
 pub mod Instructions

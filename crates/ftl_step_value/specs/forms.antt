@@ -1,4 +1,5 @@
 pub mod StepForms
+pub mod FlatCode
 pub mod Entries
 pub mod RuleCodes
 pub mod FoldForms

@@ -19,8 +19,8 @@ pub mod value;
 
 pub use cells::{StepReads, read_at, read_count, target_cell};
 pub use forms::{
-    FoldForm, FoldStep, FormStep, FoundFold, Operator, Question, RuleForm, StepForm, divided,
-    fold_of, form_at, operated, rule_form, rule_forms,
+    FlatInstruction, FoldForm, FoldStep, FormStep, FoundFold, Operator, Question, RuleForm, RunForm,
+    SimpleForm, StepForm, Use, divided, fold_of, form_at, operated, rule_form, rule_forms,
 };
 pub use neighbours::{
     NeighbourCells, NeighbourParts, NeighbourRead, NeighbourSite, neighbour_parts,

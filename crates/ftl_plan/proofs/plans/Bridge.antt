@@ -36,7 +36,7 @@ use Rattle.ftl_step_value.specs.forms.FoldForms.{folded}
 use Rattle.ftl_step_value.specs.forms.FoundFolds.{IsFoldOf}
 use Rattle.ftl_step_value.specs.forms.FoundForms.{IsFormOf}
 use Rattle.ftl_step_value.specs.forms.RuleForms.{AreForms}
-use Rattle.ftl_step_value.specs.forms.StepForms.{form_value}
+use Rattle.ftl_step_value.specs.forms.FlatCode.{run_value}
 use Rattle.ftl_step_value.specs.value.StepValue.{value_of_step}
 use Rattle.ftl_order.specs.steps.Steps.{IsStepOf, target_of}
 use Rattle.ftl_order.specs.declared.steps.step.Step.{Step}
@@ -259,7 +259,7 @@ module _ (w : StageParts) (fit : IsStage w) where
     -- what the form of the step computes from the solution's values is the solution's value
     pub formed_is : (f : FormStep) → IsFormOf (checked_tree_of w) x f → (vs : List Value)
         → vs ≡ map (solution_at m) (read_cells g t x)
-        → form_value (greatest_of_width (checked_tree_of w).checked.width) f.form.now vs
+        → run_value (greatest_of_width (checked_tree_of w).checked.width) f.form.now vs
         ≡ solution_at m (filled_cell g t x)
     formed_is f form vs are =
         sym (form.value (value_in g t (solution g t)) vs (sym (are ∙ values_are))) ∙ value_is

@@ -33,7 +33,7 @@ use Rattle.ftl_plan.specs.declared.plans.kept.PlanStage.{PlanStage}
 use Rattle.ftl_plan.specs.declared.plans.parts.StageParts.{StageParts}
 use Rattle.ftl_plan.specs.laws.StageMeanings.{CanBePlanned}
 use Rattle.ftl_step_value.specs.neighbours.NeighbourParts.{AreNeighbourParts}
-use Rattle.ftl_step_value.specs.forms.RuleForms.{AreForms}
+use Rattle.ftl_step_value.specs.forms.RuleForms.{AreForms, StayWithin}
 use Rattle.ftl_step_value.specs.value.StepValue.{IsCodeFor}
 use Rattle.ftl_schedule.specs.stages.Stages.{pass_of}
 use Rattle.ftl_schedule.specs.declared.stages.types.Pass.{Pass}
@@ -247,6 +247,9 @@ module _ (p : Inside) (is : IsPlan p) where
         forms =
             subst (λ (c : CheckedGrammar). AreForms c w.forms.now) back
             (subst (AreForms p.checked.now) (sym forms) is.forms);
+        room =
+            subst (λ (c : Compiled). StayWithin c.max_stack w.forms.now) (sym programs)
+            (subst (StayWithin p.programs.now.max_stack) (sym forms) is.room);
       }
 
   -- and are known by what the plan means

@@ -6,7 +6,7 @@ use Rattle.ftl_step_value.specs.neighbours.NeighbourParts.{AreNeighbourParts}
 use Rattle.ftl_nests.specs.Nests.{outer_schedule}
 use Rattle.ftl_nest_check.specs.check.NestAccepted.{IsNestAccepted}
 use Rattle.ftl_nest_check.specs.stages.Nested.{nests_of}
-use Rattle.ftl_step_value.specs.forms.RuleForms.{AreForms}
+use Rattle.ftl_step_value.specs.forms.RuleForms.{AreForms, StayWithin}
 use Rattle.ftl_step_value.specs.limits.faults.PlanFaults.{first_fault}
 use Rattle.ftl_visit.specs.passes.VisitRows.{target_of}
 use Rattle.ftl_plan.specs.plans.Planned.{MayBePlanned, PlanMeaning}
@@ -34,6 +34,7 @@ pub record IsPlan (p : Inside) : Type 0 where
   pub targets : p.targets.items ≡ map target_of (meant p.checked.now).rules
   pub neighbours : AreNeighbourParts p.checked.now p.neighbours.items
   pub forms : AreForms p.checked.now p.forms.items
+  pub room : StayWithin p.programs.now.max_stack p.forms.items
   pub stages : AreStagesKept (meant p.checked.now) p.items p.accepted.now.schedule.stages p.stages.items
   pub no_fault :
       first_fault (meant p.checked.now) (outer_schedule (nests_of p.accepted.now.schedule)) p.tree.now.tree ≡ None

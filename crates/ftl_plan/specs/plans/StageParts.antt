@@ -17,7 +17,7 @@ use Rattle.ftl_model.specs.layout.Solves.{Instance}
 use Rattle.ftl_model.specs.layout.Tree.{Forest}
 use Rattle.ftl_step_value.specs.neighbours.NeighbourParts.{AreNeighbourParts}
 use Rattle.ftl_plan.specs.laws.StageMeanings.{CanBePlanned, stage_meaning}
-use Rattle.ftl_step_value.specs.forms.RuleForms.{AreForms}
+use Rattle.ftl_step_value.specs.forms.RuleForms.{AreForms, StayWithin}
 use Rattle.ftl_step_value.specs.value.StepValue.{IsCodeFor}
 use Rattle.ftl_order.specs.steps.Steps.{IsStepOf, target_of}
 use Rattle.ftl_tree.specs.trees.CheckedTree.{CheckedTree}
@@ -45,7 +45,7 @@ abbrev pub grain_of : StageParts → ℕ
 grain_of w = w.item_tables.own.items.rows.now.grain
 
 -- all is of one plan: the tables are the grammar's, code, reads of neighbours and forms those of its rules, and the
--- items those of this stage
+-- items those of this stage; and a stack that is enough for the code is enough for the forms
 pub record IsStage (w : StageParts) : Type 0 where
   pub sound : IsSound (grammar_of w)
   pub can : CanBePlanned (grammar_of w) (schedule_of w) (tree_of w)
@@ -55,6 +55,7 @@ pub record IsStage (w : StageParts) : Type 0 where
   pub items : AreNestTables w.item_tables
   pub neighbours : AreNeighbourParts w.item_tables.own.items.rows.now.tree.now.checked w.neighbours.now
   pub forms : AreForms w.item_tables.own.items.rows.now.tree.now.checked w.forms.now
+  pub room : StayWithin w.programs.now.max_stack w.forms.now
 
 -- ---- what it means
 

@@ -1,24 +1,14 @@
 -- The forms of rules may be shared by threads.
 use denote.Param.Send.{IsSync, sendable}
-use Rattle.std.proofs.Crossing.{Box-sync}
-use Rattle.ftl_base.proofs.comparison.Cmp.TheSendSync as comparison
-use Rattle.ftl_base.proofs.val.Val.TheSendSync as value
+use Rattle.std.proofs.Crossing.{Vec-sync}
+use Rattle.ftl_step_value.proofs.forms.flat_code.FlatInstruction.TheSendSync as instruction
 use Rattle.ftl_step_value.proofs.forms.fold_form.FoldForm.TheSendSync as fold
-use Rattle.ftl_step_value.proofs.forms.operator.Operator.TheSendSync as operator
-use Rattle.ftl_step_value.proofs.forms.step_form.Question.TheLaws.TheKnot as knot
-use Rattle.ftl_step_value.specs.contracts.forms.step_form.RuleForm as RuleForm
-use Rattle.ftl_step_value.specs.contracts.forms.step_form.StepForm as StepForm
+use Rattle.ftl_step_value.proofs.forms.simple_form.SimpleForm.TheSendSync as simple
+use Rattle.ftl_step_value.specs.contracts.forms.rule_form.RuleForm as RuleForm
+use Rattle.ftl_step_value.specs.contracts.forms.rule_form.RunForm as RunForm
 
-form_sync : IsSync (StepForm.the_field).row
-form_sync =
-    search (
-      knot.sync-StepForm,
-      operator.the_field_sync,
-      comparison.the_field_sync,
-      value.the_sync,
-      Box-sync,
-      sendable,
-    ) depth 30
+run_sync : IsSync (RunForm.the_field).row
+run_sync = search (simple.the_field_sync, simple.the_sync, instruction.the_sync, Vec-sync, sendable) depth 30
 
 pub rule_form_sync : IsSync RuleForm.the_row
-rule_form_sync = search (form_sync, fold.the_sync, sendable) depth 30
+rule_form_sync = search (run_sync, fold.the_sync, sendable) depth 30

@@ -5,6 +5,7 @@
 
 mod choice;
 mod entry;
+mod flat_code;
 mod fold_form;
 mod formula;
 mod found;
@@ -12,13 +13,18 @@ mod found_fold;
 mod joined;
 mod operator;
 mod part_form;
+mod rule_form;
+mod simple_form;
 mod step_form;
 mod table;
 mod turned;
 
+pub use flat_code::{FlatInstruction, Use};
 pub use fold_form::{FoldForm, FoldStep};
 pub use found::{FormStep, form_at, rule_form};
 pub use found_fold::{FoundFold, fold_of};
 pub use operator::{Operator, divided, operated};
-pub use step_form::{Question, RuleForm, StepForm};
+pub use rule_form::{RuleForm, RunForm};
+pub use simple_form::SimpleForm;
+pub use step_form::{Question, StepForm};
 pub use table::rule_forms;

@@ -95,6 +95,7 @@ invariant_of-result c =
       targets = c.in_ok-targets.ensures.targets;
       neighbours = c.in_ok-neighbours.ensures.parts;
       forms = c.in_ok-forms.ensures.forms;
+      room = c.in_ok-forms.ensures.room;
       stages =
           subst
           (λ (xs : List NestingStage). AreStagesKept (meant c.args.checked.now) c.in_ok-items.items xs
