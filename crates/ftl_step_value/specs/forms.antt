@@ -1,5 +1,6 @@
 pub mod StepForms
 pub mod FlatCode
+pub mod FlatWorked
 pub mod Entries
 pub mod RuleCodes
 pub mod FoldForms

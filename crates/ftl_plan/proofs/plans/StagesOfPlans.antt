@@ -38,6 +38,7 @@ use Rattle.ftl_step_value.specs.value.StepValue.{IsCodeFor}
 use Rattle.ftl_schedule.specs.stages.Stages.{pass_of}
 use Rattle.ftl_schedule.specs.declared.stages.types.Pass.{Pass}
 use Rattle.ftl_tree.specs.trees.CheckedTree.{CheckedTree}
+use Rattle.ftl_visit.specs.compiled.RuleCode.{Compiled}
 use Rattle.ftl_visit.specs.passes.VisitRows.{target_of}
 use Rattle.ftl_plan.specs.plans.PlanInside.{IsPlan, plan_inside}
 use Rattle.ftl_plan.specs.plans.PlannedStages.{IsStageKept, own_pass, own_passes, pass_hosts, pass_nests}

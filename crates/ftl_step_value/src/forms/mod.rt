@@ -1,7 +1,8 @@
 //! How steps compute by a few cells of neighbours. Goes in: a checked grammar with the code of its
 //! rules and what they read of neighbours; then a step of a tree. Comes out: a table, made once,
-//! with a form for each rule whose code has one; then the form of the step, with the nodes at which
-//! it reads and fills. `specs/forms/StepForms.antt` has the words.
+//! with what runs for each rule whose code has a form: the form itself, where it holds no other, or
+//! its flat code; then what runs at the step, with the nodes at which it reads and fills.
+//! `specs/forms/StepForms.antt` and `specs/forms/FlatCode.antt` have the words.
 
 mod choice;
 mod entry;
@@ -11,6 +12,7 @@ mod formula;
 mod found;
 mod found_fold;
 mod joined;
+mod laws;
 mod operator;
 mod part_form;
 mod rule_form;
@@ -23,6 +25,7 @@ pub use flat_code::{FlatInstruction, Use};
 pub use fold_form::{FoldForm, FoldStep};
 pub use found::{FormStep, form_at, rule_form};
 pub use found_fold::{FoundFold, fold_of};
+pub use laws::codes_of_forms;
 pub use operator::{Operator, divided, operated};
 pub use rule_form::{RuleForm, RunForm};
 pub use simple_form::SimpleForm;
