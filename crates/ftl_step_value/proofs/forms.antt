@@ -1,4 +1,5 @@
 pub mod FlatRuns
+pub mod RunParts
 pub mod FormCode
 pub mod Turning
 pub mod Instructions

@@ -4,8 +4,8 @@ use Rattle.std.proofs.Crossing.{Vec-sync}
 use Rattle.ftl_step_value.proofs.forms.flat_code.FlatInstruction.TheSendSync as instruction
 use Rattle.ftl_step_value.proofs.forms.fold_form.FoldForm.TheSendSync as fold
 use Rattle.ftl_step_value.proofs.forms.simple_form.SimpleForm.TheSendSync as simple
-use Rattle.ftl_step_value.specs.contracts.forms.rule_form.RuleForm as RuleForm
-use Rattle.ftl_step_value.specs.contracts.forms.rule_form.RunForm as RunForm
+use Rattle.ftl_step_value.specs.contracts.forms.runs.RuleForm as RuleForm
+use Rattle.ftl_step_value.specs.contracts.forms.runs.RunForm as RunForm
 
 run_sync : IsSync (RunForm.the_field).row
 run_sync = search (simple.the_field_sync, simple.the_sync, instruction.the_sync, Vec-sync, sendable) depth 30
