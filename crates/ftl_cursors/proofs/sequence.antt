@@ -7,3 +7,9 @@ pub mod Above
 pub mod BlockLemmas
 pub mod PlaceTable
 pub mod TableLemmas
+pub mod RulelessVisits
+pub mod RulelessTrees
+pub mod RulelessNodes
+pub mod KidOrder
+pub mod KidsPassed
+pub mod VisitPassed

@@ -5,3 +5,4 @@ pub mod StepLaws
 pub mod VisitSteps
 pub mod NodeParts
 pub mod SparsePlaces
+pub mod RuleTurns

@@ -4,8 +4,7 @@ ghost use Rattle.ftl_cursors.specs.item_cursor.ItemSteps.{no_step};
 ghost use Rattle.ftl_host_cursors.specs.NestTables.{nest_steps_left};
 
 use crate::cursor::HostCursor;
-use ftl_cursors::ItemCursor;
-use ftl_cursors::visits::SparseCursor;
+use ftl_cursors::{ItemCursor, SparseCursor};
 use ftl_order::Step;
 
 /// Goes through the steps of an item.

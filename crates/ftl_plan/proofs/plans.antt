@@ -14,3 +14,4 @@ pub mod RowsByStage
 pub mod StagesOfPlans
 pub mod InputRows
 pub mod Shared
+mod Turned

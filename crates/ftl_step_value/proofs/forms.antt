@@ -7,8 +7,10 @@ pub mod SharedForms
 pub mod FormTable
 pub mod FormSteps
 pub mod FormTargets
+pub mod RuleAttributes
 pub mod FormValues
 pub mod FormEntries
 pub mod FormFolds
 pub mod FoldValues
 pub mod FoldEntries
+pub mod KidsFound

@@ -4,3 +4,4 @@ pub mod SeenCells
 pub mod NeighbourSteps
 pub mod NeighbourTable
 pub mod NeighbourCursor
+pub mod NotesPlaces

@@ -5,3 +5,4 @@ pub mod FoldForms
 pub mod RuleForms
 pub mod FoundForms
 pub mod FoundFolds
+pub mod RuleKids

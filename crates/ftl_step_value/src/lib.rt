@@ -5,8 +5,8 @@
 //! - `cells`: `target_cell`, `read_count`, `StepReads`: the cells of a step
 //! - `neighbours`: the cells of a step, found quickly where all are of the node, the kid at hand
 //!   and the kid before
-//! - `forms`: `rule_form`, `form_at`: how a step computes, where a few cells of neighbours are all
-//!   that it needs
+//! - `forms`: `rule_form`, `form_at`, or `own_form_at` and `kid_form_at`: how a step computes, where
+//!   a few cells of neighbours are all that it needs
 //! - `value`: `step_value`: the value of a step; `copied_cell`: which cell it copies
 //! - `limits`: `first_fault`: the first stage or step that reads more than it may
 #![tactic(auto)]
@@ -20,7 +20,7 @@ pub mod value;
 pub use cells::{StepReads, read_at, read_count, target_cell};
 pub use forms::{
     FoldForm, FoldStep, FormStep, FoundFold, Operator, Question, RuleForm, StepForm, divided,
-    fold_of, form_at, operated, rule_form, rule_forms,
+    fold_of, form_at, kid_form_at, operated, own_form_at, rule_form, rule_forms,
 };
 pub use neighbours::{
     NeighbourCells, NeighbourParts, NeighbourRead, NeighbourSite, neighbour_parts,

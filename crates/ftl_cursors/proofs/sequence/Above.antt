@@ -27,7 +27,7 @@ count_few c (tree class child inputs below beside) =
     [ true ↦ omega arith | false ↦ omega arith ]
 
 -- the tree at a node has no more nodes than the whole
-size_few : (t : Forest) (p : Path) → Has t p → number_of t p + size_at t p ≤ suc (size (below_of t))
+pub size_few : (t : Forest) (p : Path) → Has t p → number_of t p + size_at t p ≤ suc (size (below_of t))
 size_few t top h = omega arith
 size_few t (down c k p) h = let e = (kid_end t c k p h).1 in omega (arith, e, size_few t p (has_parent t c k p h))
 

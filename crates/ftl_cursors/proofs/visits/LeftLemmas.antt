@@ -1,5 +1,5 @@
 -- What is left when a cursor goes on.
-use Rattle.std.proofs.Common.{◌≡◌, ℕ, suc, ◌+◌, ◌-◌, ◌<◌, List, [], ◌∷◌, ◌++◌, flat_map, map, sym, ◌∙◌, ap, ap₂, append_assoc, arith}
+use Rattle.std.proofs.Common.{◌≡◌, ℕ, suc, ◌+◌, ◌-◌, ◌<◌, List, [], ◌∷◌, ◌++◌, flat_map, map, refl, sym, ◌∙◌, ap, ap₂, append_assoc, arith}
 use Rattle.std.specs.List.{range_with_len}
 use Rattle.ftl_model.specs.layout.AttributeGrammar.{AttributeGrammar}
 use Rattle.ftl_model.specs.layout.Path.{node_at}
@@ -37,6 +37,14 @@ module _ (g : AttributeGrammar) (t : Forest) (visits : List (List VisitOp)) wher
   no_kids_left node rule kid end ops nodes is =
       ap (λ xs. xs ++ (flat_map (steps_of_op g t node) ops ++ steps_of_nodes g t visits nodes))
       (no_kids node rule kid end is)
+
+  -- the first steps are those of all kids that are left
+  pub kids_taken : (node rule kid end : ℕ) (ops : List VisitOp) (nodes : List ℕ)
+      → rest_of g t visits node rule kid end ops nodes
+      ≡ map (step node rule) (range_with_len kid (end - kid)) ++ rest_of g t visits node rule end end ops nodes
+  kids_taken node rule kid end ops nodes =
+      ap (λ xs. map (step node rule) (range_with_len kid (end - kid)) ++ xs)
+      (sym (no_kids_left node rule end end ops nodes refl))
 
   -- nothing is left without kids, operations and nodes
   pub all_done : (node rule kid end : ℕ) (ops : List VisitOp) (nodes : List ℕ) → kid ≡ end → ops ≡ [] → nodes ≡ []

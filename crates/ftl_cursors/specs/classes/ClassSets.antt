@@ -1,9 +1,11 @@
 -- Sets of classes as bits of a number, and those of the nodes of a tree, block by block.
-use Rattle.std.specs.Prelude.{◌≡◌, ◌≢◌, ℕ, ◌*◌, ◌/◌, ◌%◌, ◌<◌, ◌≤◌, List, [], length, slice_index_or}
+use Rattle.std.specs.Prelude.{◌≡◌, ◌≢◌, ℕ, ◌*◌, ◌/◌, ◌%◌, ◌<◌, ◌≤◌, Bool, true, false, List, [], ◌∷◌, length}
+use Rattle.std.specs.Prelude.{slice_index_or}
 use Rattle.std.specs.Int.{bit_at}
 use Rattle.ftl_model.specs.layout.Path.{class_at, node_at}
 use Rattle.ftl_model.specs.layout.Tree.{Forest, size}
 use Rattle.ftl_visit.specs.declared.visits.visit_op.VisitOp.{VisitOp}
+use Rattle.ftl_visit.specs.declared.visits.visit_op.VisitOp.TheVariants.{Begin, Rule, Visit}
 
 -- the set has the class; classes that are 128 apart count as one
 abbrev pub HasClass : (set class : ℕ) → Type 0
@@ -16,6 +18,17 @@ HasAllOf set other = (class : ℕ) → HasClass other class → HasClass set cla
 -- it has each class whose visit has an operation
 abbrev pub HasVisited : (set : ℕ) → (visits : List (List VisitOp)) → Type 0
 HasVisited set visits = (class : ℕ) → slice_index_or visits class [] ≢ [] → HasClass set class
+
+-- one of the operations is a rule
+abbrev pub has_rule : List VisitOp → Bool
+has_rule [] = false
+has_rule (Rule r ∷ ops) = true
+has_rule (Begin c ∷ ops) = has_rule ops
+has_rule (Visit c ∷ ops) = has_rule ops
+
+-- the set has each class whose visit has a rule
+abbrev pub HasRuled : (set : ℕ) → (visits : List (List VisitOp)) → Type 0
+HasRuled set visits = (class : ℕ) → has_rule (slice_index_or visits class []) ≡ true → HasClass set class
 
 -- the class of a node
 abbrev pub class_of : Forest → (node : ℕ) → ℕ

@@ -7,6 +7,9 @@ use crate::classes::sets::with_class;
 use ftl_tree::Tree;
 use std::alloc::{AllocError, Global};
 
+/// The fewest nodes of which it pays to look at blocks: that takes as long as some hundred visits.
+pub(crate) const FEWEST_NODES: u32 = 1024;
+
 /// The sets of the classes of the blocks of a tree.
 pub(crate) fn class_blocks(alloc: Global, tree: &Tree<'_>) -> Result<Vec<u128>, AllocError>
     ensures blocks { IfOk result (λ v. AreClassBlocks tree.now.tree v.items) }

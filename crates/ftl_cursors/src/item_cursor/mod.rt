@@ -6,7 +6,10 @@
 mod cursor;
 mod item;
 mod sparse;
+mod sparse_cursor;
+mod sparse_sequence;
 
 pub use cursor::ItemCursor;
 pub use item::{ItemTables, found_steps};
 pub use sparse::sparse_steps;
+pub use sparse_cursor::SparseCursor;

@@ -8,17 +8,17 @@ ghost use Rattle.ftl_cursors.specs.item_cursor.ItemSteps.{grammar_in};
 ghost use Rattle.ftl_cursors.specs.declared.item_cursor.cursor.ItemCursor.TheVariants.{Visits};
 ghost use Rattle.ftl_schedule.specs.declared.syntax.kind.PassKind.TheVariants.{InOrder};
 
-use crate::classes::{is_sparse, visited_classes};
+use crate::classes::{FEWEST_NODES, is_sparse, visited_classes};
 use crate::item_cursor::item::{ItemTables, node_order};
+use crate::item_cursor::sparse_cursor::{SparseCursor, SparseSteps};
+use crate::item_cursor::sparse_sequence::sparse_sequence;
 use crate::items::{FoundItem, StageItems};
-use crate::visits::{NodeRange, SparseCursor, SparseTables, Tables, visits_make_steps};
+use crate::sequence::SparseSequenceCursor;
+use crate::visits::{NodeRange, SparseTables, SparseVisitCursor, Tables, visits_make_steps};
 use ftl_schedule::PassKind;
 
-// To look which classes and blocks of nodes an item has takes as long as some hundred visits.
-const FEWEST_NODES: u32 = 1024;
-
-/// The steps of an item of a topdown or bottomup pass with many nodes, few of which have rules. None
-/// of another, and where no item but hosts' trees may have so many nodes.
+/// The steps of an item with many nodes, few of which have rules. None of another, nor, in a
+/// topdown or bottomup pass, where no item but hosts' trees may have so many nodes.
 #[inline(always)]
 pub fn sparse_steps<'a>(
     tables: ItemTables<'a>,
@@ -31,22 +31,62 @@ pub fn sparse_steps<'a>(
     requires found { IsFound tables.items item found }
     ensures steps { IfSome result (λ steps. IsCursorOf tables.entry item (Visits steps)) }
 {
-    if tables.items.rows.grain < FEWEST_NODES {
+    if is_cut(tables, found) {
         return None;
     }
+    sparse_of(tables, item, found)
+}
+
+/// Whether the pass has more than one item, and none but hosts' trees may have so many nodes.
+#[inline(always)]
+fn is_cut<'a>(tables: ItemTables<'a>, found: FoundItem) -> bool {
     match found.kind {
-        PassKind::InOrder => None,
-        _ => sparse_visits(tables, item, found),
+        PassKind::InOrder => false,
+        _ => tables.items.rows.grain < FEWEST_NODES,
+    }
+}
+
+/// The steps of an item, by the kind of its pass.
+#[inline(never)]
+fn sparse_of<'a>(tables: ItemTables<'a>, item: u32, found: FoundItem) -> Option<SparseCursor<'a>>
+    requires law { IsLawful (grammar_in tables) }
+    requires tables { AreItemTables tables }
+    requires item { item < length (items_in tables.items) }
+    requires found { IsFound tables.items item found }
+    ensures steps { IfSome result (λ steps. IsCursorOf tables.entry item (Visits steps)) }
+{
+    match found.kind {
+        PassKind::InOrder => in_sequence(sparse_sequence(tables, item, found)),
+        _ => by_visits(sparse_visits(tables, item, found)),
+    }
+}
+
+/// The cursor over these steps of an inorder pass, where there are any.
+fn in_sequence<'a>(steps: Option<SparseSequenceCursor<'a>>) -> Option<SparseCursor<'a>>
+    ensures steps { result ≡ steps.entry }
+{
+    match steps {
+        Some(steps) => Some(SparseCursor::new(SparseSteps::Sequence(steps))),
+        None => None,
+    }
+}
+
+/// The cursor over these steps of visits, where there are any.
+fn by_visits<'a>(steps: Option<SparseVisitCursor<'a>>) -> Option<SparseCursor<'a>>
+    ensures steps { result ≡ steps.entry }
+{
+    match steps {
+        Some(steps) => Some(SparseCursor::new(SparseSteps::Visits(steps))),
+        None => None,
     }
 }
 
 /// Those of an item of a topdown or bottomup pass.
-#[inline(never)]
 fn sparse_visits<'a>(
     tables: ItemTables<'a>,
     item: u32,
     found: FoundItem,
-) -> Option<SparseCursor<'a>>
+) -> Option<SparseVisitCursor<'a>>
     requires law { IsLawful (grammar_in tables) }
     requires tables { AreItemTables tables }
     requires item { item < length (items_in tables.items) }
@@ -82,7 +122,7 @@ fn sparse_visits<'a>(
         blocks,
         visited,
     };
-    Some(SparseCursor::new(tables, nodes))
+    Some(SparseVisitCursor::new(tables, nodes))
 }
 
 /// The classes of the blocks in which these nodes lie.

@@ -9,7 +9,7 @@ ghost use Rattle.ftl_cursors.specs.sequence.BlockPlaces.{places_of};
 ghost use Rattle.ftl_visit.specs.passes.VisitRows.{visits_of};
 
 use crate::sequence::block_places::SequencePlaces;
-use crate::sequence::place::{Place, Tables, first_rule, next_step, take_step};
+use crate::sequence::place::{Place, Tables, first_rule, next_step, start_place, take_step};
 use ftl_order::Step;
 use ftl_tree::Tree;
 use ftl_visit::PassVisits;
@@ -53,8 +53,6 @@ impl<'a> SequenceCursor<'a> {
             ≡ inorder_steps (meant tree.now.checked) tree.now.tree attrs.now
             (node_at tree.now.tree first) }
     {
-        let _nodes = tree.node_count();
-        let ops = visits.visit(tree.class(first));
         let tables = Tables {
             tree,
             visits,
@@ -62,11 +60,7 @@ impl<'a> SequenceCursor<'a> {
             attrs,
             first,
         };
-        let at = Place {
-            node: first,
-            kid: 0,
-            ops,
-        };
+        let at = start_place(tables);
         SequenceCursor { tables, at }
     }
 
@@ -80,6 +74,19 @@ impl<'a> SequenceCursor<'a> {
         if let Some(rule) = first_rule(self.at.ops) {
             return Some(take_step(self.tables, &mut self.at, rule));
         }
-        next_step(self.tables, &mut self.at)
+        self.next_after_moves()
+    }
+
+    /// The same where a place further on may have the next step.
+    #[inline(always)]
+    fn next_after_moves(&mut self) -> Option<Step>
+        ensures step { MatchOption result ((self.old ≡ []) × (self.new ≡ []))
+            (λ step. self.old ≡ step ∷ self.new) }
+    {
+        // Lent to the call, the place would lie in memory for steps that need no call, too.
+        let mut at = self.at;
+        let step = next_step(self.tables, &mut at);
+        self.at = at;
+        step
     }
 }

@@ -3,9 +3,10 @@ ghost use Rattle.std.specs.Prelude.{◌≡◌, ◌<◌, [], ◌∷◌, Some, Non
 ghost use Rattle.ftl_model.specs.layout.Path.{kids_at};
 ghost use Rattle.ftl_model.specs.layout.Tree.{size};
 ghost use Rattle.ftl_tree.specs.rows.KidRuns.{IsChildOf};
+ghost use Rattle.ftl_cursors.specs.inorder.InorderSteps.{inorder_steps};
 ghost use Rattle.ftl_cursors.specs.sequence.Places.{AreTables, IsAfter, IsAtKid, IsFirst, IsNext};
-ghost use Rattle.ftl_cursors.specs.sequence.Places.{IsPlace, IsWithin, grammar_of, left, node_of};
-ghost use Rattle.ftl_cursors.specs.sequence.Places.{rest_after, rule_first, tree_of};
+ghost use Rattle.ftl_cursors.specs.sequence.Places.{IsPlace, IsWithin, first_of, grammar_of, left};
+ghost use Rattle.ftl_cursors.specs.sequence.Places.{node_of, rest_after, rule_first, tree_of};
 
 use crate::sequence::block_places::{SequencePlaces, behind};
 use ftl_order::Step;
@@ -28,6 +29,21 @@ pub(crate) struct Place<'a> {
     pub node: u32,
     pub kid: u32,
     pub ops: &'a [VisitOp],
+}
+
+/// The place at the first operation of the first node.
+#[inline(always)]
+pub(crate) fn start_place<'a>(tables: Tables<'a>) -> Place<'a>
+    requires tables { AreTables tables }
+    ensures place { IsPlace tables.entry result }
+    ensures steps { left tables.entry result
+        ≡ inorder_steps (grammar_of tables.entry) (tree_of tables.entry) tables.entry.attrs.now
+        (first_of tables.entry) }
+{
+    let _nodes = tables.tree.node_count();
+    let node = tables.first;
+    let ops = tables.visits.visit(tables.tree.class(node));
+    Place { node, kid: 0, ops }
 }
 
 /// The next step; none at the end.
@@ -85,7 +101,8 @@ pub(crate) fn take_step<'a>(tables: Tables<'a>, at: &mut Place<'a>, rule: u32) -
 }
 
 /// The place behind an operation that is no rule, or above a node that is done; none at the end.
-fn next_place<'a>(tables: Tables<'a>, at: Place<'a>) -> Option<Place<'a>>
+#[inline(always)]
+pub(crate) fn next_place<'a>(tables: Tables<'a>, at: Place<'a>) -> Option<Place<'a>>
     requires tables { AreTables tables }
     requires place { IsPlace tables at }
     requires other { rule_first at.ops.now ≡ None }
@@ -103,6 +120,7 @@ fn next_place<'a>(tables: Tables<'a>, at: Place<'a>) -> Option<Place<'a>>
 }
 
 /// The place at which what comes after a node begins; none after the first node.
+#[inline]
 fn place_above<'a>(tables: Tables<'a>, node: u32) -> Option<Place<'a>>
     requires tables { AreTables tables }
     requires node { node < size (tree_of tables) }
@@ -122,7 +140,8 @@ fn place_above<'a>(tables: Tables<'a>, node: u32) -> Option<Place<'a>>
 }
 
 /// The place at this kid of a child, or behind the child where it has no such kid.
-fn kid_place<'a>(tables: Tables<'a>, node: u32, child: u32, kid: u32) -> Place<'a>
+#[inline]
+pub(crate) fn kid_place<'a>(tables: Tables<'a>, node: u32, child: u32, kid: u32) -> Place<'a>
     requires tables { AreTables tables }
     requires at { IsChildOf (grammar_of tables) (tree_of tables) node child }
     requires within { IsWithin tables node }
@@ -142,7 +161,8 @@ fn kid_place<'a>(tables: Tables<'a>, node: u32, child: u32, kid: u32) -> Place<'
 }
 
 /// The place at the first operation of a kid.
-fn first_place<'a>(tables: Tables<'a>, node: u32, child: u32, kid: u32) -> Place<'a>
+#[inline]
+pub(crate) fn first_place<'a>(tables: Tables<'a>, node: u32, child: u32, kid: u32) -> Place<'a>
     requires tables { AreTables tables }
     requires at { IsChildOf (grammar_of tables) (tree_of tables) node child }
     requires within { IsWithin tables node }

@@ -1,13 +1,16 @@
 //! Cursors over the steps of visits.
-ghost use Rattle.std.specs.Prelude.{◌≡◌, ◌+◌, ◌≤◌, [], ◌∷◌, map, MatchOption};
+ghost use Rattle.std.specs.Prelude.{◌≡◌, ◌+◌, ◌<◌, ◌≤◌, [], ◌∷◌, ◌++◌, map};
+ghost use Rattle.std.specs.Prelude.{MatchOption};
 ghost use Rattle.ftl_deps.specs.reads.Meant.{meant};
 ghost use Rattle.ftl_model.specs.layout.Tree.{size};
 ghost use Rattle.ftl_cursors.specs.visits.NodeRanges.{nodes_in};
+ghost use Rattle.ftl_cursors.specs.visits.RuleTurns.{turn_steps};
 ghost use Rattle.ftl_cursors.specs.visits.VisitSteps.{AreVisits, steps_of_nodes};
 ghost use Rattle.ftl_visit.specs.passes.VisitRows.{target_of};
 
 use crate::visits::nodes::{NodeOrder, NodeRange};
-use crate::visits::place::{Place, Tables, next_step};
+use crate::visits::place::{Place, Tables, next_step, next_turns};
+use crate::visits::rule_turns::Turns;
 use ftl_order::Step;
 use ftl_tree::Tree;
 use ftl_visit::{PassVisits, RuleTarget};
@@ -74,5 +77,14 @@ impl<'a> VisitCursor<'a> {
             (λ step. self.old ≡ step ∷ self.new) }
     {
         next_step(self.tables, &mut self.at)
+    }
+
+    /// All steps of the next rule at its node, or those that are left of it; none at the end.
+    #[inline(always)]
+    pub fn next_turns(&mut self) -> Option<Turns>
+        ensures steps { MatchOption result ((self.old ≡ []) × (self.new ≡ []))
+            (λ turns. (self.old ≡ turn_steps turns ++ self.new) × (turns.kid < turns.kid_end)) }
+    {
+        next_turns(self.tables, &mut self.at)
     }
 }

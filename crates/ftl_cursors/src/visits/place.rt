@@ -1,13 +1,16 @@
 //! Where a cursor stands.
-ghost use Rattle.std.specs.Prelude.{◌≡◌, ◌+◌, ◌<◌, true, false, [], ◌∷◌, length, MatchOption};
+ghost use Rattle.std.specs.Prelude.{◌≡◌, ◌+◌, ◌<◌, true, false, [], ◌∷◌, ◌++◌};
+ghost use Rattle.std.specs.Prelude.{length, MatchOption};
 ghost use Rattle.ftl_model.specs.layout.Path.{node_at};
 ghost use Rattle.ftl_model.specs.layout.Tree.{size};
 ghost use Rattle.ftl_order.specs.steps.Steps.{rule_at};
 ghost use Rattle.ftl_cursors.specs.visits.Places.{AreTables, IsOpAt, IsPlace, grammar_of, left};
 ghost use Rattle.ftl_cursors.specs.visits.Places.{ops_left, tree_of};
+ghost use Rattle.ftl_cursors.specs.visits.RuleTurns.{turn_steps};
 ghost use Rattle.ftl_cursors.specs.visits.VisitSteps.{turns};
 
 use crate::visits::nodes::{NodeOrder, NodeRange, take_node};
+use crate::visits::rule_turns::Turns;
 use ftl_order::Step;
 use ftl_tree::Tree;
 use ftl_visit::{PassVisits, RuleTarget, VisitOp};
@@ -55,6 +58,32 @@ pub(crate) fn next_step<'a>(tables: Tables<'a>, at: &mut Place<'a>) -> Option<St
     };
     at.kid += 1;
     Some(step)
+}
+
+/// All steps of the next rule at its node, or those that are left of it; none at the end.
+#[inline(always)]
+pub(crate) fn next_turns<'a>(tables: Tables<'a>, at: &mut Place<'a>) -> Option<Turns>
+    requires tables { AreTables tables }
+    requires place { IsPlace tables at.old }
+    ensures place { IsPlace tables.entry at.new }
+    ensures steps { MatchOption result
+        ((left tables.entry at.old ≡ []) × (left tables.entry at.new ≡ []))
+        (λ turns. (left tables.entry at.old ≡ turn_steps turns ++ left tables.entry at.new)
+        × (turns.kid < turns.kid_end)) }
+{
+    'search: while at.kid == at.kid_end {
+        if !go_on(tables, at) {
+            return None;
+        }
+    }
+    let turns = Turns {
+        node: at.node,
+        rule: at.rule,
+        kid: at.kid,
+        kid_end: at.kid_end,
+    };
+    at.kid = at.kid_end;
+    Some(turns)
 }
 
 /// Begins the next operation of the node, or the next node; false at the end.

@@ -11,13 +11,13 @@ use std::marker::Model;
 /// Goes through the steps of the visits of some nodes, and passes over blocks of nodes that have no
 /// class with operations. Contracts see the steps that are left.
 #[derive(Drop)]
-pub struct SparseCursor<'a> {
+pub struct SparseVisitCursor<'a> {
     tables: SparseTables<'a>,
     nodes: NodeRange,
     steps: VisitCursor<'a>,
 }
 
-impl<'a> Model for SparseCursor<'a> {
+impl<'a> Model for SparseVisitCursor<'a> {
     ghost use Rattle.std.specs.Prelude.{List};
     ghost use Rattle.ftl_order.specs.declared.steps.step.Step.{Step};
 
@@ -30,9 +30,9 @@ impl<'a> Model for SparseCursor<'a> {
     ghost invariant = { λ c. AreSparseTables c.tables × AreWithin c.tables c.nodes };
 }
 
-impl<'a> SparseCursor<'a> {
+impl<'a> SparseVisitCursor<'a> {
     /// The steps of the visits of these nodes.
-    pub(crate) fn new(tables: SparseTables<'a>, nodes: NodeRange) -> SparseCursor<'a>
+    pub(crate) fn new(tables: SparseTables<'a>, nodes: NodeRange) -> SparseVisitCursor<'a>
         requires tables { AreSparseTables tables }
         requires nodes { AreWithin tables nodes }
         ensures steps { result ≡ range_steps tables.entry nodes }
@@ -40,7 +40,7 @@ impl<'a> SparseCursor<'a> {
         let all = tables.all;
         let order = NodeOrder::Preorder;
         let steps = VisitCursor::new(all.tree, all.visits, all.targets, order, 0, 0);
-        SparseCursor {
+        SparseVisitCursor {
             tables,
             nodes,
             steps,

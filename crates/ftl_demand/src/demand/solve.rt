@@ -21,7 +21,7 @@ use ftl_order::values_are_in_range;
 use ftl_plan::first_words;
 use ftl_step_value::limits::{ReadTables, is_sound};
 use ftl_step_value::{neighbour_parts, rule_copies};
-use ftl_tree::Tree;
+use ftl_tree::{Tree, attribute_places};
 use ftl_visit::Programs;
 use std::alloc::{AllocError, Global};
 
@@ -49,7 +49,8 @@ pub fn solve_by_demand(
     let _nodes = tree.node_count();
     let tables = ReadTables::new(alloc, checked)?;
     let copies = rule_copies(alloc, programs, &tables, checked)?;
-    let neighbours = neighbour_parts(alloc, &tables, checked)?;
+    let places = attribute_places(alloc, checked)?;
+    let neighbours = neighbour_parts(alloc, &places, &tables, checked)?;
     let site = Site {
         tables: &tables,
         copies: copies.as_slice(),

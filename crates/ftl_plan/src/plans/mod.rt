@@ -22,9 +22,11 @@ mod parts;
 mod passes;
 mod phases;
 mod plan;
+mod reading;
 mod running;
 mod stages;
 mod steps;
+mod turns;
 mod words;
 mod work;
 

@@ -25,7 +25,7 @@ use ftl_host_cursors::NestTables;
 use ftl_nest_check::AcceptedNests;
 use ftl_step_value::limits::{PlanFault, ReadTables, first_fault, is_sound};
 use ftl_step_value::{NeighbourParts, RuleForm, neighbour_parts, rule_forms};
-use ftl_tree::Tree;
+use ftl_tree::{Tree, attribute_places};
 use ftl_visit::{Programs, RuleTarget, rule_targets};
 use std::alloc::{AllocError, Global};
 use std::marker::Model;
@@ -102,8 +102,9 @@ impl<'a> Plan<'a> {
         let hosts = nest_hosts(alloc, all)?;
         let items = TreeRows::new(alloc, tree, grain, hosts.as_slice())?;
         let targets = rule_targets(alloc, checked)?;
-        let neighbours = neighbour_parts(alloc, &tables, checked)?;
-        let forms = rule_forms(alloc, programs, &tables, &neighbours, checked)?;
+        let places = attribute_places(alloc, checked)?;
+        let neighbours = neighbour_parts(alloc, &places, &tables, checked)?;
+        let forms = rule_forms(alloc, programs, &places, &tables, &neighbours, checked)?;
         let stages = kept_stages(alloc, checked, &items, all)?;
         Ok(Plan {
             checked,

@@ -17,7 +17,7 @@ mod table;
 mod turned;
 
 pub use fold_form::{FoldForm, FoldStep};
-pub use found::{FormStep, form_at, rule_form};
+pub use found::{FormStep, form_at, kid_form_at, own_form_at, rule_form};
 pub use found_fold::{FoundFold, fold_of};
 pub use operator::{Operator, divided, operated};
 pub use step_form::{Question, RuleForm, StepForm};

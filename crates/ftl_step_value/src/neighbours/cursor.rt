@@ -1,7 +1,6 @@
 //! The cells that a step reads of neighbours, one after the other.
-ghost use Rattle.std.specs.Prelude.{◌≡◌, ◌<◌, [], is_some, map, slice_index_or, IfNone, IfSome};
+ghost use Rattle.std.specs.Prelude.{◌≡◌, [], is_some, IfNone, IfSome};
 ghost use Rattle.std.specs.List.{cons_option};
-ghost use Rattle.ftl_model.specs.layout.Tree.{size};
 ghost use Rattle.ftl_deps.specs.reads.Meant.{meant};
 ghost use Rattle.ftl_step_value.specs.limits.reads.ReadTables.{IsSound};
 ghost use Rattle.ftl_order.specs.steps.Steps.{IsStepOf};
@@ -11,7 +10,7 @@ ghost use Rattle.ftl_step_value.specs.neighbours.NeighbourParts.{reads_neighbour
 ghost use Rattle.ftl_step_value.specs.neighbours.NeighbourParts.{neighbour_parts_at};
 ghost use Rattle.ftl_step_value.specs.neighbours.NeighbourCells.{AreNeighbours, IsNeighbour};
 ghost use Rattle.ftl_step_value.specs.neighbours.NeighbourCells.{neighbour_cell, neighbour_cells};
-ghost use Rattle.ftl_step_value.specs.neighbours.NeighbourCells.{site_node};
+ghost use Rattle.ftl_step_value.specs.neighbours.NeighbourCells.{first_cell};
 
 use crate::neighbours::parts::NeighbourParts;
 use crate::neighbours::reads::{NeighbourRead, NeighbourSite};
@@ -19,11 +18,10 @@ use ftl_order::Step;
 use ftl_tree::Tree;
 use std::marker::Model;
 
-/// A cursor over the cells that a step reads, all of neighbours. Contracts see the cells that are
-/// left.
+/// A cursor over the cells that a step reads, all of neighbours. It keeps the first cells of their
+/// nodes. Contracts see the cells that are left.
 #[derive(Drop)]
 pub struct NeighbourCells<'a> {
-    tree: &'a Tree<'a>,
     own: u32,
     kid: u32,
     before: u32,
@@ -61,27 +59,28 @@ impl<'a> NeighbourCells<'a> {
             ≡ reads_neighbours (neighbour_parts_at parts.now step.rule) }
     {
         let _nodes = tree.node_count();
+        let _cells = tree.instance_count();
+        let own = tree.first_instance(step.node);
         match &parts[step.rule as usize] {
             NeighbourParts::Own(reads) => {
-                Some(NeighbourCells::of_part(tree, step.node, 0, 0, reads.as_slice()))
+                Some(NeighbourCells::of_part(own, 0, 0, reads.as_slice()))
             }
             NeighbourParts::Kids(child, first, later) => {
-                let kids = tree.kids(step.node, *child);
+                let kids = tree.kids_first_instances(step.node, *child);
                 let kid = kids[step.kid as usize];
                 if step.kid == 0 {
-                    return Some(NeighbourCells::of_part(tree, step.node, kid, 0, first.as_slice()));
+                    return Some(NeighbourCells::of_part(own, kid, 0, first.as_slice()));
                 }
                 let before = kids[step.kid as usize - 1];
-                Some(NeighbourCells::of_part(tree, step.node, kid, before, later.as_slice()))
+                Some(NeighbourCells::of_part(own, kid, before, later.as_slice()))
             }
             NeighbourParts::Fold(child, start, each) => Some(NeighbourCells {
-                tree,
-                own: step.node,
+                own,
                 kid: 0,
                 before: 0,
                 reads: start.as_slice(),
                 each: each.as_slice(),
-                kids: tree.kids(step.node, *child),
+                kids: tree.kids_first_instances(step.node, *child),
             }),
             NeighbourParts::Far => None,
         }
@@ -89,18 +88,11 @@ impl<'a> NeighbourCells<'a> {
 
     // Before what a part reads that is read once.
     #[inline(always)]
-    fn of_part(
-        tree: &'a Tree<'a>,
-        own: u32,
-        kid: u32,
-        before: u32,
-        reads: &'a [NeighbourRead],
-    ) -> NeighbourCells<'a>
-        requires neighbours { AreNeighbours tree.now own kid before reads.now }
-        ensures cells { result ≡ neighbour_cells tree.now own kid before reads.now }
+    fn of_part(own: u32, kid: u32, before: u32, reads: &'a [NeighbourRead]) -> NeighbourCells<'a>
+        requires neighbours { AreNeighbours own kid before reads.now }
+        ensures cells { result ≡ neighbour_cells own kid before reads.now }
     {
         NeighbourCells {
-            tree,
             own,
             kid,
             before,
@@ -119,7 +111,7 @@ impl<'a> NeighbourCells<'a> {
         loop {
             if let [read, rest @ ..] = self.reads {
                 self.reads = rest;
-                return Some(neighbour_cell(self.tree, self.own, self.kid, self.before, *read));
+                return Some(neighbour_cell(self.own, self.kid, self.before, *read));
             }
             if let [kid, rest @ ..] = self.kids {
                 self.kids = rest;
@@ -132,25 +124,19 @@ impl<'a> NeighbourCells<'a> {
     }
 }
 
-/// The cell of a read, where these are the neighbours.
+/// The cell of a read, where these are the first cells of the neighbours.
 #[inline(always)]
-pub(crate) fn neighbour_cell(
-    tree: &Tree<'_>,
-    own: u32,
-    kid: u32,
-    before: u32,
-    read: NeighbourRead,
-) -> u32
-    requires neighbours { IsNeighbour tree.now own kid before read }
-    ensures cell { result ≡ neighbour_cell tree.now own kid before read }
+pub(crate) fn neighbour_cell(own: u32, kid: u32, before: u32, read: NeighbourRead) -> u32
+    requires neighbours { IsNeighbour own kid before read }
+    ensures cell { result ≡ neighbour_cell own kid before read }
 {
-    tree.instance(site_node(own, kid, before, read.site), read.attr)
+    first_cell(own, kid, before, read.site) + read.place
 }
 
-/// The node of a site.
+/// The first cell of the node of a site.
 #[inline(always)]
-fn site_node(own: u32, kid: u32, before: u32, site: NeighbourSite) -> u32
-    ensures node { result ≡ site_node own kid before site }
+fn first_cell(own: u32, kid: u32, before: u32, site: NeighbourSite) -> u32
+    ensures cell { result ≡ first_cell own kid before site }
 {
     match site {
         NeighbourSite::Own => own,

@@ -12,6 +12,6 @@ mod reads;
 
 pub use cursor::NeighbourCells;
 pub(crate) use cursor::neighbour_cell;
-pub use laws::{parts_of_each_form, parts_of_notes};
+pub use laws::{parts_of_each_form, parts_of_notes, places_of_notes};
 pub use parts::{NeighbourParts, neighbour_parts};
 pub use reads::{NeighbourRead, NeighbourSite};

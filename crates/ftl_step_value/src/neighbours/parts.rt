@@ -2,6 +2,7 @@
 ghost use Rattle.std.specs.Prelude.{◌≡◌, false, map, None, Some, IfOk};
 ghost use Rattle.ftl_deps.specs.reads.Meant.{meant};
 ghost use Rattle.ftl_step_value.specs.limits.reads.ReadTables.{AreTables};
+ghost use Rattle.ftl_tree.specs.rows.ClassRows.{AreAttributePlaces};
 ghost use Rattle.ftl_deps.specs.parts.RuleParts.{parts_meant, read_meant};
 ghost use Rattle.ftl_step_value.specs.neighbours.NeighbourParts.{AreNeighbourParts, fold_parts};
 ghost use Rattle.ftl_step_value.specs.neighbours.NeighbourParts.{kids_parts};
@@ -31,9 +32,11 @@ pub enum NeighbourParts {
 /// What each rule reads of neighbours, by the rule's number.
 pub fn neighbour_parts(
     alloc: Global,
+    places: &[u32],
     tables: &ReadTables,
     checked: &Checked,
 ) -> Result<Vec<NeighbourParts>, AllocError>
+    requires places { AreAttributePlaces (meant checked.now) places.now }
     requires tables { AreTables (meant checked.now) tables.now }
     ensures parts { IfOk result (λ v. AreNeighbourParts checked.now v.items) }
 {
@@ -42,7 +45,7 @@ pub fn neighbour_parts(
     let mut parts = Vec::new(alloc);
     for rule in 0..checked.rule_count() {
         let child = checked.rule(rule).child;
-        parts.push(parts_of(alloc, child, &rows[rule as usize])?)?;
+        parts.push(parts_of(alloc, places, child, &rows[rule as usize])?)?;
     }
     Ok(parts)
 }
@@ -51,31 +54,36 @@ pub fn neighbour_parts(
 /// the node itself.
 fn parts_of(
     alloc: Global,
+    places: &[u32],
     child: Option<u32>,
     parts: &RuleParts,
 ) -> Result<NeighbourParts, AllocError>
-    ensures parts { IfOk result (λ p. p ≡ neighbour_parts_of child (parts_meant parts.now)) }
+    ensures parts { IfOk result (λ p. p ≡ neighbour_parts_of places.now child (parts_meant parts.now)) }
 {
     match parts {
         RuleParts::Plain(reads) => match child {
-            None => own_parts(alloc, reads.as_slice()),
-            Some(of) => kids_parts(alloc, of, reads.as_slice(), false, reads.as_slice()),
+            None => own_parts(alloc, places, reads.as_slice()),
+            Some(of) => kids_parts(alloc, places, of, reads.as_slice(), false, reads.as_slice()),
         },
         RuleParts::FirstThen(first, later) => match child {
             None => Ok(NeighbourParts::Far),
-            Some(of) => kids_parts(alloc, of, first.as_slice(), true, later.as_slice()),
+            Some(of) => kids_parts(alloc, places, of, first.as_slice(), true, later.as_slice()),
         },
         RuleParts::FoldOver(over, start, step) => {
-            fold_parts(alloc, *over, start.as_slice(), step.as_slice())
+            fold_parts(alloc, places, *over, start.as_slice(), step.as_slice())
         }
     }
 }
 
-fn own_parts(alloc: Global, reads: &[PartRead]) -> Result<NeighbourParts, AllocError>
+fn own_parts(
+    alloc: Global,
+    places: &[u32],
+    reads: &[PartRead],
+) -> Result<NeighbourParts, AllocError>
     ensures parts { IfOk result (λ p.
-        p ≡ own_parts (neighbour_list None false (map read_meant reads.now))) }
+        p ≡ own_parts (neighbour_list places.now None false (map read_meant reads.now))) }
 {
-    match neighbour_list(alloc, None, false, reads)? {
+    match neighbour_list(alloc, places, None, false, reads)? {
         Some(reads) => Ok(NeighbourParts::Own(reads)),
         None => Ok(NeighbourParts::Far),
     }
@@ -85,17 +93,18 @@ fn own_parts(alloc: Global, reads: &[PartRead]) -> Result<NeighbourParts, AllocE
 /// for the first.
 fn kids_parts(
     alloc: Global,
+    places: &[u32],
     child: u32,
     first: &[PartRead],
     is_later: bool,
     later: &[PartRead],
 ) -> Result<NeighbourParts, AllocError>
     ensures parts { IfOk result (λ p. p ≡ kids_parts child
-        (neighbour_list (Some child) false (map read_meant first.now))
-        (neighbour_list (Some child) is_later (map read_meant later.now))) }
+        (neighbour_list places.now (Some child) false (map read_meant first.now))
+        (neighbour_list places.now (Some child) is_later (map read_meant later.now))) }
 {
-    let first = neighbour_list(alloc, Some(child), false, first)?;
-    let later = neighbour_list(alloc, Some(child), is_later, later)?;
+    let first = neighbour_list(alloc, places, Some(child), false, first)?;
+    let later = neighbour_list(alloc, places, Some(child), is_later, later)?;
     match (first, later) {
         (Some(first), Some(later)) => Ok(NeighbourParts::Kids(child, first, later)),
         _ => Ok(NeighbourParts::Far),
@@ -104,16 +113,17 @@ fn kids_parts(
 
 fn fold_parts(
     alloc: Global,
+    places: &[u32],
     child: u32,
     start: &[PartRead],
     step: &[PartRead],
 ) -> Result<NeighbourParts, AllocError>
     ensures parts { IfOk result (λ p. p ≡ fold_parts child
-        (neighbour_list None false (map read_meant start.now))
-        (neighbour_list (Some child) false (map read_meant step.now))) }
+        (neighbour_list places.now None false (map read_meant start.now))
+        (neighbour_list places.now (Some child) false (map read_meant step.now))) }
 {
-    let start = neighbour_list(alloc, None, false, start)?;
-    let step = neighbour_list(alloc, Some(child), false, step)?;
+    let start = neighbour_list(alloc, places, None, false, start)?;
+    let step = neighbour_list(alloc, places, Some(child), false, step)?;
     match (start, step) {
         (Some(start), Some(step)) => Ok(NeighbourParts::Fold(child, start, step)),
         _ => Ok(NeighbourParts::Far),

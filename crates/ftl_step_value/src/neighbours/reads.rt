@@ -20,25 +20,29 @@ pub enum NeighbourSite {
     Before,
 }
 
-/// A read of an attribute, by number, of a neighbour.
+/// A read of an attribute of a neighbour.
 #[derive(Clone, Copy)]
 pub struct NeighbourRead {
     pub site: NeighbourSite,
-    pub attr: u32,
+    /// The place of the attribute among those of its node's class.
+    pub place: u32,
 }
 
-/// What the reads of a part are of neighbours; none where one of them is of another.
+/// What the reads of a part are of neighbours; none where one of them is of another. Of each
+/// attribute the place is given.
 pub(crate) fn neighbour_list(
     alloc: Global,
+    places: &[u32],
     child: Option<u32>,
     later: bool,
     reads: &[PartRead],
 ) -> Result<Option<Items<NeighbourRead>>, AllocError>
-    ensures list { IfOk result (λ o. o ≡ neighbour_list child later (map read_meant reads.now)) }
+    ensures list { IfOk result (λ o. o
+        ≡ neighbour_list places.now child later (map read_meant reads.now)) }
 {
     let mut neighbours = Items::new(alloc);
     for read in reads {
-        match neighbour_read(child, later, *read) {
+        match neighbour_read(places, child, later, *read) {
             Some(read) => neighbours.push(read)?,
             None => return Ok(None),
         }
@@ -47,15 +51,21 @@ pub(crate) fn neighbour_list(
 }
 
 /// What a read is of neighbours, in a part that stands at a kid of this child, or at no kid.
-fn neighbour_read(child: Option<u32>, later: bool, read: PartRead) -> Option<NeighbourRead>
-    ensures read { result ≡ neighbour_read child later (read_meant read) }
+fn neighbour_read(
+    places: &[u32],
+    child: Option<u32>,
+    later: bool,
+    read: PartRead,
+) -> Option<NeighbourRead>
+    ensures read { result ≡ neighbour_read places.now child later (read_meant read) }
 {
     match read {
-        PartRead::Own(attr) => neighbour_if(true, NeighbourSite::Own, attr),
+        PartRead::Own(attr) => neighbour_if(places, true, NeighbourSite::Own, attr),
         PartRead::Each(of, attr) | PartRead::This(of, attr) => {
-            neighbour_if(is_child(child, of), NeighbourSite::Kid, attr)
+            neighbour_if(places, is_child(child, of), NeighbourSite::Kid, attr)
         }
         PartRead::Prev(of, attr) => neighbour_if(
+            places,
             later && is_child(child, of),
             NeighbourSite::Before,
             attr,
@@ -64,13 +74,23 @@ fn neighbour_read(child: Option<u32>, later: bool, read: PartRead) -> Option<Nei
     }
 }
 
-fn neighbour_if(is_neighbour: bool, site: NeighbourSite, attr: u32) -> Option<NeighbourRead>
-    ensures read { result ≡ neighbour_if is_neighbour site attr }
+fn neighbour_if(
+    places: &[u32],
+    is_neighbour: bool,
+    site: NeighbourSite,
+    attr: u32,
+) -> Option<NeighbourRead>
+    ensures read { result ≡ neighbour_if places.now is_neighbour site attr }
 {
-    if is_neighbour {
-        Some(NeighbourRead { site, attr })
-    } else {
-        None
+    if !is_neighbour {
+        return None;
+    }
+    match places.get(attr as usize) {
+        Some(place) => Some(NeighbourRead {
+            site,
+            place: *place,
+        }),
+        None => None,
     }
 }
 

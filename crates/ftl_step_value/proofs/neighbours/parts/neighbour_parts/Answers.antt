@@ -26,6 +26,7 @@ pub loop-rule-preserved : goal.loop-rule-preserved
 loop-rule-preserved c =
     let checked = c.args.checked.now in
     let g = meant checked in
+    let ps = c.args.places.now in
     let n = c.loop-rule.rule in
     let told : n < length (all_rules checked.grammar) = grind (arith, common_steps) in
     let i = rule_info_at checked.grammar n in
@@ -34,24 +35,29 @@ loop-rule-preserved c =
     let row = ap parts_meant c.index-rows-rule.is
     ∙ (table_parts checked c.grammar-lawful.ensures.lawful n c.index-rows-rule.result c.as_slice-rows.ensures
     c.requires.tables.parts told).1 in
-    let is : made ≡ neighbour_parts_named g (name_of_info i) =
+    let is : made ≡ neighbour_parts_named ps g (name_of_info i) =
     c.in_ok-parts_of.ensures.parts
-    ∙ ap₂ neighbour_parts_of
+    ∙ ap₂ (neighbour_parts_of ps)
     (ap (λ (info : RuleInfo). info.child) c.rule-child.ensures.info ∙ sym (name_entry i.class i.attr i.child))
     (row ∙ ap (parts_named g) (info_is checked c.grammar-lawful.ensures.lawful n told)) in
     items
     ∙ ap₂ (λ (a : List NeighbourParts) (b : NeighbourParts). a ++ b ∷ []) c.loop-rule.invariant is
-    ∙ sym (map-append (neighbour_parts_named g) (take n g.rules) (name_of_info i ∷ []))
-    ∙ ap (map (neighbour_parts_named g)) (sym (rules_more checked c.grammar-lawful.ensures.lawful n told))
+    ∙ sym (map-append (neighbour_parts_named ps g) (take n g.rules) (name_of_info i ∷ []))
+    ∙ ap (map (neighbour_parts_named ps g)) (sym (rules_more checked c.grammar-lawful.ensures.lawful n told))
 
 pub returns : goal.returns
 returns c =
     let checked = c.args.checked.now in
     let rules = (meant checked).rules in
     let done : c.loop-rule.rule ≡ length (all_rules checked.grammar) = grind (arith, common_steps) in
+    let named = neighbour_parts_named c.args.places.now (meant checked) in
     record {
-      parts =
-          c.loop-rule.invariant
-          ∙ ap (λ n. map (neighbour_parts_named (meant checked)) (take n rules)) done
-          ∙ ap (map (neighbour_parts_named (meant checked))) (rules_all checked c.grammar-lawful.ensures.lawful);
+      parts = record {
+        places = c.args.places.now;
+        places_are = c.requires.places;
+        table =
+            c.loop-rule.invariant
+            ∙ ap (λ n. map named (take n rules)) done
+            ∙ ap (map named) (rules_all checked c.grammar-lawful.ensures.lawful);
+      };
     }

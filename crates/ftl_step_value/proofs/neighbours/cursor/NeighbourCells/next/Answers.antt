@@ -9,14 +9,14 @@ neighbour_cell-requires c =
     let i = c.loop-self.self-inside in
     record {
       neighbours =
-          first_neighbour i.tree.now i.own i.kid i.before i.each.now i.reads.now i.kids.now _ c.in-len1-up.len_at_least
+          first_neighbour i.own i.kid i.before i.each.now i.reads.now i.kids.now _ c.in-len1-up.len_at_least
           c.loop-self.invariant.cursor;
     }
 
 pub invariant_of-self : goal.invariant_of-self
 invariant_of-self c =
     let i = c.loop-self.self-inside in
-    other_neighbours i.tree.now i.own i.kid i.before i.each.now i.reads.now i.kids.now c.in-len1-up.len_at_least
+    other_neighbours i.own i.kid i.before i.each.now i.reads.now i.kids.now c.in-len1-up.len_at_least
     c.loop-self.invariant.cursor
 
 pub loop-self-preserved : goal.loop-self-preserved
@@ -24,10 +24,10 @@ loop-self-preserved c =
     let i = c.loop-self.self-inside in
     record {
       cursor =
-          kid_neighbour i.tree.now i.own i.kid i.before i.each.now i.reads.now i.kids.now c.in-len1-up-kids.len_at_least
+          kid_neighbour i.own i.kid i.before i.each.now i.reads.now i.kids.now c.in-len1-up-kids.len_at_least
           c.loop-self.invariant.cursor;
       left =
-          kid_cells i.tree.now i.own i.kid i.before i.each.now i.reads.now i.kids.now c.in_default.len_below
+          kid_cells i.own i.kid i.before i.each.now i.reads.now i.kids.now c.in_default.len_below
           c.in-len1-up-kids.len_at_least
           ∙ c.loop-self.invariant.left;
     }
