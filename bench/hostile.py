@@ -128,14 +128,14 @@ SHAPES = {
     "constants in a fold's step": in_a_step,
     "reads behind empty lasts": behind_empty_lasts,
     "empty passes": empty_passes,
-    "empty passes, 4 workers": empty_passes,
     "topdown passes at one node": topdown_at_one_node,
     "bottomup passes at one node": bottomup_at_one_node,
     "inorder passes at one node": inorder_at_one_node,
 }
 
-# What stands behind `run` for some of them.
-OPTIONS = {"empty passes, 4 workers": ["--workers", "4"]}
+# These are run by several workers, too.
+OF_PASSES = [name for name in SHAPES if "passes" in name]
+SEVERAL = ["--workers", "4"]
 
 
 def deep_document():
@@ -223,13 +223,15 @@ def grows_too_fast(costs):
 def main():
     runs = int(sys.argv[1]) if len(sys.argv) > 1 else 3
     program = program_at(2)
-    print(f"{'':28}" + "".join(f"{size:8} KiB{'':9}" for size in SIZES))
+    print(f"{'':39}" + "".join(f"{size:8} KiB{'':9}" for size in SIZES))
     failed = []
-    for name, shape in SHAPES.items():
-        costs = least_costs(program, OPTIONS.get(name, []), shape, runs)
+    kinds = [(name, SHAPES[name], []) for name in SHAPES]
+    kinds += [(f"{name}, 4 workers", SHAPES[name], SEVERAL) for name in OF_PASSES]
+    for name, shape, options in kinds:
+        costs = least_costs(program, options, shape, runs)
         if grows_too_fast(costs):
             failed.append(name)
-        print(f"{name:28}" + "".join(f"{s:8.3f} s {m:6.0f} MB  " for s, m in costs), flush=True)
+        print(f"{name:39}" + "".join(f"{s:8.3f} s {m:6.0f} MB  " for s, m in costs), flush=True)
     if not text_is_kept_once(program):
         failed.append("memory of a long answer")
     if not stacks_suffice(program):

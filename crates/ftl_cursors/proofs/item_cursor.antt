@@ -1,2 +1,4 @@
 pub mod TakenSteps
+pub mod PassesAt
 pub mod ItemVisits
+pub mod SteplessItems

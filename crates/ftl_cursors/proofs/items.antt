@@ -7,3 +7,5 @@ pub mod RowsByHost
 pub mod Starts
 pub mod StageFacts
 pub mod Found
+pub mod ItemNodes
+pub mod FirstClasses

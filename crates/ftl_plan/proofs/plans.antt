@@ -1,7 +1,10 @@
 pub mod Bridge
 mod FewPasses
 mod HostNumbers
+mod FoundItems
+mod Idle
 mod KeptKinds
+mod StageClasses
 mod Leaving
 mod Marking
 pub mod Driven

@@ -1,5 +1,6 @@
 pub mod StageParts
 pub mod KindPhases
+pub mod VisitsAlone
 pub mod Driving
 pub mod FormReads
 pub mod FilledStages

@@ -13,4 +13,4 @@ pub mod laws;
 pub mod phases;
 pub mod plans;
 
-pub use plans::{KindPhases, Plan, PlanFault, first_words, solve_alone};
+pub use plans::{ItemPhases, KindPhases, Plan, PlanFault, first_words, solve_alone};

@@ -1,9 +1,9 @@
 -- Sets with one more class, and classes that two sets have.
-use Rattle.std.proofs.Common.{◌≡◌, ◌≢◌, ℕ, ◌*◌, ◌%◌, ◌^◌, List, [], ◌∷◌, bit_and, bit_or, min, inl, inr, refl, sym, subst, ap, ap₂, ◌∙◌, arith}
+use Rattle.std.proofs.Common.{◌≡◌, ◌≢◌, ℕ, ◌*◌, ◌%◌, ◌^◌, List, [], ◌∷◌, bit_or, min, inl, inr, refl, sym, subst, ap, ap₂, ◌∙◌, arith}
 use Rattle.std.specs.Int.{bit_at, w128}
 use Rattle.std.proofs.lemmas.Bool.{cases_eq}
-use Rattle.std.proofs.lemmas.Nat.Bits.{bit_at-zero, bit_at_and, bit_at_set_other, bit_at_set_same}
-use Rattle.ftl_cursors.specs.classes.ClassSets.{HasAllOf, HasClass}
+use Rattle.std.proofs.lemmas.Nat.Bits.{bit_at-lt, bit_at-zero, bit_at_and, bit_at_or, bit_at_set_other, bit_at_set_same}
+use Rattle.ftl_cursors.specs.classes.ClassSets.{HasAllOf, HasClass, HaveNoneInCommon}
 
 -- the set with one more class
 abbrev pub set_with : (set class : ℕ) → ℕ
@@ -20,8 +20,22 @@ has_others set class other has =
           bit_at_set_other w128 set (class % 128) (omega arith) (other % 128) differs ∙ has
     ]
 
+-- two sets together have the classes of the first
+pub has_first : (set other : ℕ) → HasAllOf (bit_or set other) set
+has_first set other class has =
+    let both = bit_at_or set other (class % 128) in
+    let most = bit_at-lt other (class % 128) in
+    omega (arith, both, most, has)
+
+-- and those of the second
+pub has_second : (set other : ℕ) → HasAllOf (bit_or set other) other
+has_second set other class has =
+    let both = bit_at_or set other (class % 128) in
+    let most = bit_at-lt set (class % 128) in
+    omega (arith, both, most, has)
+
 -- sets that have no bit in common have no class in common
-pub none_in_both : (set other class : ℕ) → bit_and set other ≡ 0 → HasClass set class → HasClass other class → ⊥
+pub none_in_both : (set other class : ℕ) → HaveNoneInCommon set other → HasClass set class → HasClass other class → ⊥
 none_in_both set other class none has too =
     let one : min 1 1 ≡ 0 =
     sym (bit_at_and set other (class % 128) ∙ ap₂ (λ a b. min a b) has too)

@@ -20,7 +20,7 @@ use Rattle.ftl_model.specs.layout.Tree.{Forest, size}
 use Rattle.ftl_model.proofs.layout.Numbering.{has-node_at, number_of-node_at}
 use Rattle.ftl_order.specs.orders.Lawful.{IsLawful}
 use Rattle.ftl_order.specs.orders.Schedule as order
-use Rattle.ftl_order.specs.orders.Schedule.{EachStandsOnce, Schedule, empty_pass, pass_at, placing_of}
+use Rattle.ftl_order.specs.orders.Schedule.{EachStandsOnce, Schedule, empty_pass, placing_of}
 use Rattle.ftl_order.specs.orders.Sequence.{sequence}
 use Rattle.ftl_order.proofs.orders.Kids.{root_there}
 use Rattle.ftl_schedule.specs.declared.syntax.kind.PassKind.{PassKind}
@@ -40,13 +40,11 @@ use Rattle.ftl_cursors.specs.declared.visits.nodes.NodeOrder.TheVariants.{Preord
 use Rattle.ftl_cursors.proofs.items.Found.{told}
 use Rattle.ftl_cursors.proofs.items.RowFacts.{length-nodes_by}
 use Rattle.ftl_cursors.proofs.visits.ItemLemmas.{bottomup_targets, nodes_within, topdown_targets}
+use Rattle.ftl_cursors.proofs.item_cursor.PassesAt.{no_pass, numbered_is, pass_at, table_at, table_known, visits_at}
 use Rattle.ftl_visit.specs.declared.visits.visit_op.VisitOp.{VisitOp}
 use Rattle.ftl_visit.specs.passes.VisitRows.{visits_of}
 use Rattle.ftl_cursors.specs.item_cursor.ItemSteps.{AreItemTables, forest_in, form_in, grammar_in, order_of}
 use Rattle.ftl_cursors.specs.declared.item_cursor.item.ItemTables.{ItemTables}
-
-abbrev pub no_pass : Pass
-no_pass = record { kind = TopDown; attrs = [] }
 
 same_kind : (k l : PassKind) → kind_of k ≡ kind_of l → k ≡ l
 same_kind TopDown TopDown e = refl
@@ -70,27 +68,13 @@ module _ (x : ItemTables) (i : ℕ) (found : FoundItem) (is : IsFound x.items i 
 
   -- the pass of the item
   abbrev pub pass : Pass
-  pass = get_or x.items.passes.now found.pass no_pass
+  pass = pass_at x found.pass
 
   pub pass_is : pass_numbered x.items this.pass ≡ pass_of pass
-  pass_is =
-      ap (λ m. get_or (passes_in x.items) m empty_pass) (sym is.pass_is)
-      ∙ get_or-map pass_of x.items.passes.now found.pass no_pass empty_pass is.pass_known
+  pass_is = ap (pass_numbered x.items) (sym is.pass_is) ∙ numbered_is x found.pass is.pass_known
 
   pub kind_is : found.kind ≡ pass.kind
   kind_is = same_kind found.kind pass.kind (is.kind_is ∙ ap (λ (p : order.Pass). p.kind) pass_is)
-
-  -- the entry of a table of the passes
-  by_pass : {X : Type 0} (f : Pass → X) (xs : List X) (d : X) → xs ≡ map f x.items.passes.now
-      → get_or xs found.pass d ≡ f pass
-  by_pass f xs d are =
-      ap (λ ys. get_or ys found.pass d) are ∙ get_or-map f x.items.passes.now found.pass no_pass d is.pass_known
-
-  table_known : {X : Type 0} (f : Pass → X) (xs : List X) → xs ≡ map f x.items.passes.now → found.pass < length xs
-  table_known f xs are =
-      let long = ap length are ∙ length-map x.items.passes.now f in
-      let below = is.pass_known in
-      omega (arith, long, below)
 
   pub pass_listed : (d : Pass) → get_or x.items.passes.now found.pass d ≡ pass
   pass_listed d = get_or_default x.items.passes.now found.pass d no_pass is.pass_known
@@ -98,20 +82,20 @@ module _ (x : ItemTables) (i : ℕ) (found : FoundItem) (is : IsFound x.items i 
   pub visits_are : AreItemTables x → (d : List (List VisitOp))
       → get_or x.visits.now found.pass d ≡ visits_of (grammar_in x) found.kind pass.attrs
   visits_are tables d =
-      by_pass (pass_visits (grammar_in x)) x.visits.now d tables.visits
+      visits_at x found.pass is.pass_known tables d
       ∙ ap (λ k. visits_of (grammar_in x) k pass.attrs) (sym kind_is)
 
   pub visit_known : AreItemTables x → found.pass < length x.visits.now
-  visit_known tables = table_known (pass_visits (grammar_in x)) x.visits.now tables.visits
+  visit_known tables = table_known x found.pass is.pass_known (pass_visits (grammar_in x)) x.visits.now tables.visits
 
   pub places_are : AreItemTables x → (d : List (List BlockPlaces))
       → get_or x.places.now found.pass d ≡ places_of (visits_of (grammar_in x) found.kind pass.attrs)
   places_are tables d =
-      by_pass (pass_places (grammar_in x)) x.places.now d tables.places
+      table_at x found.pass is.pass_known (pass_places (grammar_in x)) x.places.now d tables.places
       ∙ ap (λ k. places_of (visits_of (grammar_in x) k pass.attrs)) (sym kind_is)
 
   pub places_known : AreItemTables x → found.pass < length x.places.now
-  places_known tables = table_known (pass_places (grammar_in x)) x.places.now tables.places
+  places_known tables = table_known x found.pass is.pass_known (pass_places (grammar_in x)) x.places.now tables.places
 
   pub number_is : number_of (forest_in x) this.first ≡ found.node
   number_is =
@@ -193,12 +177,12 @@ module _ (x : ItemTables) (i : ℕ) (found : FoundItem) (is : IsFound x.items i 
         ∙ has
 
     -- the pass in the schedule
-    pass_there : pass_at s stage this.pass ≡ pass_numbered x.items this.pass → pass_of pass ≡ pass_at s stage this.pass
+    pass_there : order.pass_at s stage this.pass ≡ pass_numbered x.items this.pass → pass_of pass ≡ order.pass_at s stage this.pass
     pass_there there = sym pass_is ∙ sym there
 
     -- and so is what the steps of an inorder pass compute
     pub sequence_is : StepsComputeTheSequence → found.kind ≡ InOrder → EachStandsOnce g s
-        → pass_at s stage this.pass ≡ pass_numbered x.items this.pass
+        → order.pass_at s stage this.pass ≡ pass_numbered x.items this.pass
         → map (target_of g t) (inorder_steps g t pass.attrs top) ≡ item_steps (form_in x s stage) t this
     sequence_is computes kind ordered there =
         ap (λ (p : order.Pass). map (target_of g t) (inorder_steps g t p.attributes top)) (pass_there there)

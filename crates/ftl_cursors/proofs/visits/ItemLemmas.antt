@@ -29,7 +29,7 @@ map-reverse f (x ∷ xs) =
     ∙ sym (reverse-cons (f x) (map f xs))
 
 -- the nodes of the item that begins at a node
-nodes_are : (is_whole : Path → Bool) (t : Forest) (p : Path) → Has t p
+pub nodes_are : (is_whole : Path → Bool) (t : Forest) (p : Path) → Has t p
     → map (node_at t) (range_with_len (number_of t p) (node_count_by is_whole t p)) ≡ nodes_by is_whole t p
 nodes_are is_whole t p there =
     elim (is_whole p) as

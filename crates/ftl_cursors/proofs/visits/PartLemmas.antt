@@ -60,11 +60,10 @@ in_part Preorder first count n among = in_range_from first count n among
 in_part Reverse first count n among = in_range_from first count n (in_reverse (range_with_len first count) n among)
 
 -- nodes none of which has steps have none
-none_of : (f : ℕ → List Step) (ns : List ℕ) → ((n : ℕ) → Contains ns n → f n ≡ []) → flat_map f ns ≡ []
+pub none_of : {X Y : Type 0} (f : X → List Y) (ns : List X) → ((n : X) → Contains ns n → f n ≡ []) → flat_map f ns ≡ []
 none_of f [] none = refl
 none_of f (n ∷ ns) none =
-    ap₂ (λ (a b : List Step). a ++ b) (none n (here_in n ns))
-    (none_of f ns (λ m among. none m (later_in n m ns among)))
+    ap₂ (λ xs ys. xs ++ ys) (none n (here_in n ns)) (none_of f ns (λ m among. none m (later_in n m ns among)))
 
 module _ (x : SparseTables) (are : AreSparseTables x) where
   -- the steps of a range are those of its parts

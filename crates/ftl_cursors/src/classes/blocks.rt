@@ -26,7 +26,7 @@ pub(crate) fn class_blocks(alloc: Global, tree: &Tree<'_>) -> Result<Vec<u128>, 
 }
 
 /// The classes of the nodes from the first on, up to the end.
-fn classes_between(tree: &Tree<'_>, first: u32, end: u32) -> u128
+pub(crate) fn classes_between(tree: &Tree<'_>, first: u32, end: u32) -> u128
     requires end { end ≤ size tree.now.tree }
     ensures classes { HasClassesBetween result tree.now.tree first end }
 {

@@ -8,5 +8,5 @@
 mod blocks;
 mod sets;
 
-pub(crate) use blocks::{FEWEST_NODES, class_blocks, is_sparse};
-pub(crate) use sets::{ruled_classes, visited_classes, with_class};
+pub(crate) use blocks::{FEWEST_NODES, class_blocks, classes_between, is_sparse};
+pub(crate) use sets::{ruled_classes, visited_classes, with_all, with_class};

@@ -14,6 +14,15 @@ pub(crate) fn with_class(set: u128, class: u32) -> u128
     set | 1 << (class % 128)
 }
 
+/// The set with all classes of another one.
+#[inline(always)]
+pub(crate) fn with_all(set: u128, other: u128) -> u128
+    ensures have { HasAllOf result other }
+    ensures stay { HasAllOf result set }
+{
+    set | other
+}
+
 /// The classes that a pass with these visits has operations for.
 pub(crate) fn visited_classes(visits: &PassVisits, class_count: u32) -> u128
     requires count { class_count ≡ length visits.now }

@@ -5,11 +5,15 @@
 
 mod cursor;
 mod item;
+mod laws;
 mod sparse;
 mod sparse_cursor;
 mod sparse_sequence;
+mod visited;
 
 pub use cursor::ItemCursor;
 pub use item::{ItemTables, found_steps};
+pub use laws::items_without_steps;
 pub use sparse::sparse_steps;
 pub use sparse_cursor::SparseCursor;
+pub use visited::visited_in;

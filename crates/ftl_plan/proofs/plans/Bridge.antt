@@ -125,7 +125,7 @@ module _ (w : StageParts) (fit : IsStage w) where
   abbrev these : List Item
   these = form_items g t (count_of w) (forms_of w)
 
-  items_same : items_in w.item_tables.own.items ≡ these
+  pub items_same : items_in w.item_tables.own.items ≡ these
   items_same =
       ap (λ n. items_by n (cuts_in w.item_tables.own.items) t) count_is_of
       ∙ ap (λ (cuts : ℕ → PassCut). items_by (count_of w) cuts t) cuts_are

@@ -9,6 +9,7 @@
 //! a stage may be shared by threads, as `proofs/plans/Shared.antt` shows.
 
 mod alone;
+mod blocks;
 mod filled;
 mod fitting;
 mod folding;
@@ -34,7 +35,7 @@ pub use alone::solve_alone;
 pub use ftl_step_value::limits::PlanFault;
 pub use kept::PlanStage;
 pub use parts::StageParts;
-pub use phases::KindPhases;
+pub use phases::{ItemPhases, KindPhases};
 pub use plan::Plan;
 pub use words::first_words;
 pub use work::StageWork;

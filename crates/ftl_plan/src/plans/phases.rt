@@ -1,27 +1,35 @@
-//! The phases of the items of stages, made once for stages whose passes are of the same kinds and have
-//! the same host classes.
+//! The phases of the items of stages, and the classes of their nodes, made once for stages whose
+//! passes are of the same kinds and have the same host classes.
 ghost use Rattle.std.specs.Prelude.{◌≡◌, ◌<◌, length, map, true, IfOk, IfSome, OnOk};
 ghost use Rattle.std.specs.List.{All};
 ghost use Rattle.ftl_cursors.specs.items.StageItems.{hosts_in, passes_in};
 ghost use Rattle.ftl_plan.specs.phases.StagePhases.{kinds_in};
-ghost use Rattle.ftl_plan.specs.plans.KindPhases.{AreOfKinds, CanTakeAt, FitKinds, hosts_at};
-ghost use Rattle.ftl_plan.specs.plans.KindPhases.{kinds_at, kinds_told};
+ghost use Rattle.ftl_plan.specs.plans.KindPhases.{AreForStageAt, AreOfKinds, FitKinds, FitLots};
+ghost use Rattle.ftl_plan.specs.plans.KindPhases.{hosts_at, kinds_at, kinds_told};
 
 use crate::phases::stage_phases;
 use crate::plans::work::StageWork;
-use ftl_cells::Phases;
 use ftl_cursors::StageItems;
-use ftl_cursors::items::is_one_host;
+use ftl_cursors::items::{is_one_host, item_classes};
+use ftl_lots::LotPhases;
 use ftl_schedule::{Pass, PassKind};
 use std::alloc::{AllocError, Global};
 
-/// The phases of the items of a stage whose passes are of these kinds and have these host classes, or
-/// None where ranges don't pay.
+/// The phases of the items of a stage, and for each 64 of them that follow one another the classes
+/// of their nodes.
+#[derive(Drop)]
+pub struct ItemPhases {
+    pub phases: LotPhases,
+    pub classes: Vec<u128>,
+}
+
+/// Those of a stage whose passes are of these kinds and have these host classes, or None where
+/// ranges don't pay.
 #[derive(Drop)]
 pub struct KindPhases {
     pub kinds: Vec<PassKind>,
     pub hosts: Vec<Option<u32>>,
-    pub phases: Option<Phases>,
+    pub lots: Option<ItemPhases>,
 }
 
 // Schedules take turns with few lists of kinds, and the phases of each take memory.
@@ -41,7 +49,7 @@ impl<'a> StageWork<'a> {
         requires kept { All (FitKinds self.now) kept.old.items }
         ensures kept { OnOk result (All (FitKinds self.now) kept.new.items) }
         ensures place { IfOk result (λ p. p < length kept.new.items) }
-        ensures phases { IfOk result (CanTakeAt self.now kept.new.items) }
+        ensures phases { IfOk result (AreForStageAt self.now kept.new.items) }
     {
         let items = self.parts.item_tables.own.items;
         if let Some(place) = place_of(items, kept.as_slice()) {
@@ -61,14 +69,25 @@ impl<'a> StageWork<'a> {
         ensures hosts { IfOk result (λ k. k.hosts.items ≡ hosts_at self.now) }
     {
         let items = self.parts.item_tables.own.items;
-        let phases = stage_phases(alloc, items, ranges)?;
+        let lots = self.item_phases(alloc, ranges)?;
         let kinds = kinds_of(alloc, items.passes)?;
         let hosts = hosts_of(alloc, items)?;
-        Ok(KindPhases {
-            kinds,
-            hosts,
-            phases,
-        })
+        Ok(KindPhases { kinds, hosts, lots })
+    }
+
+    /// The same without the kinds and the host classes.
+    fn item_phases(&self, alloc: Global, ranges: u32) -> Result<Option<ItemPhases>, AllocError>
+        requires some { 0 < ranges }
+        ensures fit { IfOk result (λ l. IfSome l
+            (FitLots self.now (kinds_at self.now) (hosts_at self.now))) }
+    {
+        let items = self.parts.item_tables.own.items;
+        let Some(phases) = stage_phases(alloc, items, ranges)? else {
+            return Ok(None);
+        };
+        let phases = LotPhases::new(alloc, phases, self.parts.items())?;
+        let classes = item_classes(alloc, items)?;
+        Ok(Some(ItemPhases { phases, classes }))
     }
 }
 

@@ -5,12 +5,13 @@ ghost use Rattle.ftl_deps.specs.reads.Meant.{meant};
 ghost use Rattle.ftl_items.specs.stage_items.WordLaws.{HoldTheSolution};
 ghost use Rattle.ftl_items.specs.solution.Solution.{solution};
 ghost use Rattle.ftl_cells.specs.work_phases.Phases.{CanTake};
-ghost use Rattle.ftl_cells.specs.declared.work_phases.phase.Phases.{Phases};
+ghost use Rattle.ftl_lots.specs.filling.Blocks.{AreIdle};
+ghost use Rattle.ftl_plan.specs.declared.plans.phases.ItemPhases.{ItemPhases};
 
-use ftl_cells::{Cells, Phases, Work};
+use ftl_cells::{Cells, Work};
 use ftl_edge::Gate;
-use ftl_lots::{CellWords, run_lots};
-use ftl_plan::{Plan, solve_alone};
+use ftl_lots::{CellWords, ItemBlocks, run_lots};
+use ftl_plan::{ItemPhases, Plan, solve_alone};
 use ftl_steal::{run_alone, run_stage};
 use std::alloc::{AllocError, Global};
 use std::sync::Wait;
@@ -36,14 +37,16 @@ pub fn solve<R: Threads + Wait + Sync, G: Gate>(
     }
     plan.words_fit();
     let filling = plan.filling_stages(alloc)?;
-    let lots = lot_count(plan.node_count(), plan.cell_count(), workers);
+    let count = lot_count(plan.node_count(), plan.cell_count(), workers);
     let mut words = CellWords::in_a_row(plan.first_words(alloc)?, Vec::new(alloc));
     let mut kept = Vec::new(alloc);
     for stage in 0..plan.stage_count() {
         if filling[stage as usize] {
             let work = plan.stage(stage);
-            let place = work.phases(alloc, lots, &mut kept)?;
-            words = words_after(rt, alloc, work, &kept[place].phases, words, workers, gate)?;
+            let place = work.phases(alloc, count, &mut kept)?;
+            let lots = &kept[place].lots;
+            let blocks = work.blocks(lots);
+            words = words_after(rt, alloc, work, lots, blocks, words, workers, gate)?;
         }
     }
     let (row, _parts) = words.into_row(rt);
@@ -71,18 +74,21 @@ fn lot_count(nodes: u32, cells: u32, workers: u32) -> u32
 
 /// The words after a work, from those that fit it. An item by itself is computed by the calling
 /// thread on the words as they are. Elsewhere workers share cells and take items from each other:
-/// those of the work, or where the items have phases lots of them.
+/// those of the work, or where the items have phases lots of them. Lots pass over blocks of items
+/// without steps.
 fn words_after<R: Threads + Wait + Sync, W: Work + Drop, G: Gate>(
     rt: &R,
     alloc: Global,
     work: W,
-    phases: &Option<Phases>,
+    lots: &Option<ItemPhases>,
+    blocks: ItemBlocks<'_>,
     words: CellWords,
     workers: u32,
     gate: &G,
 ) -> Result<CellWords, AllocError>
     requires first { AreFirst (W.meaning work) words }
-    requires phases { (t : Phases) → phases.now ≡ Some t → CanTake (W.meaning work) t }
+    requires phases { (l : ItemPhases) → lots.now ≡ Some l → CanTake (W.meaning work) l.phases }
+    requires idle { AreIdle (W.meaning work) blocks }
     requires some { 0 < workers }
     requires few { workers ≤ 64 }
     ensures last { IfOk result (AreLast (W.meaning work)) }
@@ -92,8 +98,8 @@ fn words_after<R: Threads + Wait + Sync, W: Work + Drop, G: Gate>(
         let row = run_alone(alloc, &work, row)?;
         return Ok(CellWords::in_a_row(row, parts));
     }
-    if let Some(phases) = phases {
-        return run_lots(rt, alloc, &work, phases, words, workers, gate);
+    if let Some(lots) = lots {
+        return run_lots(rt, alloc, &work, &lots.phases, blocks, words, workers, gate);
     }
     let (row, parts) = words.into_row(rt);
     let (cells, hand) = Cells::open(alloc, work, row)?;

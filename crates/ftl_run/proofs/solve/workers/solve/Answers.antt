@@ -1,16 +1,18 @@
 use denote.Param.Send.{sendable}
-use Rattle.std.proofs.Common.{◌≡◌, ◌+◌, ◌<◌, ap, false, true, get_or, length, refl, sym, subst, ◌∙◌, arith, Some}
+use Rattle.std.proofs.Common.{◌≡◌, ℕ, ◌+◌, ◌<◌, ap, false, true, List, get_or, length, refl, sym, subst, ◌∙◌, arith, Some}
 use Rattle.std.proofs.lemmas.List.{get_or_default}
 use Rattle.std.specs.List.{All}
 use Rattle.std.proofs.lemmas.List.Elements.{All-nil}
 use Rattle.std.proofs.lemmas.Option.{slice_get_read}
 use Rattle.ftl_cells.specs.shared.State.{AreFirst, AreLast}
 use Rattle.ftl_cells.specs.work_phases.Phases.{CanTake}
-use Rattle.ftl_cells.specs.declared.work_phases.phase.Phases.{Phases}
+use Rattle.ftl_lots.specs.filling.Blocks.{AreIdle}
 use Rattle.ftl_deps.specs.reads.Meant.{meant}
 use Rattle.ftl_items.specs.solution.Solution.{solution}
 use Rattle.ftl_items.specs.stage_items.WordLaws.{HoldTheSolution}
-use Rattle.ftl_plan.specs.plans.KindPhases.{FitKinds}
+use Rattle.ftl_plan.specs.declared.plans.phases.ItemPhases.{ItemPhases}
+use Rattle.ftl_plan.specs.declared.plans.phases.KindPhases.{KindPhases}
+use Rattle.ftl_plan.specs.plans.KindPhases.{AreForStage, AreForStageAt, FitKinds}
 use Rattle.ftl_plan.specs.plans.StageParts.{StageView, meaning_at}
 use Rattle.ftl_plan.specs.plans.StageTables.{stage_in}
 use Rattle.ftl_plan.specs.plans.StageWords.{FitStage}
@@ -31,6 +33,12 @@ phases-requires-clause-kept g c =
     subst (λ (v : StageView). All (FitKinds v) c.loop-stage.kept.items) (sym c.stage-work.ensures.stage)
     c.loop-stage.invariant.1
 
+-- the entry at the place is for the stage
+for_stage : (kept : List KindPhases) (place : ℕ) (entry : KindPhases) (v : StageView) → place < length kept
+    → entry ≡ get_or kept place entry → AreForStageAt v kept place
+    → (l : ItemPhases) → entry.lots ≡ Some l → AreForStage v l
+for_stage kept place entry v known is are l some = are entry l (slice_get_read kept _ place entry refl known is) some
+
 -- the work may be shared, and means what the words fit
 pub words_after-requires : goal.words_after-requires
 words_after-requires g c κs =
@@ -39,13 +47,23 @@ words_after-requires g c κs =
     c.loop-stage.invariant.0.first in
     let kept = c.phases.new.kept.items in
     let entry = c.index-then-index.result.now in
-    let takes : (t : Phases) → entry.phases ≡ Some t → CanTake (meaning_at c.stage-work.result) t =
-    λ t is.
-    c.in_ok-place.ensures.phases entry t
-    (slice_get_read kept _ c.in_ok-place.place entry refl c.in_ok-place.ensures.place c.index-then-index.ensures) is in (
+    let takes : (l : ItemPhases) → entry.lots ≡ Some l → CanTake (meaning_at c.stage-work.result) l.phases =
+    λ l is. (for_stage kept c.in_ok-place.place entry c.stage-work.result c.in_ok-place.ensures.place
+    c.index-then-index.ensures c.in_ok-place.ensures.phases l is).taken in
+    let idle : AreIdle (meaning_at c.stage-work.result) c.blocks-blocks.result = c.blocks-blocks.ensures.idle in (
       search sendable depth 30,
-      (search (stage_work_sync, sendable) depth 30, (search sendable depth 30, (first, (takes, (c.requires.some, c.requires.few))))),
+      (
+        search (stage_work_sync, sendable) depth 30,
+        (search sendable depth 30, (first, (takes, (idle, (c.requires.some, c.requires.few))))),
+      ),
     )
+
+-- what is kept at the place is for the stage
+pub blocks-blocks-requires : goal.blocks-blocks-requires
+blocks-blocks-requires g c = record {
+  lots = for_stage c.phases.new.kept.items c.in_ok-place.place c.index-then-index.result.now c.stage-work.result
+      c.in_ok-place.ensures.place c.index-then-index.ensures c.in_ok-place.ensures.phases;
+}
 
 pub loop-stage-preserved : goal.loop-stage-preserved
 loop-stage-preserved g c =

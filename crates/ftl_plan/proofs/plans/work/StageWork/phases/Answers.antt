@@ -10,7 +10,7 @@ use Rattle.ftl_plan.specs.plans.KindPhases.{AreOfKinds, FitKinds, hosts_at, kind
 use Rattle.ftl_plan.specs.plans.StageParts.{StageView, schedule_of}
 use Rattle.ftl_cursors.specs.items.StageItems.{passes_in}
 use Rattle.ftl_nest_check.specs.stages.Nested.{nests_of}
-use Rattle.ftl_plan.proofs.plans.KeptKinds.{can_take_at, kinds_of_stage, one_more, stands_last}
+use Rattle.ftl_plan.proofs.plans.KeptKinds.{for_stage_at, kinds_of_stage, one_more, stands_last}
 use Rattle.ftl_plan.proofs.plans.work.StageWork.phases.Goals as goal
 
 -- the stage has a plan
@@ -26,7 +26,7 @@ returns-in-Some-clause-phases c =
     let kinds =
     kinds_of_stage w.item_tables (schedule_of w) w.stage c.self.invariant.passes ∙ ap kinds_at c.self.view_is in
     let hosts = c.self.invariant.passes.hosts ∙ ap hosts_at c.self.view_is in
-    can_take_at v kept place (subst HasPlan c.self.view_is c.self.invariant.can) c.requires.kept
+    for_stage_at v kept place (subst HasPlan c.self.view_is c.self.invariant.can) c.requires.kept
     (subst (λ (xs : List KindPhases). AreOfKinds xs (kinds_at v) (hosts_at v) place) c.as_slice.ensures.value
     (subst (λ (ks : List order.PassKind). AreOfKinds c.as_slice.result.now ks (hosts_at v) place) kinds
     (subst
@@ -57,6 +57,6 @@ returns-clause-phases c =
     let whole = c.push.new.self.ok.0 in
     let last : length before ≡ c.len.result - 1 = omega (arith, long, counted, whole) in
     let there = stands_last before made (kinds_at v) (hosts_at v) c.in_ok-made.ensures.kinds c.in_ok-made.ensures.hosts in
-    can_take_at v all (c.len.result - 1) (subst HasPlan c.self.view_is c.self.invariant.can) fits
+    for_stage_at v all (c.len.result - 1) (subst HasPlan c.self.view_is c.self.invariant.can) fits
     (subst (λ (n : ℕ). AreOfKinds all (kinds_at v) (hosts_at v) n) last
     (subst (λ (xs : List KindPhases). AreOfKinds xs (kinds_at v) (hosts_at v) (length before)) (sym joined) there))
