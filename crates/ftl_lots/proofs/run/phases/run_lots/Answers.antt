@@ -1,20 +1,29 @@
 use Rattle.std.proofs.Common.{◌≡◌, ◌+◌, subst, sym, ap, ◌∙◌, length, arith}
-use Rattle.ftl_cells.specs.shared.Work.{cell_total}
+use Rattle.ftl_cells.specs.shared.Work.{cell_total, item_total}
 use Rattle.ftl_cells.specs.shared.State.{AreLast}
 use Rattle.ftl_cells.specs.work_phases.Phases.{CanTake}
 use Rattle.ftl_cells.specs.declared.work_phases.phase.Phase.TheVariants.{First}
 use Rattle.ftl_lots.specs.filling.Filled.{HoldMade, IsFilledIn, IsOfFirstOrRanges}
+use Rattle.ftl_lots.specs.filling.Spans.{AreSpans}
 use Rattle.ftl_lots.specs.words.Parts.{IsCut, all_words}
 use Rattle.ftl_lots.proofs.filling.Joins.{begins, ends, first_made, last_begins}
 use Rattle.ftl_lots.proofs.run.LotParts.{begun, filled_cut, first_begins, joined, lots_end}
 use Rattle.ftl_lots.proofs.run.phases.run_lots.Goals as goal
 
 pub invariant_of-filler : goal.invariant_of-filler
-invariant_of-filler g c κs within =
+invariant_of-filler g c =
     let m = g.W.Meant.meaning c.args.work.now in
     let t = c.phases.inside.phases in
     let can : CanTake m t = subst (CanTake m) (sym c.phases.view_is) c.requires.phases in
-    ?
+    let same : c.as_slice.result.now ≡ c.phases.inside.spans.items = c.as_slice.ensures.value in record {
+      lawful = c.items-items.ensures.lawful;
+      taken = can;
+      narrow = omega arith;
+      count = (let n = ap length same in let k = c.phases.invariant.0 in omega (arith, n, k));
+      spanned = subst (AreSpans t (item_total m)) (sym same)
+          (subst (λ n. AreSpans t n c.phases.inside.spans.items) can.count c.phases.invariant.1);
+      idle = c.requires.idle;
+    }
 
 pub fill_alone-requires-clause-filled : goal.fill_alone-requires-clause-filled
 fill_alone-requires-clause-filled g c κs within =
