@@ -30,7 +30,7 @@ use Rattle.ftl_cursors.specs.stages.PassTables.{ArePassTables}
 use Rattle.ftl_cursors.specs.visits.ItemSteps.{node_count_by}
 use Rattle.ftl_cursors.specs.visits.NodeRanges.{nodes_in}
 use Rattle.ftl_cursors.specs.declared.items.view.FoundItem.{FoundItem}
-use Rattle.ftl_cursors.proofs.item_cursor.ItemVisits as flat
+use Rattle.ftl_cursors.proofs.item_cursor.PassesAt as passes_at
 use Rattle.ftl_cursors.proofs.item_cursor.ItemVisits.{node_there, number_is, pass, pass_is, whole}
 use Rattle.ftl_host_cursors.specs.HostLaws.{StandFor}
 use Rattle.ftl_host_cursors.specs.HostPlaces.{steps_in}
@@ -184,7 +184,7 @@ module _ (x : NestTables) (i : ℕ) (found : FoundItem) (is : IsFound x.own.item
         ∙ ap (λ (inner : List Pass). host_steps g t y.pass.now (Some nest.host) inner
         (nodes_in (order_of y.pass.now.kind) found.node count)) of.inner
         ∙ ap (λ (p : Pass). host_steps g t p (Some nest.host) nest.passes.items
-        (nodes_in (order_of p.kind) found.node count)) (of.pass flat.no_pass)
+        (nodes_in (order_of p.kind) found.node count)) (of.pass passes_at.no_pass)
         ∙ ap (λ n. host_steps g t (pass x.own i found is) (Some nest.host) nest.passes.items
         (nodes_in (order_of (pass x.own i found is).kind) n count)) (sym (number_is x.own i found is))
         ∙ ap (λ n. host_steps g t (pass x.own i found is) (Some nest.host) nest.passes.items

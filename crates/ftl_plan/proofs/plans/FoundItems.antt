@@ -18,7 +18,7 @@ use Rattle.ftl_tree.proofs.rows.Access.{size-one}
 use Rattle.ftl_cursors.specs.items.StageItems.{IsFound, cuts_in, item_in, items_in, pass_numbered, passes_in, start_in, tree_of}
 use Rattle.ftl_cursors.specs.declared.items.view.FoundItem.{FoundItem}
 use Rattle.ftl_cursors.specs.declared.items.view.StageItems.{StageItems}
-use Rattle.ftl_cursors.proofs.item_cursor.ItemVisits.{no_pass}
+use Rattle.ftl_cursors.proofs.item_cursor.PassesAt.{no_pass}
 use Rattle.ftl_cursors.proofs.items.Starts.{pass_kind}
 
 module _ (s : StageItems) (i : ℕ) (below : i < length (items_in s)) where
