@@ -1,2 +1,3 @@
+pub mod Blocks
 pub mod Filled
 pub mod Spans

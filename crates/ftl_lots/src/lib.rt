@@ -17,6 +17,7 @@ mod table;
 mod words;
 mod work;
 
+pub use filling::{ItemBlocks, LotPhases};
 pub use run::run_lots;
 pub use words::CellWords;
 pub use work::laws;

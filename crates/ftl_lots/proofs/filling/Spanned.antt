@@ -1,15 +1,18 @@
--- Items of a phase that lie in a span.
+-- Items of a phase that lie in a span, and items that are passed over.
 use Rattle.std.proofs.Common.{◌≡◌, ◌≢◌, ◌↔◌, ℕ, ◌+◌, ◌<◌, ◌≤◌, inl, inr, ⊎_elim, List, length, get_or, set, replicate, min, subst, sym, ◌∙◌, arith}
 use Rattle.std.proofs.lemmas.List.{get_or-replicate, length-replicate, get_or-set_same, get_or-set_other, length-set}
+use Rattle.std.proofs.lemmas.Bool.{cases_lt}
 use mathlib.Core.Logic.{dite}
 use native.Mathlib.Decide.{ℕ_discrete}
-use Rattle.ftl_cells.specs.shared.Work.{Meaning, item_total}
+use Rattle.ftl_cells.specs.shared.Work.{Meaning, IsStepOfItem, item_total, step_total}
 use Rattle.ftl_steal.specs.Alone.{IsBefore}
 use Rattle.ftl_cells.specs.work_phases.Phases.{phase_at}
 use Rattle.ftl_cells.specs.declared.work_phases.phase.Phase.{Phase}
 use Rattle.ftl_cells.specs.declared.work_phases.phase.Phase.TheVariants.{Range}
 use Rattle.ftl_cells.specs.declared.work_phases.phase.Phases.{Phases}
+use Rattle.ftl_lots.specs.declared.filling.blocks.ItemBlocks.{ItemBlocks}
 use Rattle.ftl_lots.specs.declared.filling.spans.Span.{Span}
+use Rattle.ftl_lots.specs.filling.Blocks.{AreIdle, IsPassedOver}
 use Rattle.ftl_lots.specs.filling.Filled.{IsFilledIn, IsMade}
 use Rattle.ftl_lots.specs.filling.Spans.{AreSpans, IsSpanOf}
 use Rattle.ftl_lots.proofs.filling.Fills.{made_same}
@@ -24,9 +27,9 @@ made_to t x i j k l step b = ⊎_elim
     ))
     (λ y. inr y) b
 
--- from one item to another, if none of the phase lies between them
+-- from one item to another, if none of the phase with a step lies between them
 moves_to : (m : Meaning) (t : Phases) (x : Phase) (words : List ℕ) (first i j : ℕ)
-    → ((k : ℕ) → k < item_total m → phase_at t k ≡ x → (k < i) ↔ (k < j)) → IsFilledIn m t x words first i 0
+    → ((k l : ℕ) → IsStepOfItem m k l → phase_at t k ≡ x → (k < i) ↔ (k < j)) → IsFilledIn m t x words first i 0
     → IsFilledIn m t x words first j 0
 moves_to m t x words first i j same f = record {
   lawful = f.lawful;
@@ -35,8 +38,8 @@ moves_to m t x words first i j same f = record {
   reads = f.reads;
   made = made_same m (IsMade t x i 0) (IsMade t x j 0) words first
       (λ k l st. (
-        made_to t x j i k l (λ is. (same k st.item is).1),
-        made_to t x i j k l (λ is. (same k st.item is).0),
+        made_to t x j i k l (λ is. (same k l st is).1),
+        made_to t x i j k l (λ is. (same k l st is).0),
       )) f.made;
 }
 
@@ -44,14 +47,32 @@ moves_to m t x words first i j same f = record {
 pub enters : (m : Meaning) (t : Phases) (x : Phase) (words : List ℕ) (first : ℕ) (span : Span)
     → IsSpanOf t (item_total m) x span → IsFilledIn m t x words first 0 0 → IsFilledIn m t x words first span.from 0
 enters m t x words first span s f = moves_to m t x words first 0 span.from
-    (λ k l is. let b = s.each k l is in ((λ z. absurd (omega (arith, z))), (λ z. absurd (omega (arith, z, b.0))))) f
+    (λ k l st is. let b = s.each k st.item is in
+    ((λ z. absurd (omega (arith, z))), (λ z. absurd (omega (arith, z, b.0))))) f
 
 -- and from where it ends
 pub leaves : (m : Meaning) (t : Phases) (x : Phase) (words : List ℕ) (first i : ℕ) (span : Span)
     → IsSpanOf t (item_total m) x span → span.to ≤ i → IsFilledIn m t x words first i 0
     → IsFilledIn m t x words first (item_total m) 0
 leaves m t x words first i span s past f = moves_to m t x words first i (item_total m)
-    (λ k l is. let b = s.each k l is in ((λ z. l), (λ z. omega (arith, b.1, past)))) f
+    (λ k l st is. let b = s.each k st.item is in ((λ z. st.item), (λ z. omega (arith, b.1, past)))) f
+
+-- a step's item isn't passed over
+not_passed : (m : Meaning) (b : ItemBlocks) (k l : ℕ) → AreIdle m b → IsStepOfItem m k l → IsPassedOver b k → ⊥
+not_passed m b k l idle st passed =
+    let none : step_total m k ≡ 0 = idle k st.item passed in
+    omega (arith, none, st.step)
+
+-- from one item on to another, if those between are passed over
+pub goes_over : (m : Meaning) (t : Phases) (x : Phase) (words : List ℕ) (first i j : ℕ) (b : ItemBlocks) → AreIdle m b
+    → i ≤ j → ((k : ℕ) → i ≤ k → k < j → IsPassedOver b k) → IsFilledIn m t x words first i 0
+    → IsFilledIn m t x words first j 0
+goes_over m t x words first i j b idle up passed f = moves_to m t x words first i j
+    (λ k l st is. (
+      (λ z. omega (arith, z, up)),
+      (λ z. ⊎_elim (λ (less : k < i). less)
+          (λ (more : i ≤ k). absurd (not_passed m b k l idle st (passed k more z))) (cases_lt k i)),
+    )) f
 
 -- ---- spans that are found item by item
 

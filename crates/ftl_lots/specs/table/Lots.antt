@@ -6,7 +6,9 @@ use Rattle.atomic_table.specs.Table.{Me}
 use Rattle.ftl_cells.specs.shared.Work.{Meaning, IsLawfulWork, cell_total, item_total}
 use Rattle.ftl_cells.specs.work_phases.Phases.{CanTake}
 use Rattle.ftl_cells.specs.declared.work_phases.phase.Phases.{Phases}
+use Rattle.ftl_lots.specs.declared.filling.blocks.ItemBlocks.{ItemBlocks}
 use Rattle.ftl_lots.specs.declared.filling.spans.Span.{Span}
+use Rattle.ftl_lots.specs.filling.Blocks.{AreIdle}
 use Rattle.ftl_lots.specs.filling.Filled.{HoldMade, IsOfFirst, IsOfFirstOrRanges, range_first}
 use Rattle.ftl_lots.specs.filling.Spans.{AreSpans}
 use Rattle.ftl_lots.specs.words.Parts.{Part}
@@ -65,10 +67,11 @@ Has k is me = (p : Part) × (me.1 ≡ (k, p) ∷ []) × is p
 abbrev pub TakeTold : Wanted → ℕ → ℕ → Known → Type 0
 TakeTold w k n me = (n ≡ 0 → Has k (IsBegun w k) me) × (n ≡ 2 → Has k (IsFilled w k) me)
 
--- each range's items lie in its span
-pub record CanFillLots (m : Meaning) (t : Phases) (spans : List Span) : Type 0 where
+-- each range's items lie in its span, and the items of blocks that are passed over have no step
+pub record CanFillLots (m : Meaning) (t : Phases) (spans : List Span) (blocks : ItemBlocks) : Type 0 where
   pub lawful : IsLawfulWork m
   pub taken : CanTake m t
   pub narrow : cell_total m < 2 ^ 32
   pub count : length spans ≡ t.ranges
   pub spanned : AreSpans t (item_total m) spans
+  pub idle : AreIdle m blocks

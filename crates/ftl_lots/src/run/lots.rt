@@ -1,13 +1,10 @@
 //! The lots of a work, by workers.
 ghost use Rattle.std.specs.Prelude.{◌≡◌, ℕ, ◌^◌, ◌<◌, ◌≤◌, vec_len, IfOk};
-ghost use Rattle.ftl_cells.specs.shared.Work.{IsLawfulWork, cell_total};
-ghost use Rattle.ftl_cells.specs.work_phases.Phases.{CanTake};
-ghost use Rattle.ftl_lots.specs.table.Lots.{AreBegunFrom, AreFilledFrom, lot_total, wanted};
+ghost use Rattle.ftl_lots.specs.table.Lots.{AreBegunFrom, AreFilledFrom, lot_total};
 
-use crate::filling::spans_of;
-use crate::table::{FillLots, LotFiller, Lots};
+use crate::table::{FillLots, Lots};
 use crate::work::LotWork;
-use ftl_cells::{Cells, Phases, Work};
+use ftl_cells::Cells;
 use ftl_edge::Gate;
 use ftl_steal::run_stage;
 use std::alloc::{AllocError, Global};
@@ -15,35 +12,24 @@ use std::sync::Wait;
 use std::thread::Threads;
 
 /// The parts of all lots, each filled by one of so many workers.
-pub(crate) fn filled_parts<R: Threads + Wait + Sync, W: Work, G: Gate>(
+pub(crate) fn filled_parts<R: Threads + Wait + Sync, F: FillLots + Sync, G: Gate>(
     rt: &R,
     alloc: Global,
-    work: &W,
-    phases: &Phases,
+    filler: &F,
     parts: Vec<Vec<u64>>,
     workers: u32,
     gate: &G,
 ) -> Result<Vec<Vec<u64>>, AllocError>
-    requires lawful { IsLawfulWork (W.meaning work.now) }
-    requires phases { CanTake (W.meaning work.now) phases.now }
-    requires count { vec_len parts ≡ phases.now.ranges }
-    requires begun { AreBegunFrom (wanted (W.meaning work.now) phases.now) 0 parts.items }
+    requires count { vec_len parts ≡ lot_total (F.wanted filler.now) }
+    requires begun { AreBegunFrom (F.wanted filler.now) 0 parts.items }
     requires some { 0 < workers }
     requires few { workers ≤ 64 }
-    ensures count { IfOk result (λ v. vec_len v ≡ phases.now.ranges) }
-    ensures filled { IfOk result (λ v. AreFilledFrom (wanted (W.meaning work.now)
-        phases.now) 0 v.items) }
+    ensures count { IfOk result (λ v. vec_len v ≡ lot_total (F.wanted filler.now)) }
+    ensures filled { IfOk result (λ v. AreFilledFrom (F.wanted filler.now) 0 v.items) }
 {
-    let _cells = work.cells();
-    let spans = spans_of(alloc, phases, work.items())?;
-    let filler = LotFiller {
-        work,
-        phases,
-        spans: spans.as_slice(),
-    };
-    let lots = Lots::new(alloc, &filler, parts)?;
-    fill_lots(rt, alloc, &lots, &filler, workers, gate)?;
-    taken_parts(rt, alloc, &lots, phases.ranges)
+    let lots = Lots::new(alloc, filler, parts)?;
+    fill_lots(rt, alloc, &lots, filler, workers, gate)?;
+    taken_parts(rt, alloc, &lots, filler.lot_count())
 }
 
 /// Opens a stage whose items are the lots, runs it by so many workers, and closes it.

@@ -3,14 +3,16 @@ ghost use Rattle.std.specs.Prelude.{◌≡◌, ◌<◌, ◌≤◌, length, vec_c
 ghost use Rattle.ftl_cells.specs.shared.State.{AreFirst, AreLast};
 ghost use Rattle.ftl_cells.specs.shared.Work.{item_total};
 ghost use Rattle.ftl_cells.specs.work_phases.Phases.{CanTake};
+ghost use Rattle.ftl_lots.specs.filling.Blocks.{AreIdle};
 ghost use Rattle.ftl_lots.specs.filling.Filled.{IsFilledIn};
 ghost use Rattle.ftl_lots.specs.words.Parts.{IsCut, all_words};
 
-use crate::filling::{Span, fill_phase};
+use crate::filling::{ItemBlocks, LotPhases, Span, fill_phase};
 use crate::run::lots::filled_parts;
+use crate::table::LotFiller;
 use crate::words::{CellWords, Parts};
 use ftl_base::{CodeStack, Val};
-use ftl_cells::{Phase, Phases, Work};
+use ftl_cells::{Phase, Work};
 use ftl_edge::Gate;
 use std::alloc::{AllocError, Global};
 use std::sync::Wait;
@@ -18,51 +20,59 @@ use std::thread::Threads;
 
 /// Fills the cells of a work, phase by phase: the items of the first phase by the calling thread,
 /// then each range as a lot by one of so many workers, which calls the gate before it, and the
-/// items of the last phase by the calling thread again. The words are cut into the parts of the
-/// lots, unless they lie so already, and stay in them.
+/// items of the last phase by the calling thread again. Items of blocks that are passed over are
+/// not looked at. The words are cut into the parts of the lots, unless they lie so already, and stay
+/// in them.
 pub fn run_lots<R: Threads + Wait + Sync, W: Work, G: Gate>(
     rt: &R,
     alloc: Global,
     work: &W,
-    phases: &Phases,
+    phases: &LotPhases,
+    blocks: ItemBlocks<'_>,
     words: CellWords,
     workers: u32,
     gate: &G,
 ) -> Result<CellWords, AllocError>
     requires first { AreFirst (W.meaning work.now) words }
     requires phases { CanTake (W.meaning work.now) phases.now }
+    requires idle { AreIdle (W.meaning work.now) blocks }
     requires some { 0 < workers }
     requires few { workers ≤ 64 }
     ensures last { IfOk result (AreLast (W.meaning work.now)) }
 {
     let (_items, _cells) = (work.items(), work.cells());
+    let filler = LotFiller {
+        work,
+        phases: &phases.phases,
+        spans: phases.spans.as_slice(),
+        blocks,
+    };
     let mut reads = Vec::with_capacity(alloc, work.max_reads() as usize)?;
     let mut stack = CodeStack::new(alloc, work.max_stack())?;
-    let (size, lots) = (phases.size, phases.ranges);
+    let (size, lots) = (phases.phases.size, phases.phases.ranges);
     let (mut all, row) = words.into_parts(rt, alloc, size, lots)?;
-    fill_alone(work, phases, Phase::First, &mut all, &mut reads, &mut stack);
-    let parts = filled_parts(rt, alloc, work, phases, all.parts, workers, gate)?;
+    fill_alone(&filler, Phase::First, &mut all, &mut reads, &mut stack);
+    let parts = filled_parts(rt, alloc, &filler, all.parts, workers, gate)?;
     let mut all = Parts { size, parts };
-    fill_alone(work, phases, Phase::Last, &mut all, &mut reads, &mut stack);
+    fill_alone(&filler, Phase::Last, &mut all, &mut reads, &mut stack);
     Ok(CellWords::in_parts(all, row))
 }
 
 /// Fills the items of the first or the last phase by the calling thread.
 fn fill_alone<W: Work>(
-    work: &W,
-    phases: &Phases,
+    filler: &LotFiller<'_, W>,
     phase: Phase,
     words: &mut Parts,
     reads: &mut Vec<Val>,
     stack: &mut CodeStack,
 )
-    requires filled { IsFilledIn (W.meaning work.now) phases.now phase
+    requires filled { IsFilledIn filler.now.of filler.now.phases phase
         (all_words words.old.parts.items) 0 0 0 }
     requires cut { IsCut words.old.size words.old.parts.items }
-    requires reads { (W.meaning work.now).max_reads ≤ vec_capacity reads.old }
-    requires room { (W.meaning work.now).max_stack ≤ stack.old.room }
-    ensures filled { IsFilledIn (W.meaning work.now) phases.now phase
-        (all_words words.new.parts.items) 0 (item_total (W.meaning work.now)) 0 }
+    requires reads { filler.now.of.max_reads ≤ vec_capacity reads.old }
+    requires room { filler.now.of.max_stack ≤ stack.old.room }
+    ensures filled { IsFilledIn filler.now.of filler.now.phases phase
+        (all_words words.new.parts.items) 0 (item_total filler.now.of) 0 }
     ensures count { length (all_words words.new.parts.items)
         ≡ length (all_words words.old.parts.items) }
     ensures cut { IsCut words.new.size words.new.parts.items }
@@ -73,7 +83,17 @@ fn fill_alone<W: Work>(
 {
     let all = Span {
         from: 0,
-        to: work.items(),
+        to: filler.work.items(),
     };
-    fill_phase(work, phases, phase, all, 0, words, reads, stack);
+    fill_phase(
+        filler.work,
+        filler.phases,
+        phase,
+        all,
+        filler.blocks,
+        0,
+        words,
+        reads,
+        stack,
+    );
 }

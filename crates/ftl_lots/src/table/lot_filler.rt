@@ -1,5 +1,5 @@
 //! The part of a lot, filled.
-use crate::filling::{RunItems, Span, fill_phase};
+use crate::filling::{ItemBlocks, RunItems, Span, fill_phase};
 use crate::table::fill_lots::FillLots;
 use ftl_base::{CodeStack, Val};
 use ftl_cells::{Phase, Phases};
@@ -11,6 +11,7 @@ pub(crate) struct LotFiller<'a, W: RunItems> {
     pub(crate) work: &'a W,
     pub(crate) phases: &'a Phases,
     pub(crate) spans: &'a [Span],
+    pub(crate) blocks: ItemBlocks<'a>,
 }
 
 impl<'a, W: RunItems> Model for LotFiller<'a, W> {
@@ -20,7 +21,8 @@ impl<'a, W: RunItems> Model for LotFiller<'a, W> {
 
     ghost view = { λ f. wanted (W.meaning f.work.now) f.phases.now };
 
-    ghost invariant = { λ f. CanFillLots (W.meaning f.work.now) f.phases.now f.spans.now };
+    ghost invariant = { λ f. CanFillLots (W.meaning f.work.now) f.phases.now f.spans.now
+        f.blocks };
 }
 
 impl<'a, W: RunItems> FillLots for LotFiller<'a, W> {
@@ -54,6 +56,7 @@ impl<'a, W: RunItems> FillLots for LotFiller<'a, W> {
             self.phases,
             Phase::Range(lot),
             self.spans[lot as usize],
+            self.blocks,
             first,
             part,
             reads,

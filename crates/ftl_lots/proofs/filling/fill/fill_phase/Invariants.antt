@@ -1,4 +1,4 @@
-use Rattle.std.proofs.Common.{◌≡◌, ◌≤◌, length, vec_capacity}
+use Rattle.std.proofs.Common.{◌≡◌, ◌-◌, ◌≤◌, length, vec_capacity}
 use Rattle.ftl_lots.specs.filling.Filled.{IsFilledIn}
 use Rattle.ftl_lots.proofs.filling.fill.fill_phase.Given as goal
 
@@ -12,3 +12,6 @@ invariant-loop-item g l = record {
   reads : vec_capacity l.fn.reads ≤ vec_capacity l.reads;
   room : l.stack.room ≡ l.fn.stack.room;
 }
+
+abbrev pub decreases-loop-item : goal.decreases-loop-item
+decreases-loop-item g l = l.span.to - l.item
