@@ -49,7 +49,7 @@ module _ (s : StageItems) (i : ℕ) (below : i < length (items_in s)) where
         here.there).0
 
     -- the item of this number
-    pub found : FoundItem
+    abbrev pub found : FoundItem
     found =
         record {
           pass = this.pass;

@@ -1,6 +1,7 @@
 -- What is kept of the items of a stage, by the kinds and the host classes of its passes.
 use Rattle.std.proofs.Common.{◌≡◌, ℕ, ap, sym, ◌∙◌, subst, List, Option, length}
 use Rattle.ftl_deps.specs.reads.Meant.{meant}
+use Rattle.ftl_cells.specs.work_phases.Phases.{CanTake}
 use Rattle.ftl_cells.specs.declared.work_phases.phase.Phases.{Phases}
 use Rattle.ftl_cursors.specs.items.ItemClasses.{AreItemClasses, HaveItemClasses}
 use Rattle.ftl_cursors.specs.items.StageItems.{cuts_in, hosts_in, passes_in}
@@ -9,7 +10,7 @@ use Rattle.ftl_items.specs.stage_items.Cut.{PassCut}
 use Rattle.ftl_order.specs.orders.Schedule as order
 use Rattle.ftl_plan.specs.phases.StagePhases.{CanBeTaken, FitItems, kinds_in}
 use Rattle.ftl_plan.specs.plans.KindPhases.{HaveClasses, cut_by, hosts_at, kinds_at}
-use Rattle.ftl_plan.specs.plans.StageParts.{IsStage, StageView, grain_of, grammar_of, schedule_of, tree_of, view_of}
+use Rattle.ftl_plan.specs.plans.StageParts.{IsStage, StageView, grain_of, grammar_of, meaning_of, schedule_of, tree_of, view_of}
 use Rattle.ftl_plan.specs.declared.plans.parts.StageParts.{StageParts}
 use Rattle.ftl_plan.proofs.plans.KeptKinds.{count_tells, cuts_tell, kinds_of_stage}
 
@@ -34,6 +35,10 @@ module _ (w : StageParts) (fit : IsStage w) where
       cuts_tell (tree_of w) (grain_of w) (passes_in items) (hosts_in items)
       ∙ ap (λ (ks : List order.PassKind). cut_by (tree_of w) (grain_of w) ks (hosts_in items)) kinds_are
       ∙ ap (λ (hs : List (Option ℕ)). cut_by (tree_of w) (grain_of w) (kinds_at u) hs) hosts_are
+
+  -- the stage can take the phases of its items
+  pub takes : (t : Phases) → FitItems items t → CanTake (meaning_of w) t
+  takes t fits = fits (schedule_of w) w.stage w.programs.now.max_stack fit.can (sym kinds_are) (sym hosts_are)
 
   module _ (v : StageView) (same : view_of w ≡ v) where
     -- the phases of the items are those of all stages with such passes

@@ -1,5 +1,7 @@
-use Rattle.std.proofs.Common.{ap, ◌∙◌}
-use Rattle.ftl_plan.specs.plans.KindPhases.{hosts_at, kinds_at}
+use Rattle.std.proofs.Common.{ap, ◌∙◌, subst, Option}
+use Rattle.std.specs.Prelude.{IfSome}
+use Rattle.ftl_plan.specs.declared.plans.phases.ItemPhases.{ItemPhases}
+use Rattle.ftl_plan.specs.plans.KindPhases.{FitLots, hosts_at, kinds_at}
 use Rattle.ftl_plan.specs.plans.StageParts.{schedule_of}
 use Rattle.ftl_plan.proofs.plans.KeptKinds.{fits_kinds, kinds_are, kinds_of_stage}
 use Rattle.ftl_plan.proofs.plans.work.StageWork.made_phases.Goals as goal
@@ -25,8 +27,10 @@ returns-clause-fit c =
     ∙ kinds_of_stage w.item_tables (schedule_of w) w.stage c.self.invariant.passes
     ∙ ap kinds_at c.self.view_is in
     let hosts = c.in_ok-hosts.ensures.hosts ∙ c.self.invariant.passes.hosts ∙ ap hosts_at c.self.view_is in
-    fits_kinds c.args.self.now (record {
+    let v = c.args.self.now in
+    fits_kinds v (record {
       kinds = c.in_ok-kinds.kinds;
       hosts = c.in_ok-hosts.hosts;
       lots = c.in_ok-lots.lots;
-    }) kinds hosts (λ l is. search rules)
+    }) kinds hosts (λ l is.
+    subst (λ (o : Option ItemPhases). IfSome o (FitLots v (kinds_at v) (hosts_at v))) is c.in_ok-lots.ensures.fit)
