@@ -18,7 +18,7 @@ use std::sync::Wait;
 use std::thread::Threads;
 
 /// The words of the solution, one for each cell. A stage is run by so many workers, or by fewer
-/// where it has fewer items. One worker is the calling thread, also of a stage of one item, as an
+/// where it has fewer items, or fewer blocks of items with steps. One worker is the calling thread, also of a stage of one item, as an
 /// inorder pass is: it starts no other, shares no cells and calls no gate.
 pub fn solve<R: Threads + Wait + Sync, G: Gate>(
     rt: &R,
@@ -46,7 +46,8 @@ pub fn solve<R: Threads + Wait + Sync, G: Gate>(
             let place = work.phases(alloc, count, &mut kept)?;
             let lots = &kept[place].lots;
             let blocks = work.blocks(lots);
-            words = words_after(rt, alloc, work, lots, blocks, words, workers, gate)?;
+            let fewer = worker_count(blocks, workers);
+            words = words_after(rt, alloc, work, lots, blocks, words, fewer, gate)?;
         }
     }
     let (row, _parts) = words.into_row(rt);
@@ -70,6 +71,28 @@ fn lot_count(nodes: u32, cells: u32, workers: u32) -> u32
 {
     let most = (nodes / FEWEST_NODES).min(cells / FEWEST_CELLS);
     (LOTS_EACH * workers).min(most).max(2)
+}
+
+/// By how many workers to run a stage: by so many, or by fewer where fewer blocks of its items have
+/// steps.
+fn worker_count(blocks: ItemBlocks<'_>, workers: u32) -> u32
+    requires some { 0 < workers }
+    ensures some { 0 < result }
+    ensures few { result ≤ workers }
+{
+    if blocks.sets.is_empty() {
+        return workers;
+    }
+    let mut busy = 0;
+    for set in blocks.sets {
+        if *set & blocks.wanted != 0 {
+            busy += 1;
+        }
+        if busy == workers {
+            return workers;
+        }
+    }
+    busy.max(1)
 }
 
 /// The words after a work, from those that fit it. An item by itself is computed by the calling

@@ -1,5 +1,5 @@
 use denote.Param.Send.{sendable}
-use Rattle.std.proofs.Common.{◌≡◌, ℕ, ◌+◌, ◌<◌, ap, false, true, List, get_or, length, refl, sym, subst, ◌∙◌, arith, Some}
+use Rattle.std.proofs.Common.{◌≡◌, ℕ, ◌+◌, ◌<◌, ◌≤◌, ap, false, true, List, get_or, length, refl, sym, subst, ◌∙◌, arith, Some}
 use Rattle.std.proofs.lemmas.List.{get_or_default}
 use Rattle.std.specs.List.{All}
 use Rattle.std.proofs.lemmas.List.Elements.{All-nil}
@@ -13,6 +13,7 @@ use Rattle.ftl_items.specs.stage_items.WordLaws.{HoldTheSolution}
 use Rattle.ftl_plan.specs.declared.plans.phases.ItemPhases.{ItemPhases}
 use Rattle.ftl_plan.specs.declared.plans.phases.KindPhases.{KindPhases}
 use Rattle.ftl_plan.specs.plans.KindPhases.{AreForStage, AreForStageAt, FitKinds}
+use Rattle.ftl_plan.specs.plans.Planned.{PlanMeaning}
 use Rattle.ftl_plan.specs.plans.StageParts.{StageView, meaning_at}
 use Rattle.ftl_plan.specs.plans.StageTables.{stage_in}
 use Rattle.ftl_plan.specs.plans.StageWords.{FitStage}
@@ -33,6 +34,12 @@ phases-requires-clause-kept g c =
     subst (λ (v : StageView). All (FitKinds v) c.loop-stage.kept.items) (sym c.stage-work.ensures.stage)
     c.loop-stage.invariant.1
 
+-- what is kept fits each stage of the tree
+next_stage : (p : PlanMeaning) (stage : ℕ) (kept : List KindPhases) → All (FitKinds (stage_in p stage)) kept
+    → All (FitKinds (stage_in p (stage + 1))) kept
+next_stage p stage kept all k d below l is =
+    let fit = all k d below l is in record { taken = fit.taken; classes = fit.classes }
+
 -- the entry at the place is for the stage
 for_stage : (kept : List KindPhases) (place : ℕ) (entry : KindPhases) (v : StageView) → place < length kept
     → entry ≡ get_or kept place entry → AreForStageAt v kept place
@@ -50,11 +57,12 @@ words_after-requires g c κs =
     let takes : (l : ItemPhases) → entry.lots ≡ Some l → CanTake (meaning_at c.stage-work.result) l.phases =
     λ l is. (for_stage kept c.in_ok-place.place entry c.stage-work.result c.in_ok-place.ensures.place
     c.index-then-index.ensures c.in_ok-place.ensures.phases l is).taken in
+    let few : c.worker_count-fewer.result ≤ 64 = omega (arith, c.worker_count-fewer.ensures.few, c.requires.few) in
     let idle : AreIdle (meaning_at c.stage-work.result) c.blocks-blocks.result = c.blocks-blocks.ensures.idle in (
       search sendable depth 30,
       (
         search (stage_work_sync, sendable) depth 30,
-        (search sendable depth 30, (first, (takes, (idle, (c.requires.some, c.requires.few))))),
+        (search sendable depth 30, (first, (takes, (idle, (c.worker_count-fewer.ensures.some, few))))),
       ),
     )
 
@@ -79,7 +87,8 @@ loop-stage-preserved g c =
                 (subst (λ (v : StageView). AreLast (meaning_at v) words) w.stage-work.ensures.stage
                 w.in_ok-words.ensures.last)),
             subst (λ ks. All (FitKinds (stage_in p (stage + 1))) ks) (sym (ap (λ v. v.items) w.kept-is))
-                (subst (λ (v : StageView). All (FitKinds v) kept) w.stage-work.ensures.stage w.in_ok-place.ensures.kept),
+                (next_stage p stage kept
+                (subst (λ (v : StageView). All (FitKinds v) kept) w.stage-work.ensures.stage w.in_ok-place.ensures.kept)),
           )
       | else-index w ↦
           let marks = c.in_ok-filling.filling.items in
@@ -94,7 +103,7 @@ loop-stage-preserved g c =
             subst (λ ws. FitStage p (stage + 1) ws) (sym w.words-is)
                 (c.words_fit.ensures.next stage words (told.others stage none words c.loop-stage.invariant.0.first)),
             subst (λ ks. All (FitKinds (stage_in p (stage + 1))) ks) (sym (ap (λ v. v.items) w.kept-is))
-                c.loop-stage.invariant.1,
+                (next_stage p stage c.loop-stage.kept.items c.loop-stage.invariant.1),
           )
     ]
 
